@@ -1,0 +1,111 @@
+-- The laws of instants and of the conditions that other crates go by; none of them opens a definition of `specs/` itself.
+-- No law depends on whether a length test includes its limit, so that a change of it moves none of them.
+use Prim.Native.Nat.{ℕ, _+_, _<_, _≤_}
+use native.Mathlib.Omega.{arith}
+use mathlib.Core.Path.{_≡_, refl, sym, _∙_}
+use mathlib.Core.Logic.{_⊎_, inl, inr}
+use mathlib.Core.Bool.{Bool, true, false, _&&_}
+use lib.IntN.{ℤ}
+use lib.Signed.{ltZ, leZ}
+use Rattle.interval.specs.Instants.{eqZ, least, greatest}
+use Rattle.interval.specs.Conditions.{isRelated, isForbidding}
+use Rattle.interval.specs.declared.Relation.{Relation}
+use Rattle.interval.specs.declared.Relation.the-variants.{Seq, And, Meets, Overlaps, Starts, During, Finishes, Equals}
+use Rattle.interval.specs.declared.Edges.{Edges}
+use Rattle.interval.specs.declared.Edges.the-variants.{ClosedClosed, OpenOpen, ClosedOpen, OpenClosed}
+use Rattle.interval.proofs.Signed.{_≤ᶻ_, _<ᶻ_, posPart, negPart, signed, and-first, and-second, antisym, least-is, greatest-is, lt-true, le-true, eq-true, eq-told, eq-fact}
+
+-- the order of instants
+pub lt-irrefl : (a : ℤ) → ltZ a a ≡ true → ⊥
+lt-irrefl a p = omega (arith, signed)
+
+pub lt-trans : (a b c : ℤ) → ltZ a b ≡ true → ltZ b c ≡ true → ltZ a c ≡ true
+lt-trans a b c p q = omega (arith, signed)
+
+pub le-trans : (a b c : ℤ) → leZ a b ≡ true → leZ b c ≡ true → leZ a c ≡ true
+le-trans a b c p q = omega (arith, signed)
+
+pub lt-total : (a b : ℤ) → ltZ a b ≡ false → ltZ b a ≡ false → a ≡ b
+lt-total a b p q = antisym a b (omega (arith, signed)) (omega (arith, signed))
+
+-- the whole of two intervals starts no later than it ends
+pub start-le-end : (rs re ss se : ℤ) → rs ≤ᶻ re → ss ≤ᶻ se → least rs ss ≤ᶻ greatest re se
+start-le-end rs re ss se p q = omega (arith, least-is rs ss, greatest-is re se)
+
+-- which operand must end where the whole ends: s for seq, meets, overlaps, starts and during; both for finishes and equals; either for and
+pub data Ending : Type 0 where
+  second both either : Ending
+
+abbrev pub endingOf : Relation → Ending
+endingOf Seq = second
+endingOf And = either
+endingOf Meets = second
+endingOf Overlaps = second
+endingOf Starts = second
+endingOf During = second
+endingOf Finishes = both
+endingOf Equals = both
+
+abbrev pub Ends : Ending → ℤ → ℤ → ℤ → Type 0
+Ends second re se e = se ≡ e
+Ends both re se e = (re ≡ e) × (se ≡ e)
+Ends either re se e = (re ≡ e) ⊎ (se ≡ e)
+
+greatest-at : (a b : ℤ) (t : Bool) → leZ a b ≡ t → a ≤ᶻ b → greatest a b ≡ b
+greatest-at a b true e h = rw e
+greatest-at a b false e h = absurd (omega (arith, signed))
+
+-- the later of two ends
+pub greatest-later : (a b : ℤ) → a ≤ᶻ b → greatest a b ≡ b
+greatest-later a b h = greatest-at a b (leZ a b) refl h
+
+either-at : (a b : ℤ) (t : Bool) → leZ a b ≡ t → (a ≡ greatest a b) ⊎ (b ≡ greatest a b)
+either-at a b true e = inr (rw e)
+either-at a b false e = inl (rw e)
+
+ends-second : (re se : ℤ) → re ≤ᶻ se → se ≡ greatest re se
+ends-second re se h = sym (greatest-later re se h)
+
+ends-both : (re se : ℤ) → re ≡ se → (re ≡ greatest re se) × (se ≡ greatest re se)
+ends-both re se e =
+    let g : greatest re se ≡ se = greatest-later re se (omega (arith, eq-fact e)) in
+    (e ∙ sym g, sym g)
+
+pub related-ends : (c : Relation) (rs re ss se : ℤ) → rs ≤ᶻ re → ss ≤ᶻ se → isRelated c rs re ss se ≡ true → Ends (endingOf c) re se (greatest re se)
+unfolding isRelated
+related-ends Seq rs re ss se p q h = ends-second re se (omega (arith, lt-true re ss h))
+related-ends And rs re ss se p q h = either-at re se (leZ re se) refl
+related-ends Meets rs re ss se p q h = ends-second re se (omega (arith, eq-told re ss h))
+related-ends Overlaps rs re ss se p q h =
+    ends-second re se (omega (arith, lt-true re se (and-second (ltZ ss re) (ltZ re se) (and-second (ltZ rs ss) (ltZ ss re && ltZ re se) h))))
+related-ends Starts rs re ss se p q h = ends-second re se (omega (arith, lt-true re se (and-second (eqZ rs ss) (ltZ re se) h)))
+related-ends During rs re ss se p q h = ends-second re se (omega (arith, lt-true re se (and-second (ltZ ss rs) (ltZ re se) h)))
+related-ends Finishes rs re ss se p q h = ends-both re se (eq-true re se (and-second (ltZ ss rs) (eqZ re se) h))
+related-ends Equals rs re ss se p q h = ends-both re se (eq-true re se (and-second (eqZ rs ss) (eqZ re se) h))
+
+-- a forbidding s starts no earlier and ends no later than r
+pub record Inside (rs re ss se : ℤ) : Type 0 where
+  pub start : rs ≤ᶻ ss
+  pub end : se ≤ᶻ re
+
+-- the two edges, each strict or not
+abbrev edge : Bool → ℤ → ℤ → Bool
+edge true a b = ltZ a b
+edge false a b = leZ a b
+
+edge-le : (strict : Bool) (a b : ℤ) → edge strict a b ≡ true → a ≤ᶻ b
+edge-le true a b h = omega (arith, lt-true a b h)
+edge-le false a b h = le-true a b h
+
+edges-inside : (p q : Bool) (rs re ss se : ℤ) → (edge p rs ss && edge q se re) ≡ true → Inside rs re ss se
+edges-inside p q rs re ss se h = record {
+      start = edge-le p rs ss (and-first (edge p rs ss) (edge q se re) h);
+      end = edge-le q se re (and-second (edge p rs ss) (edge q se re) h);
+    }
+
+pub forbidding-inside : (e : Edges) (rs re ss se : ℤ) → isForbidding e rs re ss se ≡ true → Inside rs re ss se
+unfolding isForbidding
+forbidding-inside ClosedClosed rs re ss se h = edges-inside false false rs re ss se h
+forbidding-inside OpenOpen rs re ss se h = edges-inside true true rs re ss se h
+forbidding-inside ClosedOpen rs re ss se h = edges-inside false true rs re ss se h
+forbidding-inside OpenClosed rs re ss se h = edges-inside true false rs re ss se h

@@ -1,0 +1,39 @@
+-- The conditions of document 01's operator table, a line for each operator. rs and re are the start and end of r, ss and se those of s.
+use Prim.Native.Nat.{ℕ}
+use mathlib.Core.Bool.{Bool, true, _&&_}
+use lib.IntN.{ℤ, pos, _-ℤ_}
+use lib.Signed.{ltZ, leZ}
+use Rattle.interval.specs.Instants.{eqZ}
+use Rattle.interval.specs.declared.Relation.{Relation}
+use Rattle.interval.specs.declared.Relation.the-variants.{Seq, And, Meets, Overlaps, Starts, During, Finishes, Equals}
+use Rattle.interval.specs.declared.Edges.{Edges}
+use Rattle.interval.specs.declared.Edges.the-variants.{ClosedClosed, OpenOpen, ClosedOpen, OpenClosed}
+use Rattle.interval.specs.declared.LengthTest.{LengthTest}
+use Rattle.interval.specs.declared.LengthTest.the-variants.{Lasts, AtMost, AtLeast}
+
+-- seq: end r < start s; and: each pair; meets: end r = start s; overlaps: start r < start s < end r < end s;
+-- starts: starts equal, end r < end s; during: start r > start s, end r < end s; finishes: start r > start s, ends equal;
+-- equals: starts equal, ends equal
+unfoldable pub isRelated : Relation → ℤ → ℤ → ℤ → ℤ → Bool
+isRelated Seq rs re ss se = ltZ re ss
+isRelated And rs re ss se = true
+isRelated Meets rs re ss se = eqZ re ss
+isRelated Overlaps rs re ss se = ltZ rs ss && (ltZ ss re && ltZ re se)
+isRelated Starts rs re ss se = eqZ rs ss && ltZ re se
+isRelated During rs re ss se = ltZ ss rs && ltZ re se
+isRelated Finishes rs re ss se = ltZ ss rs && eqZ re se
+isRelated Equals rs re ss se = eqZ rs ss && eqZ re se
+
+-- "s forbids r when start r <= start s (early `[`) or start r < start s (early `]`), and end s <= end r (late `]`) or end s < end r (late `[`)."
+-- The edges are, in this order, -[] -][ -[[ -]]
+unfoldable pub isForbidding : Edges → ℤ → ℤ → ℤ → ℤ → Bool
+isForbidding ClosedClosed rs re ss se = leZ rs ss && leZ se re
+isForbidding OpenOpen rs re ss se = ltZ rs ss && ltZ se re
+isForbidding ClosedOpen rs re ss se = leZ rs ss && ltZ se re
+isForbidding OpenClosed rs re ss se = ltZ rs ss && leZ se re
+
+-- lasts: end r - start r = d; atmost: end r - start r < d; atleast: end r - start r > d
+unfoldable pub hasLength : LengthTest → ℕ → ℤ → ℤ → Bool
+hasLength Lasts d rs re = eqZ (re -ℤ rs) (pos d)
+hasLength AtMost d rs re = ltZ (re -ℤ rs) (pos d)
+hasLength AtLeast d rs re = ltZ (pos d) (re -ℤ rs)

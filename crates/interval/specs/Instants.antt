@@ -1,0 +1,28 @@
+-- Instants, lengths, the least start and the greatest end. Document 01, "Instants, events, rows".
+use Prim.Native.Nat.{ℕ}
+use mathlib.Core.Bool.{Bool, false, cond, _&&_}
+use lib.Dec.{eqb, leb}
+use lib.IntN.{ℤ, pos, negsuc}
+use lib.Signed.{leZ}
+
+-- "An instant is a signed whole number from -1,000,000,000 to 1,000,000,000."
+unfoldable pub isInstant : ℤ → Bool
+isInstant z = leZ (negsuc 999999999) z && leZ z (pos 1000000000)
+
+-- "A length is 0 to 2,000,000,000."
+unfoldable pub isLength : ℕ → Bool
+isLength d = leb d 2000000000
+
+-- two whole numbers are equal
+abbrev pub eqZ : ℤ → ℤ → Bool
+eqZ (pos a) (pos b) = eqb a b
+eqZ (pos a) (negsuc b) = false
+eqZ (negsuc a) (pos b) = false
+eqZ (negsuc a) (negsuc b) = eqb a b
+
+-- "Start and end are the least start and the greatest end of the rows referred to."
+abbrev pub least : ℤ → ℤ → ℤ
+least a b = cond (leZ a b) a b
+
+abbrev pub greatest : ℤ → ℤ → ℤ
+greatest a b = cond (leZ a b) b a

@@ -99,9 +99,9 @@ edge-le false a b h = le-true a b h
 
 edges-inside : (p q : Bool) (rs re ss se : ℤ) → (edge p rs ss && edge q se re) ≡ true → Inside rs re ss se
 edges-inside p q rs re ss se h = record {
-      start = edge-le p rs ss (and-first (edge p rs ss) (edge q se re) h);
-      end = edge-le q se re (and-second (edge p rs ss) (edge q se re) h);
-    }
+  start = edge-le p rs ss (and-first (edge p rs ss) (edge q se re) h);
+  end = edge-le q se re (and-second (edge p rs ss) (edge q se re) h);
+}
 
 pub forbidding-inside : (e : Edges) (rs re ss se : ℤ) → isForbidding e rs re ss se ≡ true → Inside rs re ss se
 unfolding isForbidding

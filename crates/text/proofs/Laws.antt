@@ -1,13 +1,14 @@
 -- Laws of lines and fields: the first byte 10 or tab cuts off the first line or field. Upper crates go by these and open no definition.
-use Prim.Native.Nat.{ℕ, zero, suc, _+_, _≤_, _<_, min}
+use Prim.Native.Nat.{ℕ, zero, suc, _+_, _-_, _≤_, _<_, min}
 use native.Mathlib.Omega.{arith}
+use native.Mathlib.Nat.{le-of-eq}
 use native.Mathlib.Numerals.{add-one}
 use mathlib.Core.Path.{_≡_, refl, sym, ap, _∙_}
 use mathlib.Core.Bool.{Bool, true, false, cond, _&&_}
 use mathlib.Core.List.{List, [], _∷_}
 use borrow.Author.Tests.{eq-eqb, ne-eqb, le-ltb, ltb-true, ltb-false}
 use lib.Dec.{eqb, ltb}
-use lib.ListN.{length, take, drop, getD, drop-of-length-le, length-take}
+use lib.ListN.{length, take, drop, getD, drop-of-length-le, length-take, length-drop}
 use lib.Seq.{drop-cons, take-all, length-take-le}
 use Rattle.text.specs.Text.{indexOf, split, inFront, Line, whole, broken, ended, lines, isRecord}
 
@@ -79,7 +80,7 @@ module _ (x : ℕ) where
       go false f e = rw (f (omega arith))
 
   -- there is always a first part
-  split-some : (s : List ℕ) → (p : List ℕ) × (ps : List (List ℕ)) × (split x s ≡ p ∷ ps)
+  pub split-some : (s : List ℕ) → (p : List ℕ) × (ps : List (List ℕ)) × (split x s ≡ p ∷ ps)
   unfolding split
   split-some [] = ([], [], refl)
   split-some (b ∷ s) = go (eqb b x) (split-some s)
@@ -115,11 +116,17 @@ first-broken (b ∷ s) h e = go (ltb m (suc (length s))) refl
   where
     m : ℕ
     m = indexOf 10 (b ∷ s)
+
     past : min 64 (suc (length s)) ≤ m
     past = rw (← length-take 64 (b ∷ s)) (index-past 10 64 (b ∷ s) e)
+
     go : (t : Bool) → ltb m (suc (length s)) ≡ t → (l : Line) × (ls : List Line) × (lines (b ∷ s) ≡ l ∷ ls) × (isRecord l ≡ false)
     go true p =
         let q : m < suc (length s) = ltb-true m (suc (length s)) p in
         let w : length (take m (b ∷ s)) ≡ m = length-take-le m (b ∷ s) (omega arith) in
         (whole (take m (b ∷ s)), lines (drop (suc m) (b ∷ s)), lines-cut (b ∷ s) q, rw (w, le-ltb m 64 (omega (arith, past))))
     go false p = (broken (b ∷ s), [], lines-last b s (omega (arith, ltb-false m (suc (length s)) p, index-le 10 (b ∷ s))), refl)
+
+-- the part of a slice from k on, as code lends it
+pub part-from : (k : ℕ) (s : List ℕ) → take (length s - k) (drop k s) ≡ drop k s
+part-from k s = take-all (length s - k) (drop k s) (le-of-eq (length-drop k s))

@@ -6,12 +6,12 @@ use Rattle.interval.proofs.least_start.Tie as tie
 returns : tie.Need-returns
 returns c =
     let f = c .before .fits in
-    simp (same32 _ (f .a), same32 _ (f .b), simp (same32 _ (f .a), same32 _ (f .b)) at (c .if1 .taken))
+    simp (same32 _ (f .a), simp (same32 _ (f .a), same32 _ (f .b)) at (c .if1 .taken))
 
 returns-2 : tie.Need-returns-2
 returns-2 c =
     let f = c .before .fits in
-    simp (same32 _ (f .a), same32 _ (f .b), simp (same32 _ (f .a), same32 _ (f .b)) at (c .if1 .left))
+    simp (same32 _ (f .b), simp (same32 _ (f .a), same32 _ (f .b)) at (c .if1 .left))
 
 pub least-start-spec : {M : Type 1} → statement M
 least-start-spec = tie.close (tie.spec returns returns-2)

@@ -1,0 +1,145 @@
+-- The reader's loop, line by line, and the check behind refusal 14.
+use Prim.Native.Nat.{ℕ, zero, suc, _+_, _-_, _≤_, _<_}
+use native.Mathlib.Omega.{arith}
+use native.Mathlib.Numerals.{add-one}
+use mathlib.Core.Path.{_≡_, refl, sym, ap, _∙_}
+use mathlib.Core.Bool.{Bool, true, false, cond, _&&_}
+use mathlib.Core.List.{List, [], _∷_}
+use borrow.Author.Tests.{eq-eqb, ne-eqb, eqb-true, ltb-true, ltb-false, lt-ltb, le-leb, lt-leb}
+use lib.Dec.{eqb, ltb}
+use lib.ListN.{length, take, drop, length-take}
+use lib.Seq.{length-take-le}
+use Rattle.text.specs.Text.{Line, lines, indexOf, whole, isRecord, fields}
+use Rattle.text.proofs.Laws.{first-whole, first-broken, index-le, lines-none}
+use Rattle.chart.specs.Records.{answerTo, lineSize, lineAnswer, refusedLine, checkedLine, parsedLine}
+use Rattle.chart.specs.Charts.{readLines, readChart, orNoLine, noEntries, withEntry, refusedChart, isUsable, allBelow, entryFits, entryAt}
+use Rattle.chart.specs.declared.Chart.{Chart}
+use Rattle.chart.proofs.Below.{not-all}
+use Rattle.chart.proofs.Records.{size-found, size-none}
+
+-- the first line of a text as the code finds it
+pub record First (n : ℕ) (s : List ℕ) : Type 0 where
+  pub line : Line
+  pub rest : List Line
+  pub cut : lines s ≡ line ∷ rest
+  pub answer : answerTo n line ≡ lineAnswer n (lineSize s) s
+  pub next : (lineAnswer n (lineSize s) s) .refusal ≡ 0 → rest ≡ lines (drop (lineSize s) s)
+
+first-found : (n : ℕ) (s : List ℕ) → indexOf 10 (take 64 s) < length (take 64 s) → First n s
+unfolding answerTo lineAnswer
+first-found n s h =
+    let e = indexOf 10 (take 64 s) in
+    let size : lineSize s ≡ e + 1 = size-found s h in
+    let body : length (take e s) ≡ e = length-take-le e s (omega (arith, length-take 64 s)) in
+    let few : ltb (length (take e s)) 64 ≡ true = lt-ltb (length (take e s)) 64 (omega (arith, length-take 64 s)) in
+    let some : eqb (e + 1) 0 ≡ false = ne-eqb (e + 1) 0 (λ p. omega arith) in
+    let less : e + 1 - 1 ≡ e = omega arith in
+    record {
+      line = whole (take e s);
+      rest = lines (drop (suc e) s);
+      cut = first-whole s h;
+      answer = simp (size, few, some, less);
+      next = λ z. simp (size, add-one);
+    }
+
+first-none : (n : ℕ) (s : List ℕ) → 0 < length s → length (take 64 s) ≤ indexOf 10 (take 64 s) → First n s
+unfolding answerTo lineAnswer
+first-none n s g h =
+    let size : lineSize s ≡ 0 = size-none s h in
+    let b = first-broken s g (omega (arith, index-le 10 (take 64 s))) in
+    record {
+      line = b .0;
+      rest = b .1;
+      cut = b .2;
+      answer = simp (size, b .3);
+      next = λ z. absurd (go (eqb n 32) (simp size at z));
+    }
+  where
+    go : (t : Bool) → (cond t (refusedLine 2) (refusedLine 3)) .refusal ≡ 0 → ⊥
+    go true e = omega arith
+    go false e = omega arith
+
+pub first-line : (n : ℕ) (s : List ℕ) → 0 < length s → First n s
+first-line n s g = go (ltb (indexOf 10 (take 64 s)) (length (take 64 s))) refl
+  where
+    go : (t : Bool) → ltb (indexOf 10 (take 64 s)) (length (take 64 s)) ≡ t → First n s
+    go true e = first-found n s (ltb-true (indexOf 10 (take 64 s)) (length (take 64 s)) e)
+    go false e = first-none n s g (ltb-false (indexOf 10 (take 64 s)) (length (take 64 s)) e)
+
+-- a line that is taken, and one that is refused
+module _ (c : Chart) (s : List ℕ) (g : 0 < length s) where
+  pub step-taken : (lineAnswer (c .count) (lineSize s) s) .refusal ≡ 0 → readLines c (lines s) ≡ readLines (withEntry c ((lineAnswer (c .count) (lineSize s) s) .entry)) (lines (drop (lineSize s) s))
+  unfolding readLines
+  step-taken z =
+      let f = first-line (c .count) s g in
+      simp (f .cut, f .answer, eq-eqb _ _ z, f .next z)
+
+  pub step-refused : ((lineAnswer (c .count) (lineSize s) s) .refusal ≡ 0 → ⊥) → readLines c (lines s) ≡ refusedChart ((lineAnswer (c .count) (lineSize s) s) .refusal) (c .count + 1)
+  unfolding readLines
+  step-refused z =
+      let f = first-line (c .count) s g in
+      simp (f .cut, f .answer, ne-eqb _ _ z)
+
+pub no-line-left : (c : Chart) → readLines c (lines []) ≡ record { refusal = 0; line = 0; chart = c }
+unfolding readLines
+no-line-left c = simp lines-none
+
+-- a chart that has a line
+pub some-line : (s : List ℕ) → 0 < length s → readChart s ≡ readLines noEntries (lines s)
+unfolding readChart orNoLine
+some-line s g = let f = first-line 0 s g in simp (f .cut)
+
+pub no-line : (s : List ℕ) → length s ≡ 0 → readChart s ≡ refusedChart 1 1
+unfolding readChart orNoLine
+no-line [] e = simp lines-none
+no-line (b ∷ s) e = absurd (omega arith)
+
+-- a line that is taken has a size and is no 33rd
+taken-sized : (n size : ℕ) (s : List ℕ) → (lineAnswer n size s) .refusal ≡ 0 → (n ≡ 32 → ⊥) × (size ≡ 0 → ⊥)
+unfolding lineAnswer
+taken-sized n size s e = (λ p. not-two (simp (eq-eqb _ _ p) at e), λ p. not-three (eqb n 32) (simp (eq-eqb _ _ p) at e))
+  where
+    not-two : _≡_ {A = ℕ} 2 0 → ⊥
+    not-two q = omega arith
+
+    not-three : (t : Bool) → (cond t (refusedLine 2) (refusedLine 3)) .refusal ≡ 0 → ⊥
+    not-three true q = omega arith
+    not-three false q = omega arith
+
+pub record Taken (n : ℕ) (s : List ℕ) : Type 0 where
+  pub room : n ≡ 32 → ⊥
+  pub some : lineSize s ≡ 0 → ⊥
+
+pub taken : (n : ℕ) (s : List ℕ) → (lineAnswer n (lineSize s) s) .refusal ≡ 0 → Taken n s
+taken n s e = let t = taken-sized n (lineSize s) s e in record { room = t .0; some = t .1 }
+
+pub size-le : (s : List ℕ) → lineSize s ≤ length s
+size-le s = go (ltb (indexOf 10 (take 64 s)) (length (take 64 s))) refl
+  where
+    go : (t : Bool) → ltb (indexOf 10 (take 64 s)) (length (take 64 s)) ≡ t → lineSize s ≤ length s
+    go true e =
+        let h = ltb-true (indexOf 10 (take 64 s)) (length (take 64 s)) e in
+        omega (arith, size-found s h, length-take 64 s)
+    go false e = omega (arith, size-none s (ltb-false (indexOf 10 (take 64 s)) (length (take 64 s)) e))
+
+-- the check behind refusal 14
+and-false : (a b : Bool) → b ≡ false → (a && b) ≡ false
+and-false true b e = e
+and-false false b e = refl
+
+module _ (c : Chart) where
+  pub usable-none : c .count ≡ 0 → isUsable c ≡ false
+  unfolding isUsable
+  usable-none e = simp e
+
+  pub usable-over : 32 < c .count → isUsable c ≡ false
+  unfolding isUsable
+  usable-over h = simp (lt-leb _ _ h, and-false)
+
+  pub usable-broken : (i : ℕ) → i < c .count → entryFits i (entryAt c i) ≡ false → isUsable c ≡ false
+  unfolding isUsable
+  usable-broken i h e = simp (not-all (c .count) (λ n. entryFits n (entryAt c n)) i h e, and-false)
+
+  pub usable : 1 ≤ c .count → c .count ≤ 32 → allBelow (c .count) (λ n. entryFits n (entryAt c n)) ≡ true → isUsable c ≡ true
+  unfolding isUsable
+  usable h g e = simp (le-leb _ _ h, le-leb _ _ g, e)

@@ -1,0 +1,92 @@
+-- A chart that was read is one a watch may use: `read-usable`.
+use Prim.Native.Nat.{ℕ, _+_, _≤_, _<_}
+use native.Mathlib.Omega.{arith}
+use mathlib.Core.Path.{_≡_, refl, sym, ap, _∙_}
+use mathlib.Core.Bool.{Bool, true, false, cond, _&&_}
+use mathlib.Core.List.{List, [], _∷_}
+use mathlib.Core.Logic.{_⊎_, inl, inr}
+use borrow.Author.Tests.{eqb-true, eqb-false}
+use lib.Dec.{eqb}
+use lib.ListN.{length, getD, set, length-set, length-replicate}
+use lib.Seq.{getD-set-same, getD-set-other}
+use Rattle.text.specs.Text.{Line, lines, isRecord, fields}
+use Rattle.chart.specs.Operators.{kindOf, inRange, areLower}
+use Rattle.chart.specs.Records.{entry, answerTo, refusedLine, takenLine, checkedEntry, checkedLine, parsedLine}
+use Rattle.chart.specs.Charts.{readLines, readChart, orNoLine, noEntries, withEntry, refusedChart, isUsable, allBelow, entryFits, entryAt}
+use Rattle.chart.specs.declared.Entry.{Entry}
+use Rattle.chart.specs.declared.Chart.{Chart}
+use Rattle.chart.specs.declared.record.Parsed.{Parsed}
+use Rattle.chart.specs.declared.record.LineAnswer.{LineAnswer}
+use Rattle.chart.proofs.Below.{none-below, one-more, same-below}
+use Rattle.chart.proofs.Charts.{usable}
+
+-- a chart so far: at most 32 entries, all of which fit.
+record Good (c : Chart) : Type 0 where
+  size : length (c .entries) ≡ 32
+  few : c .count ≤ 32
+  fits : allBelow (c .count) (λ n. entryFits n (entryAt c n)) ≡ true
+
+good-none : Good noEntries
+unfolding noEntries
+good-none = record { size = length-replicate 32 (entry 0 0 0); few = omega arith; fits = none-below _ }
+
+-- a line that is taken has an entry that fits
+entry-fits : (n e op a b : ℕ) → (checkedEntry n e op a b) .refusal ≡ 0 → entryFits n ((checkedEntry n e op a b) .entry) ≡ true
+unfolding checkedEntry entryFits
+entry-fits n e op a b z = go (eqb e n) (inRange (kindOf op) a b) refl (areLower (kindOf op) n a b) refl z
+  where
+    go : (t u : Bool) → inRange (kindOf op) a b ≡ u → (v : Bool) → areLower (kindOf op) n a b ≡ v → (cond t (cond u (cond v (takenLine (entry op a b)) (refusedLine 5)) (refusedLine 6)) (refusedLine 4)) .refusal ≡ 0 → (let r = (cond t (cond u (cond v (takenLine (entry op a b)) (refusedLine 5)) (refusedLine 6)) (refusedLine 4)) .entry in inRange (kindOf (r .op)) (r .a) (r .b) && areLower (kindOf (r .op)) n (r .a) (r .b)) ≡ true
+    go true true p true q y = simp (p, q)
+    go true true p false q y = absurd (omega arith)
+    go true false p v q y = absurd (omega arith)
+    go false u p v q y = absurd (omega arith)
+
+line-fits : (n : ℕ) (p : Parsed) → (checkedLine n p) .refusal ≡ 0 → entryFits n ((checkedLine n p) .entry) ≡ true
+unfolding checkedLine
+line-fits n Parsed.Malformed z = absurd (omega arith)
+line-fits n (Parsed.Line e op a b) z = entry-fits n e op a b z
+
+answer-fits : (n : ℕ) (l : Line) → (answerTo n l) .refusal ≡ 0 → (n ≡ 32 → ⊥) × (entryFits n ((answerTo n l) .entry) ≡ true)
+unfolding answerTo
+answer-fits n l z = go (eqb n 32) refl (isRecord l) z
+  where
+    p : Parsed
+    p = parsedLine (fields (l .bytes))
+
+    go : (t : Bool) → eqb n 32 ≡ t → (u : Bool) → (cond t (refusedLine 2) (cond u (checkedLine n p) (refusedLine 3))) .refusal ≡ 0 → (n ≡ 32 → ⊥) × (entryFits n ((cond t (refusedLine 2) (cond u (checkedLine n p) (refusedLine 3))) .entry) ≡ true)
+    go true e u y = absurd (omega arith)
+    go false e true y = (eqb-false n 32 e, line-fits n p y)
+    go false e false y = absurd (omega arith)
+
+good-more : (c : Chart) (e : Entry) → Good c → (c .count ≡ 32 → ⊥) → entryFits (c .count) e ≡ true → Good (withEntry c e)
+unfolding withEntry
+good-more c e g d h = record {
+  size = length-set (c .entries) (c .count) e ∙ g .size;
+  few = omega (arith, g .few);
+  fits = one-more (c .count) (λ n. entryFits n (getD (set (c .entries) (c .count) e) n (entry 0 0 0))) (same-below (c .count) (λ n. entryFits n (getD (set (c .entries) (c .count) e) n (entry 0 0 0))) (λ n. entryFits n (entryAt c n)) (λ i k. ap (entryFits i) (getD-set-other (c .entries) (c .count) i e (entry 0 0 0) (λ p. omega arith))) ∙ g .fits) (ap (entryFits (c .count)) (getD-set-same (c .entries) (c .count) e (entry 0 0 0) (omega (arith, g .size, g .few))) ∙ h);
+}
+
+-- the lines left to read keep a good chart good
+left-good : (c : Chart) (ls : List Line) → Good c → (1 ≤ c .count) ⊎ (0 < length ls) → (readLines c ls) .refusal ≡ 0 → isUsable ((readLines c ls) .chart) ≡ true
+unfolding readLines withEntry refusedChart
+left-good c [] g (inl h) z = usable c h (g .few) (g .fits)
+left-good c [] g (inr h) z = absurd (omega arith)
+left-good c (l ∷ ls) g s z = go (eqb (a .refusal) 0) refl (λ d h y. left-good d ls h y) z
+  where
+    a : LineAnswer
+    a = answerTo (c .count) l
+
+    go : (t : Bool) → eqb (a .refusal) 0 ≡ t → ((d : Chart) → Good d → (1 ≤ d .count) ⊎ (0 < length ls) → (readLines d ls) .refusal ≡ 0 → isUsable ((readLines d ls) .chart) ≡ true) → (cond t (readLines (withEntry c (a .entry)) ls) (refusedChart (a .refusal) (c .count + 1))) .refusal ≡ 0 → isUsable ((cond t (readLines (withEntry c (a .entry)) ls) (refusedChart (a .refusal) (c .count + 1))) .chart) ≡ true
+    go true e left y =
+        let f = answer-fits (c .count) l (eqb-true (a .refusal) 0 e) in
+        left (withEntry c (a .entry)) (good-more c (a .entry) g (f .0) (f .1)) (inl (omega arith)) y
+    go false e left y = absurd (eqb-false (a .refusal) 0 e y)
+
+-- the reader's charts are those a watch may use
+pub read-usable : (s : List ℕ) → (readChart s) .refusal ≡ 0 → isUsable ((readChart s) .chart) ≡ true
+unfolding readChart orNoLine refusedChart
+read-usable s z = go (lines s) z
+  where
+    go : (ls : List Line) → (orNoLine ls) .refusal ≡ 0 → isUsable ((orNoLine ls) .chart) ≡ true
+    go [] y = absurd (omega arith)
+    go (l ∷ ls) y = left-good noEntries (l ∷ ls) good-none (inr (omega arith)) y

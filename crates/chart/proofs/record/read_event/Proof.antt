@@ -1,0 +1,31 @@
+-- `read_event` meets its contract: a tab means one field too many.
+use mathlib.Core.Path.{_≡_, sym, ap, _∙_}
+use borrow.Author.Needs.{needs}
+use Rattle.text.specs.Text.{indexOf}
+use lib.ListN.{length}
+use Rattle.chart.specs.Records.{withCode}
+use Rattle.chart.proofs.Records.{event-one, event-more}
+use Rattle.chart.proofs.record.read_event.Statement.{statement}
+use Rattle.chart.proofs.record.read_event.Tie as tie
+
+find-requires : tie.Need-find-requires
+find-requires c κs = search needs
+
+returns : tie.Need-returns
+returns c = sym (event-more _ _ (λ e. c .if1 .taken (c .before .find .ensures ∙ e)))
+
+read-number-requires : tie.Need-read-number-requires
+read-number-requires c κs = search needs
+
+with-code-requires : tie.Need-with-code-requires
+with-code-requires c κs = search needs
+
+returns-2 : tie.Need-returns-2
+returns-2 c =
+    let b = c .before .before in
+    let e : indexOf 9 (b .before .before .before .args .s .now) ≡ length (b .before .before .before .args .s .now) = sym (b .before .find .ensures) ∙ b .if1 .left in
+    c .with-code .ensures ∙ ap (withCode _) (c .before .read-number .ensures) ∙ sym (event-one _ _ e)
+
+pub read-event-spec : {M : Type 1} → statement M
+read-event-spec =
+    tie.close (tie.spec find-requires returns read-number-requires with-code-requires returns-2)

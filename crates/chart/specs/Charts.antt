@@ -1,0 +1,65 @@
+-- Charts. Document 01, "Operators of a chart" and "Who can be turned back, and with which number".
+use Prim.Native.Nat.{ℕ, zero, suc, _+_}
+use mathlib.Core.Bool.{Bool, true, cond, _&&_}
+use mathlib.Core.List.{List, [], _∷_}
+use lib.Dec.{eqb, leb}
+use lib.ListN.{getD, set, replicate}
+use Rattle.text.specs.Text.{Line, lines}
+use Rattle.chart.specs.Operators.{kindOf, inRange, areLower}
+use Rattle.chart.specs.Records.{entry, answerTo}
+use Rattle.chart.specs.declared.Entry.{Entry}
+use Rattle.chart.specs.declared.Chart.{Chart}
+use Rattle.chart.specs.declared.ChartAnswer.{ChartAnswer}
+use Rattle.chart.specs.declared.Verdict.{Verdict}
+use Rattle.chart.specs.declared.record.LineAnswer.{LineAnswer}
+
+-- a chart of no entries
+unfoldable pub noEntries : Chart
+noEntries = record { count = 0; entries = replicate 32 (entry 0 0 0) }
+
+unfoldable pub withEntry : Chart → Entry → Chart
+withEntry c e = record { count = c .count + 1; entries = set (c .entries) (c .count) e }
+
+-- "Returned: the number, the line counted from 1 (line 1 for refusal 1) and a chart of no entries."
+unfoldable pub refusedChart : ℕ → ℕ → ChartAnswer
+refusedChart n line = record { refusal = n; line = line; chart = noEntries }
+
+abbrev pub takenChart : Chart → ChartAnswer
+takenChart c = record { refusal = 0; line = 0; chart = c }
+
+-- "Order: lines from the first"
+unfoldable pub readLines : Chart → List Line → ChartAnswer
+readLines c [] = takenChart c
+readLines c (l ∷ ls) =
+    cond (eqb ((answerTo (c .count) l) .refusal) 0)
+    (readLines (withEntry c ((answerTo (c .count) l) .entry)) ls)
+    (refusedChart ((answerTo (c .count) l) .refusal) (c .count + 1))
+
+-- "1 no line"
+unfoldable pub orNoLine : List Line → ChartAnswer
+orNoLine [] = refusedChart 1 1
+orNoLine (l ∷ ls) = readLines noEntries (l ∷ ls)
+
+-- a chart on paper
+unfoldable pub readChart : List ℕ → ChartAnswer
+readChart s = orNoLine (lines s)
+
+-- "refusal number and line out, both 0 for a chart taken"
+abbrev pub verdictOf : ChartAnswer → Verdict
+verdictOf a = record { refusal = a .refusal; line = a .line }
+
+-- entry n is as the operator table has it
+unfoldable pub entryFits : ℕ → Entry → Bool
+entryFits n e = inRange (kindOf (e .op)) (e .a) (e .b) && areLower (kindOf (e .op)) n (e .a) (e .b)
+
+-- p holds of every number below n
+unfoldable pub allBelow : ℕ → (ℕ → Bool) → Bool
+allBelow zero p = true
+allBelow (suc n) p = p n && allBelow n p
+
+abbrev pub entryAt : Chart → ℕ → Entry
+entryAt c n = getD (c .entries) n (entry 0 0 0)
+
+-- not "14 a chart of no entries, of over 32, or with an entry breaking the operator table"
+unfoldable pub isUsable : Chart → Bool
+isUsable c = leb 1 (c .count) && (leb (c .count) 32 && allBelow (c .count) (λ n. entryFits n (entryAt c n)))

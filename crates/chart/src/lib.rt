@@ -1,0 +1,138 @@
+// Charts: the chart value, the reader of a chart on paper with its C entry, and the check behind refusal 14.
+ghost use mathlib.Core.Path.{_≡_};
+ghost use Prim.Native.Nat.{_<_};
+ghost use Rattle.chart.specs.Charts.{noEntries, withEntry, readChart, refusedChart, verdictOf, entryFits, isUsable};
+
+pub mod operator;
+pub mod record;
+
+// An entry of a chart: its operator's code and its operands a and b. An event's a is its code and its b is 0; a length test's b is its length.
+pub struct Entry {
+    pub op: u8,
+    pub a: u32,
+    pub b: u32,
+}
+
+// The entries 0 to count - 1 are the chart's; the others are blank in a chart that was read.
+pub struct Chart {
+    pub count: usize,
+    pub entries: [Entry; 32],
+}
+
+// A refusal 1 to 6 with its line, counted from 1, and a chart of no entries; or 0, 0 and the chart.
+pub struct ChartAnswer {
+    pub refusal: u32,
+    pub line: u32,
+    pub chart: Chart,
+}
+
+// What the C acquisition program gets: as in ChartAnswer.
+#[repr(C)]
+pub struct Verdict {
+    pub refusal: u32,
+    pub line: u32,
+}
+
+pub fn no_entries() -> Chart
+    ensures { λ r. ⌜ r ≡ noEntries ⌝ }
+{
+    let blank = Entry { op: 0, a: 0, b: 0 };
+    Chart {
+        count: 0,
+        entries: [blank; 32],
+    }
+}
+
+fn refused(refusal: u32, line: u32) -> ChartAnswer
+    ensures { λ r. ⌜ r ≡ refusedChart refusal line ⌝ }
+{
+    let chart = no_entries();
+    ChartAnswer {
+        refusal,
+        line,
+        chart,
+    }
+}
+
+fn with_entry(chart: Chart, e: Entry) -> Chart
+    requires { ⌜ chart .count < 32 ⌝ }
+    ensures { λ r. ⌜ r ≡ withEntry chart e ⌝ }
+{
+    let n = chart.count;
+    let mut next = chart;
+    next.entries[n] = e;
+    next.count = n + 1;
+    next
+}
+
+// Reads a chart on paper. Linear in the bytes of the first 33 lines; what follows is not looked at.
+pub fn read(s: &[u8]) -> ChartAnswer
+    ensures { λ r. ⌜ r ≡ readChart (now (s .entry)) ⌝ }
+{
+    if s.len() == 0 {
+        return refused(1, 1);
+    }
+    let mut chart = no_entries();
+    let mut at: usize = 0;
+    while at < s.len() {
+        let n = chart.count;
+        let size = record::line_size(&s[at..]);
+        let a = record::read_line(&s[at..], size, n);
+        let refusal = a.refusal;
+        if refusal != 0 {
+            return refused(refusal, (n + 1) as u32);
+        }
+        let e = a.entry;
+        chart = with_entry(chart, e);
+        at += size;
+    }
+    ChartAnswer {
+        refusal: 0,
+        line: 0,
+        chart,
+    }
+}
+
+// The same for C: refusal and line, both 0 for a chart taken. Keeps nothing, and needs some 1 kB of stack.
+#[no_mangle]
+pub extern "C" fn chronicle_check_chart(bytes: &[u8]) -> Verdict
+    ensures { λ r. ⌜ r ≡ verdictOf (readChart (now (bytes .entry))) ⌝ }
+{
+    let a = read(bytes);
+    Verdict {
+        refusal: a.refusal,
+        line: a.line,
+    }
+}
+
+// Whether entry n of a chart is as the operator table has it.
+pub fn entry_fits(e: Entry, n: usize) -> bool
+    ensures { λ r. ⌜ r ≡ entryFits n e ⌝ }
+{
+    let k = operator::kind_of(e.op);
+    let a = e.a as u64;
+    let b = e.b as u64;
+    operator::in_range(k, a, b) && operator::are_lower(k, n as u64, a, b)
+}
+
+// Whether a watch may use the chart; where not, calls on a watch refuse it with 14. One look at each entry.
+pub fn is_usable(chart: Chart) -> bool
+    ensures { λ r. ⌜ r ≡ isUsable chart ⌝ }
+{
+    let count = chart.count;
+    if count == 0 {
+        return false;
+    }
+    if 32 < count {
+        return false;
+    }
+    let mut i: usize = 0;
+    while i < count {
+        let e = chart.entries[i];
+        if !entry_fits(e, i) {
+            return false;
+        }
+        i += 1;
+    }
+    true
+}

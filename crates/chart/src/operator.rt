@@ -1,0 +1,279 @@
+// The operators of a chart: their words, their codes, and what each asks of its operands.
+ghost use mathlib.Core.Path.{_≡_};
+ghost use Prim.Native.Nat.{_<_};
+ghost use lib.ListN.{getD};
+ghost use lib.Dec.{ltb};
+ghost use mathlib.Core.Bool.{_&&_};
+ghost use mathlib.Core.List.{[]};
+ghost use Rattle.chart.specs.Operators.{words, sameBytes, operatorOf, edgesOf, relationOf, lengthTestOf, kindOf, inRange, areLower};
+use interval::Edges;
+use interval::LengthTest;
+use interval::Relation;
+
+// What an operator code stands for.
+pub enum Kind {
+    Event,
+    Or,
+    Pair(Relation),
+    Absence(Edges),
+    Length(LengthTest),
+    Unknown,
+}
+
+// The operator words in the order of their codes, each padded with zeros to 8 bytes.
+const WORDS: [u8; 136] = [
+    b'e',
+    b'v',
+    b'e',
+    b'n',
+    b't',
+    0,
+    0,
+    0, // 0
+    b's',
+    b'e',
+    b'q',
+    0,
+    0,
+    0,
+    0,
+    0, // 1
+    b'o',
+    b'r',
+    0,
+    0,
+    0,
+    0,
+    0,
+    0, // 2
+    b'a',
+    b'n',
+    b'd',
+    0,
+    0,
+    0,
+    0,
+    0, // 3
+    b'-',
+    b'[',
+    b']',
+    0,
+    0,
+    0,
+    0,
+    0, // 4
+    b'-',
+    b']',
+    b'[',
+    0,
+    0,
+    0,
+    0,
+    0, // 5
+    b'-',
+    b'[',
+    b'[',
+    0,
+    0,
+    0,
+    0,
+    0, // 6
+    b'-',
+    b']',
+    b']',
+    0,
+    0,
+    0,
+    0,
+    0, // 7
+    b'm',
+    b'e',
+    b'e',
+    b't',
+    b's',
+    0,
+    0,
+    0, // 8
+    b'o',
+    b'v',
+    b'e',
+    b'r',
+    b'l',
+    b'a',
+    b'p',
+    b's', // 9
+    b's',
+    b't',
+    b'a',
+    b'r',
+    b't',
+    b's',
+    0,
+    0, // 10
+    b'd',
+    b'u',
+    b'r',
+    b'i',
+    b'n',
+    b'g',
+    0,
+    0, // 11
+    b'f',
+    b'i',
+    b'n',
+    b'i',
+    b's',
+    b'h',
+    b'e',
+    b's', // 12
+    b'e',
+    b'q',
+    b'u',
+    b'a',
+    b'l',
+    b's',
+    0,
+    0, // 13
+    b'l',
+    b'a',
+    b's',
+    b't',
+    b's',
+    0,
+    0,
+    0, // 14
+    b'a',
+    b't',
+    b'm',
+    b'o',
+    b's',
+    b't',
+    0,
+    0, // 15
+    b'a',
+    b't',
+    b'l',
+    b'e',
+    b'a',
+    b's',
+    b't',
+    0, // 16
+];
+
+const LENGTHS: [usize; 17] = [5, 3, 2, 3, 3, 3, 3, 3, 5, 8, 6, 6, 8, 6, 5, 6, 7];
+
+// The code of the operator with this word, or 17 where no operator has it. At most 17 comparisons of lengths, and the bytes of those that agree.
+pub fn operator_of(s: &[u8]) -> u8
+    ensures { λ r. ⌜ r ≡ operatorOf (now (s .entry)) ⌝ }
+{
+    let mut i: u8 = 0;
+    while i < 17 {
+        if is_word(s, i as usize) {
+            return i;
+        }
+        i += 1;
+    }
+    i
+}
+
+fn is_word(s: &[u8], i: usize) -> bool
+    requires { ⌜ i < 17 ⌝ }
+    ensures { λ r. ⌜ r ≡ sameBytes (now (s .entry)) (getD words i []) ⌝ }
+{
+    let n = LENGTHS[i];
+    if s.len() != n {
+        return false;
+    }
+    let mut k: usize = 0;
+    while k < n {
+        if s[k] != WORDS[i * 8 + k] {
+            return false;
+        }
+        k += 1;
+    }
+    true
+}
+
+// What an operator code stands for, by one match with ranges.
+pub fn kind_of(op: u8) -> Kind
+    ensures { λ r. ⌜ r ≡ kindOf op ⌝ }
+{
+    match op {
+        0 => Kind::Event,
+        1 => Kind::Pair(Relation::Seq),
+        2 => Kind::Or,
+        3 => Kind::Pair(Relation::And),
+        4..=7 => Kind::Absence(edges_of(op)),
+        8..=13 => Kind::Pair(relation_of(op)),
+        14..=16 => Kind::Length(length_test_of(op)),
+        _ => Kind::Unknown,
+    }
+}
+
+fn edges_of(op: u8) -> Edges
+    ensures { λ r. ⌜ r ≡ edgesOf op ⌝ }
+{
+    match op {
+        4 => Edges::ClosedClosed,
+        5 => Edges::OpenOpen,
+        6 => Edges::ClosedOpen,
+        _ => Edges::OpenClosed,
+    }
+}
+
+fn relation_of(op: u8) -> Relation
+    ensures { λ r. ⌜ r ≡ relationOf op ⌝ }
+{
+    match op {
+        8 => Relation::Meets,
+        9 => Relation::Overlaps,
+        10 => Relation::Starts,
+        11 => Relation::During,
+        12 => Relation::Finishes,
+        _ => Relation::Equals,
+    }
+}
+
+fn length_test_of(op: u8) -> LengthTest
+    ensures { λ r. ⌜ r ≡ lengthTestOf op ⌝ }
+{
+    match op {
+        14 => LengthTest::Lasts,
+        15 => LengthTest::AtMost,
+        _ => LengthTest::AtLeast,
+    }
+}
+
+// Whether an event's code or a length is in its range; an event has no second operand.
+pub fn in_range(k: Kind, a: u64, b: u64) -> bool
+    ensures { λ r. ⌜ r ≡ inRange k a b ⌝ }
+{
+    match k {
+        Kind::Event => a <= 255 && b == 0,
+        Kind::Or => true,
+        Kind::Pair(_) => true,
+        Kind::Absence(_) => true,
+        Kind::Length(_) => b <= 2000000000,
+        Kind::Unknown => false,
+    }
+}
+
+// Whether the operands are lower entry numbers than n.
+pub fn are_lower(k: Kind, n: u64, a: u64, b: u64) -> bool
+    ensures { λ r. ⌜ r ≡ areLower k n a b ⌝ }
+{
+    match k {
+        Kind::Event => true,
+        Kind::Or => both_lower(n, a, b),
+        Kind::Pair(_) => both_lower(n, a, b),
+        Kind::Absence(_) => both_lower(n, a, b),
+        Kind::Length(_) => a < n,
+        Kind::Unknown => false,
+    }
+}
+
+fn both_lower(n: u64, a: u64, b: u64) -> bool
+    ensures { λ r. ⌜ r ≡ (ltb a n && ltb b n) ⌝ }
+{
+    a < n && b < n
+}

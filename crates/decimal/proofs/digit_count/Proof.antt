@@ -1,0 +1,52 @@
+-- `decimal::digit_count` meets its contract: each range of the match is a power of ten, which gives the number of digits.
+use mathlib.Core.Path.{sym, ap}
+use native.Mathlib.Omega.{arith}
+use lib.ListN.{length}
+use Rattle.decimal.proofs.Digits.{spelled-small, length-is}
+use Rattle.decimal.proofs.digit_count.Statement.{statement}
+use Rattle.decimal.proofs.digit_count.Tie as tie
+
+returns : tie.Need-returns
+returns c = sym (ap length (spelled-small _ (c .if2 .taken)))
+
+returns-2 : tie.Need-returns-2
+returns-2 c = length-is 1 _ (omega arith) (omega arith)
+
+returns-3 : tie.Need-returns-3
+returns-3 c = length-is 2 _ (omega arith) (omega arith)
+
+returns-4 : tie.Need-returns-4
+returns-4 c = length-is 3 _ (omega arith) (omega arith)
+
+returns-5 : tie.Need-returns-5
+returns-5 c = length-is 4 _ (omega arith) (omega arith)
+
+returns-6 : tie.Need-returns-6
+returns-6 c = length-is 5 _ (omega arith) (omega arith)
+
+returns-7 : tie.Need-returns-7
+returns-7 c = length-is 6 _ (omega arith) (omega arith)
+
+returns-8 : tie.Need-returns-8
+returns-8 c = length-is 7 _ (omega arith) (omega arith)
+
+returns-9 : tie.Need-returns-9
+returns-9 c = length-is 8 _ (omega arith) (omega arith)
+
+returns-10 : tie.Need-returns-10
+returns-10 c = length-is 9 _ (omega arith) (omega arith)
+
+pub digit-count-spec : {M : Type 1} → statement M
+digit-count-spec =
+    tie.close
+    (tie.spec
+    returns
+    returns-2
+    returns-3
+    returns-4
+    returns-5
+    returns-6
+    returns-7
+    returns-8
+    returns-9
+    returns-10)

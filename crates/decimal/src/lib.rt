@@ -1,0 +1,166 @@
+// Numbers on paper: which number a spelling is, and how a number is spelled. The other crates go by these contracts and by the
+// laws of `proofs/Laws.antt`, and know nothing of digits. Every public function accepts every input.
+ghost use mathlib.Core.Path.{_≡_};
+ghost use Prim.Native.Nat.{_≤_};
+ghost use mathlib.Core.Bool.{cond};
+ghost use lib.IntN.{natAbs};
+ghost use lib.ListN.{length};
+ghost use Rattle.decimal.specs.Spelling.{allDigits, digitsValue, hasLeadingZero, numberOf, instantOf, spelledNumber, spelled, writtenLength, writtenOutput};
+
+// A number that was read. A well-formed one is below 10,000,000,000.
+pub enum Number {
+    Value(u64),
+    Malformed,
+}
+
+// An instant that was read. A well-formed one may exceed an i32; the caller refuses it as out of range.
+pub enum Instant {
+    Value(i64),
+    Malformed,
+}
+
+// The number that the whole slice spells, or Malformed. One pass over at most 10 bytes; a longer slice is refused unread.
+pub fn read_number(s: &[u8]) -> Number
+    ensures { λ r. ⌜ r ≡ numberOf (now (s .entry)) ⌝ }
+{
+    if s.len() == 0 {
+        return Number::Malformed;
+    }
+    if 10 < s.len() {
+        return Number::Malformed;
+    }
+    if has_leading_zero(s) {
+        return Number::Malformed;
+    }
+    read_digits(s)
+}
+
+// The instant that the whole slice spells, or Malformed. One pass over at most 11 bytes.
+pub fn read_instant(s: &[u8]) -> Instant
+    ensures { λ r. ⌜ r ≡ instantOf (now (s .entry)) ⌝ }
+{
+    if s.len() == 0 {
+        return Instant::Malformed;
+    }
+    if s[0] == b'-' {
+        let n = read_number(&s[1..]);
+        let Number::Value(v) = n else {
+            return Instant::Malformed;
+        };
+        if v == 0 {
+            return Instant::Malformed;
+        }
+        return Instant::Value(0 - (v as i64));
+    }
+    let n = read_number(s);
+    let Number::Value(v) = n else {
+        return Instant::Malformed;
+    };
+    Instant::Value(v as i64)
+}
+
+// Writes x in decimal, minus included, at the front of the output, and returns the number of bytes. Where the output is too
+// short it writes nothing and returns 0. Each byte is written once, with one division by 10 for each digit but the first.
+pub fn write_integer(x: i32, out: &mut [u8]) -> usize
+    ensures { λ r. ⌜ (r ≡ writtenLength (spelled x) (now (out .entry))) × (now (out .exit) ≡ writtenOutput (spelled x) (now (out .entry))) ⌝ }
+{
+    let m = magnitude(x);
+    if 0 <= x {
+        return write_number(m, out);
+    }
+    if out.len() == 0 {
+        return 0;
+    }
+    let n = write_number(m, &mut out[1..]);
+    if n == 0 {
+        return 0;
+    }
+    out[0] = b'-';
+    n + 1
+}
+
+// The number that the digits spell, leading zeros or not, or Malformed. At most 10 digits, so that no value wraps. One pass.
+fn read_digits(s: &[u8]) -> Number
+    requires { ⌜ length (now s) ≤ 10 ⌝ }
+    ensures { λ r. ⌜ r ≡ cond (allDigits (now (s .entry))) (Number.Value (digitsValue (now (s .entry)))) Number.Malformed ⌝ }
+{
+    let mut value: u64 = 0;
+    let mut i: usize = 0;
+    while i < s.len() {
+        let b = s[i];
+        if b < b'0' {
+            return Number::Malformed;
+        }
+        if b'9' < b {
+            return Number::Malformed;
+        }
+        value = value * 10 + wide(b - b'0');
+        i += 1;
+    }
+    Number::Value(value)
+}
+
+// Whether the digit 0 comes first with more behind it. Constant time.
+fn has_leading_zero(s: &[u8]) -> bool
+    ensures { λ r. ⌜ r ≡ hasLeadingZero (now (s .entry)) ⌝ }
+{
+    if s.len() <= 1 {
+        return false;
+    }
+    s[0] == b'0'
+}
+
+// A byte as a wider number. Constant time.
+fn wide(x: u8) -> u64
+    ensures { λ r. ⌜ r ≡ x ⌝ }
+{
+    x as u64
+}
+
+// Writes m at the front of the output, from its last digit to its first, or nothing where the output is too short. One pass.
+fn write_number(m: u32, out: &mut [u8]) -> usize
+    ensures { λ r. ⌜ (r ≡ writtenLength (spelledNumber m) (now (out .entry))) × (now (out .exit) ≡ writtenOutput (spelledNumber m) (now (out .entry))) ⌝ }
+{
+    let n = digit_count(m);
+    if out.len() < n {
+        return 0;
+    }
+    let mut rest = m;
+    let mut k = n;
+    while 10 <= rest {
+        k -= 1;
+        out[k] = b'0' + (rest % 10) as u8;
+        rest = rest / 10;
+    }
+    out[0] = b'0' + rest as u8;
+    n
+}
+
+// How many digits m has. At most five comparisons.
+fn digit_count(m: u32) -> usize
+    ensures { λ r. ⌜ r ≡ length (spelledNumber m) ⌝ }
+{
+    match m {
+        0..=9 => 1,
+        10..=99 => 2,
+        100..=999 => 3,
+        1000..=9999 => 4,
+        10000..=99999 => 5,
+        100000..=999999 => 6,
+        1000000..=9999999 => 7,
+        10000000..=99999999 => 8,
+        100000000..=999999999 => 9,
+        _ => 10,
+    }
+}
+
+// The absolute value, found in 64 bits since the least i32 has no opposite. Constant time.
+fn magnitude(x: i32) -> u32
+    ensures { λ r. ⌜ r ≡ natAbs x ⌝ }
+{
+    if x < 0 {
+        (0 - (x as i64)) as u32
+    } else {
+        x as u32
+    }
+}

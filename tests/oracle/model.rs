@@ -1,0 +1,117 @@
+//! The state that the calls on a watch determine, and the refusals 8 to 12. Document 01 calls it the book.
+
+use crate::recognitions::{enumerate, Event, Recognitions, Row};
+use common::plain_chart::Entry;
+use std::ops::RangeInclusive;
+
+pub const INSTANTS: RangeInclusive<i64> = -1_000_000_000..=1_000_000_000;
+pub const MOST_EVENTS: usize = 1_000_000;
+pub const MOST_PENDING: usize = 64;
+
+/// Which events the recognitions are enumerated over.
+#[derive(Clone, Copy, PartialEq)]
+pub enum Over {
+    /// Every event, as the definition has it: "no floor heeded". Forgotten events go on costing.
+    AllEvents,
+    /// Those at the floor or later and before the instant asked for. The same rows come out, since "the events of a
+    /// recognition that starts at the floor or later are all at the floor or later, and so are those that could forbid
+    /// it" (tests.rs compares the two), and no more are enumerated than the table can hold, and one.
+    EventsFromFloor,
+}
+
+/// A number of document 01's list, 8 to 12.
+pub type Refusal = u32;
+
+pub struct Model<'a> {
+    chart: &'a [Entry],
+    /// The rows that the table can hold.
+    table_rows: usize,
+    over: Over,
+    pub open_instant: i64,
+    pub floor: i64,
+    pub events: Vec<Event>,
+}
+
+impl<'a> Model<'a> {
+    pub fn open(chart: &'a [Entry], table_rows: usize, over: Over, instant: i64) -> Result<Model<'a>, Refusal> {
+        if !INSTANTS.contains(&instant) {
+            return Err(8);
+        }
+        Ok(Model { chart, table_rows, over, open_instant: instant, floor: *INSTANTS.start(), events: Vec::new() })
+    }
+
+    pub fn event(&mut self, code: u8) -> Result<(), Refusal> {
+        if self.events.len() == MOST_EVENTS {
+            return Err(10);
+        }
+        if self.pending().len() == MOST_PENDING {
+            return Err(9);
+        }
+        let serial = self.events.len() as i64 + 1;
+        self.events.push(Event { serial, code, instant: self.open_instant });
+        Ok(())
+    }
+
+    pub fn clock(&mut self, instant: i64) -> Result<(), Refusal> {
+        if !INSTANTS.contains(&instant) || instant <= self.open_instant {
+            return Err(8);
+        }
+        if !self.fits(instant) {
+            return Err(12);
+        }
+        self.open_instant = instant;
+        Ok(())
+    }
+
+    pub fn forget(&mut self, instant: i64) -> Result<(), Refusal> {
+        if instant < self.floor || instant > self.open_instant || !INSTANTS.contains(&instant) {
+            return Err(11);
+        }
+        self.floor = instant;
+        Ok(())
+    }
+
+    /// The events of the open instant, in their order.
+    pub fn pending(&self) -> &[Event] {
+        &self.events[self.events_before(self.open_instant)..]
+    }
+
+    /// The table as the calls so far leave it.
+    pub fn rows(&self) -> Vec<Row> {
+        let (found, in_order) = self.recognitions();
+        found.rows(&in_order)
+    }
+
+    /// The trees of the rows.
+    pub fn trees(&self) -> Vec<String> {
+        let (found, in_order) = self.recognitions();
+        in_order.iter().map(|index| found.tree(*index)).collect()
+    }
+
+    fn recognitions(&self) -> (Recognitions, Vec<usize>) {
+        let found = enumerate(self.chart, self.taking_part(self.open_instant), usize::MAX).expect("no limit is set");
+        let in_order = found.due_in_order(self.floor, self.open_instant);
+        (found, in_order)
+    }
+
+    /// Whether the recognitions that end before the instant and start at the floor or later are no more than the rows
+    /// that the table can hold.
+    fn fits(&self, instant: i64) -> bool {
+        let most = if self.over == Over::AllEvents { usize::MAX } else { self.table_rows };
+        let found = enumerate(self.chart, self.taking_part(instant), most);
+        found.is_some_and(|found| found.due(self.floor, instant).count() <= self.table_rows)
+    }
+
+    /// The events whose recognitions are looked for, where only ends before the instant are asked for.
+    fn taking_part(&self, before: i64) -> &[Event] {
+        match self.over {
+            Over::AllEvents => &self.events,
+            Over::EventsFromFloor => &self.events[self.events_before(self.floor)..self.events_before(before)],
+        }
+    }
+
+    /// How many events are before the instant; events stand in the order of their instants.
+    fn events_before(&self, instant: i64) -> usize {
+        self.events.partition_point(|event| event.instant < instant)
+    }
+}

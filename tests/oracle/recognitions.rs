@@ -1,0 +1,228 @@
+//! The recognitions of a chart over a list of events, by set-building. Document 01, "Operators of a chart" and "The
+//! book behind demand 3"; source document 003, definition 16.
+
+use common::plain_chart::{Edge, Entry, LengthTest, Operator, Relation};
+use std::cmp::Ordering;
+use std::ops::Range;
+
+#[derive(Clone, Copy)]
+pub struct Event {
+    /// 1 for the first event accepted, and so on.
+    pub serial: i64,
+    pub code: u8,
+    pub instant: i64,
+}
+
+/// What fills a recognition's places. An operand is named by its index among all recognitions.
+#[derive(Clone, Copy)]
+pub enum Parts {
+    /// An event, by its serial.
+    Event(i64),
+    /// Both operands.
+    Both(usize, usize),
+    /// The operand of an absence or of a length test.
+    One(usize),
+    /// The left arm of `or`.
+    LeftArm(usize),
+    /// The right arm of `or`.
+    RightArm(usize),
+}
+
+/// A recognition of an entry. Its parts, followed down, are its tree.
+#[derive(Clone, Copy)]
+pub struct Recognition {
+    pub entry: usize,
+    pub parts: Parts,
+    pub start: i64,
+    pub end: i64,
+}
+
+/// Every recognition of every entry, each once, those of lower entries first.
+pub struct Recognitions {
+    all: Vec<Recognition>,
+    of_entry: Vec<Range<usize>>,
+}
+
+/// A row as the listing shows it; -1 where there is no reference.
+#[derive(Clone, Copy, Debug, PartialEq)]
+pub struct Row {
+    pub entry: usize,
+    pub left: i64,
+    pub right: i64,
+    pub start: i64,
+    pub end: i64,
+}
+
+/// The recognitions of a chart over some events; none where there are more than `most`.
+pub fn enumerate(chart: &[Entry], events: &[Event], most: usize) -> Option<Recognitions> {
+    let mut found = Recognitions { all: Vec::new(), of_entry: Vec::new() };
+    for (number, entry) in chart.iter().enumerate() {
+        let room = most.saturating_sub(found.all.len()).saturating_add(1);
+        let made: Vec<Recognition> = found.of(number, entry, events).take(room).collect();
+        let first = found.all.len();
+        found.all.extend(made);
+        found.of_entry.push(first..found.all.len());
+        if found.all.len() > most {
+            return None;
+        }
+    }
+    Some(found)
+}
+
+impl Recognitions {
+    /// The recognitions of one entry: what its line of the operator table asks.
+    fn of<'a>(
+        &'a self,
+        number: usize,
+        entry: &'a Entry,
+        events: &'a [Event],
+    ) -> Box<dyn Iterator<Item = Recognition> + 'a> {
+        let parts: Box<dyn Iterator<Item = Parts> + 'a> = match entry.operator {
+            Operator::Event => return Box::new(of_event(number, entry.first, events)),
+            Operator::Or => Box::new(self.a(entry).map(Parts::LeftArm).chain(self.b(entry).map(Parts::RightArm))),
+            Operator::Pair(relation) => Box::new(self.pairs(relation, entry)),
+            Operator::Absence(early, late) => {
+                let forbidden = move |r: &usize| self.b(entry).any(|s| self.is_forbidding(early, late, *r, s));
+                Box::new(self.a(entry).filter(move |r| !forbidden(r)).map(Parts::One))
+            }
+            Operator::Length(test) => {
+                let lasts = move |r: &usize| has_length(test, &self.all[*r], entry.second as i64);
+                Box::new(self.a(entry).filter(lasts).map(Parts::One))
+            }
+        };
+        Box::new(parts.map(move |parts| self.recognition(number, parts)))
+    }
+
+    /// The recognitions of operand a.
+    fn a(&self, entry: &Entry) -> Range<usize> {
+        self.of_entry[entry.first as usize].clone()
+    }
+
+    /// The recognitions of operand b.
+    fn b(&self, entry: &Entry) -> Range<usize> {
+        self.of_entry[entry.second as usize].clone()
+    }
+
+    /// Every r of a with every s of b that the condition pairs with it; r and s may be the same.
+    fn pairs<'a>(&'a self, relation: Relation, entry: &'a Entry) -> impl Iterator<Item = Parts> + 'a {
+        self.a(entry).flat_map(move |r| {
+            let related = move |s: &usize| is_related(relation, &self.all[r], &self.all[*s]);
+            self.b(entry).filter(related).map(move |s| Parts::Both(r, s))
+        })
+    }
+
+    fn is_forbidding(&self, early: Edge, late: Edge, r: usize, s: usize) -> bool {
+        let (r, s) = (&self.all[r], &self.all[s]);
+        let from = if early == Edge::Closed { r.start <= s.start } else { r.start < s.start };
+        let to = if late == Edge::Closed { s.end <= r.end } else { s.end < r.end };
+        from && to
+    }
+
+    /// "Start and end are the least start and the greatest end of the rows referred to."
+    fn recognition(&self, entry: usize, parts: Parts) -> Recognition {
+        let (r, s) = match parts {
+            Parts::Both(r, s) => (r, s),
+            Parts::One(r) | Parts::LeftArm(r) | Parts::RightArm(r) => (r, r),
+            Parts::Event(_) => unreachable!("an event has no operand"),
+        };
+        let (r, s) = (&self.all[r], &self.all[s]);
+        Recognition { entry, parts, start: r.start.min(s.start), end: r.end.max(s.end) }
+    }
+
+    /// "Order of rows: by end; then entry; then, for event, serial; for or, the left arm first, each arm by row;
+    /// otherwise left row, then right row." Each recognition has one index, so equal trees are equal indices.
+    fn order(&self, x: usize, y: usize) -> Ordering {
+        if x == y {
+            return Ordering::Equal;
+        }
+        let (p, q) = (&self.all[x], &self.all[y]);
+        let by_end_and_entry = p.end.cmp(&q.end).then(p.entry.cmp(&q.entry));
+        by_end_and_entry.then_with(|| self.order_of_parts(p.parts, q.parts))
+    }
+
+    fn order_of_parts(&self, p: Parts, q: Parts) -> Ordering {
+        match (p, q) {
+            (Parts::Event(x), Parts::Event(y)) => x.cmp(&y),
+            (Parts::LeftArm(_), Parts::RightArm(_)) => Ordering::Less,
+            (Parts::RightArm(_), Parts::LeftArm(_)) => Ordering::Greater,
+            (Parts::LeftArm(x), Parts::LeftArm(y)) => self.order(x, y),
+            (Parts::RightArm(x), Parts::RightArm(y)) => self.order(x, y),
+            (Parts::One(x), Parts::One(y)) => self.order(x, y),
+            (Parts::Both(x, r), Parts::Both(y, s)) => self.order(x, y).then_with(|| self.order(r, s)),
+            _ => unreachable!("one entry has recognitions of one shape"),
+        }
+    }
+
+    /// The recognitions that start at the floor or later and end before the instant.
+    pub fn due(&self, floor: i64, instant: i64) -> impl Iterator<Item = usize> + '_ {
+        (0..self.all.len()).filter(move |index| self.all[*index].start >= floor && self.all[*index].end < instant)
+    }
+
+    /// The same in the order of rows.
+    pub fn due_in_order(&self, floor: i64, instant: i64) -> Vec<usize> {
+        let mut in_order: Vec<usize> = self.due(floor, instant).collect();
+        in_order.sort_by(|x, y| self.order(*x, *y));
+        in_order
+    }
+
+    /// Recognitions that stand in the order of rows, each written as a row: "a reference is the operand's place in that
+    /// order, always an earlier one".
+    pub fn rows(&self, in_order: &[usize]) -> Vec<Row> {
+        let mut row_of = vec![None; self.all.len()];
+        let mut rows = Vec::with_capacity(in_order.len());
+        for (number, index) in in_order.iter().enumerate() {
+            let reference = |operand: usize| row_of[operand].expect("an operand stands in an earlier row");
+            let Recognition { entry, parts, start, end } = self.all[*index];
+            let (left, right) = match parts {
+                Parts::Event(serial) => (serial, -1),
+                Parts::Both(r, s) => (reference(r), reference(s)),
+                Parts::One(r) | Parts::LeftArm(r) => (reference(r), -1),
+                Parts::RightArm(s) => (-1, reference(s)),
+            };
+            rows.push(Row { entry, left, right, start, end });
+            row_of[*index] = Some(number as i64);
+        }
+        rows
+    }
+
+    /// "A tree is written `e` and serial for an event; `<L,R>` for two; `<L,_>` or `<_,R>` for or; `<L>` for one."
+    pub fn tree(&self, index: usize) -> String {
+        match self.all[index].parts {
+            Parts::Event(serial) => format!("e{serial}"),
+            Parts::Both(r, s) => format!("<{},{}>", self.tree(r), self.tree(s)),
+            Parts::LeftArm(r) => format!("<{},_>", self.tree(r)),
+            Parts::RightArm(s) => format!("<_,{}>", self.tree(s)),
+            Parts::One(r) => format!("<{}>", self.tree(r)),
+        }
+    }
+}
+
+fn of_event(entry: usize, code: u64, events: &[Event]) -> impl Iterator<Item = Recognition> + '_ {
+    events.iter().filter(move |event| u64::from(event.code) == code).map(move |event| Recognition {
+        entry,
+        parts: Parts::Event(event.serial),
+        start: event.instant,
+        end: event.instant,
+    })
+}
+
+fn is_related(relation: Relation, r: &Recognition, s: &Recognition) -> bool {
+    match relation {
+        Relation::Seq => r.end < s.start,
+        Relation::And => true,
+        Relation::Meets => r.end == s.start,
+        Relation::Overlaps => r.start < s.start && s.start < r.end && r.end < s.end,
+        Relation::Starts => r.start == s.start && r.end < s.end,
+        Relation::During => r.start > s.start && r.end < s.end,
+        Relation::Finishes => r.start > s.start && r.end == s.end,
+        Relation::Equals => r.start == s.start && r.end == s.end,
+    }
+}
+
+fn has_length(test: LengthTest, r: &Recognition, length: i64) -> bool {
+    match test {
+        LengthTest::Lasts => r.end - r.start == length,
+        LengthTest::AtMost => r.end - r.start < length,
+        LengthTest::AtLeast => r.end - r.start > length,
+    }
+}

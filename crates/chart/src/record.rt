@@ -24,7 +24,7 @@ pub struct LineAnswer {
 }
 
 // The fields of a line without its byte 10, taken apart. Each byte is looked at twice at most.
-pub fn read_fields(s: &[u8]) -> Parsed
+pub(crate) fn read_fields(s: &[u8]) -> Parsed
     ensures { λ r. ⌜ r ≡ parsedLine (fields (now (s .entry))) ⌝ }
 {
     let t = text::find(s, 9);
@@ -150,7 +150,7 @@ fn check_entry(n: u64, entry: u64, op: u8, a: u64, b: u64) -> LineAnswer
 }
 
 // How many bytes the first line has with its byte 10, or 0 where that is not among the first 64 bytes.
-pub fn line_size(s: &[u8]) -> usize
+pub(crate) fn line_size(s: &[u8]) -> usize
     ensures { λ r. ⌜ r ≡ lineSize (now (s .entry)) ⌝ }
 {
     let w = window(s.len());
@@ -166,7 +166,7 @@ fn window(n: usize) -> usize
 }
 
 // The first line of s, whose size is line_size(s), where n entries stand before it.
-pub fn read_line(s: &[u8], size: usize, n: usize) -> LineAnswer
+pub(crate) fn read_line(s: &[u8], size: usize, n: usize) -> LineAnswer
     requires { ⌜ (size ≤ length (now s)) × (n ≤ 32) ⌝ }
     ensures { λ r. ⌜ r ≡ lineAnswer n size (now (s .entry)) ⌝ }
 {

@@ -55,8 +55,8 @@
  *
  * There is no state between calls. Any number of threads may call it at once,
  * on the same bytes too, as long as no thread changes the bytes meanwhile. It
- * makes no system call, sets no errno and always returns, after a time at
- * most proportional to length.
+ * makes no system call, sets no errno, needs less than 4 kB of stack and
+ * always returns, after a time at most proportional to length.
  */
 #ifndef CHRONICLE_H
 #define CHRONICLE_H

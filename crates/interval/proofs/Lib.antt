@@ -1,3 +1,4 @@
 pub mod Signed
 pub mod Machine
 pub mod Laws
+pub mod Examples

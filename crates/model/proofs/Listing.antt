@@ -1,0 +1,152 @@
+-- The listing: its parts, its shape; closing, forgetting and events in terms of it.
+use Prim.Native.Nat.{ℕ, zero, suc, _+_, _<_, _≤_}
+use native.Mathlib.Omega.{arith}
+use mathlib.Core.Path.{_≡_, refl, sym, ap, _∙_, subst}
+use mathlib.Core.Logic.{_⊎_, inl, inr}
+use mathlib.Core.Bool.{not}
+use mathlib.Core.List.{List, [], _∷_, _++_, List·Memᴰ, List·Memᴰ·head, List·Memᴰ·not-nil, List·Memᴰ·cases-cons, List·Memᴰ·append-cases, Memᴰ·append-right}
+use lib.Dec.{T, lt→ltb}
+use lib.ListN.{length}
+use lib.IntN.{ℤ}
+use Rattle.interval.proofs.Signed.{_≤ᶻ_, _<ᶻ_, eq-fact, leZ→, →leZ, least-is, greatest-is, greatest-most}
+use Rattle.model.specs.Lists.{keep}
+use Rattle.model.specs.Recognitions.{Event, Operator, event, related, or, absence, lasting, Arm, Recognition, ofEvent, ofOne, ofTwo, entryOf, startOf, endOf, recognitions}
+use Rattle.model.specs.Order.{before, listing, asRows}
+use Rattle.model.specs.RowSteps.{Node, leaves, nodeEnd, rules, endsAt, closeRows, isEvent, isEventAt, forgetRows, numbered}
+use Rattle.model.specs.Statements.{Sorted, OperatorAt}
+use Rattle.model.proofs.Sorted.{sorted-keep, keep-mem, mem-keep}
+use Rattle.model.proofs.Trees.{tree, trees, tree-end}
+use Rattle.model.proofs.Made.{Made}
+use Rattle.model.proofs.Local.{Chart}
+use Rattle.model.proofs.Extend.{extend, always, recognitions-extend, extend-all, recs-from}
+use Rattle.model.proofs.Windows.{IsLeaf, leaves-mem, leaves-append, eventsFrom, event-same, floor-same}
+use Rattle.model.proofs.Rank.{bySerial}
+use Rattle.model.proofs.Rows.{Parts, Closed, extend-closed, extend-writes}
+use Rattle.model.proofs.Closing.{Lists, lists-same, Due, Past, listing-lists, closing}
+use Rattle.model.proofs.Forget.{Shape, Shaped, lateTree, forget-writes}
+
+-- what every event has, and with its parts every whole, every recognition has
+recs-all : (P : Recognition → Type 0) (ops : List Operator) (es : List Event) → ((n : ℕ) (x : Node Recognition) (k : ℕ) → List·Memᴰ x (leaves k es) → P (tree n x)) → ((n : ℕ) (m : Arm) (r : Recognition) → P r → P (ofOne n m r)) → ((n : ℕ) (l r : Recognition) → P l → P r → P (ofTwo n l r)) → (t : Recognition) → List·Memᴰ t (recognitions ops es) → P t
+recs-all P ops es a b c t m = extend-all P es a b c (rules always 0 ops) [] (λ u k. absurd (List·Memᴰ·not-nil k)) t (subst (List·Memᴰ t) (recognitions-extend ops es) m)
+
+-- no recognition ends after the last event
+pub recs-end : (ops : List Operator) (es : List Event) (o : ℤ) → ((e : Event) → List·Memᴰ e es → e .instant ≤ᶻ o) → (t : Recognition) → List·Memᴰ t (recognitions ops es) → endOf t ≤ᶻ o
+recs-end ops es o h = recs-all (λ t. endOf t ≤ᶻ o) ops es (λ n x k m. let q = leaves-mem k es x m in let e : endOf (tree n x) ≡ (q .e) .instant = tree-end n x ∙ ap (nodeEnd trees) (q .is) in let l : (q .e) .instant ≤ᶻ o = h (q .e) (q .there) in omega (arith, eq-fact e)) (λ n m r l. l) (λ n l r p q. greatest-most (λ z. z ≤ᶻ o) (endOf l) (endOf r) p q)
+
+-- leaves stand at events' entries
+made-shape : (all : List Operator) (n : ℕ) (op : Operator) (es : List Event) (ts : List Recognition) (x : Node Recognition) → isEventAt all n ≡ isEvent op → Made trees op es ts x → Shape all (tree n x)
+made-shape all n (event k) es ts x e m = let q = leaves-mem k es x m in subst (λ z. Shape all (tree n z)) (sym (q .is)) (subst T (sym e) tt)
+made-shape all n (related c a b) es ts x e m = subst (λ z. Shape all (tree n z)) (sym (m .is)) (subst (λ z. T (not z)) (sym e) tt)
+made-shape all n (or a b) es ts x e (inl m) = subst (λ z. Shape all (tree n z)) (sym (m .is)) (subst (λ z. T (not z)) (sym e) tt)
+made-shape all n (or a b) es ts x e (inr m) = subst (λ z. Shape all (tree n z)) (sym (m .is)) (subst (λ z. T (not z)) (sym e) tt)
+made-shape all n (absence c a b) es ts x e m = subst (λ z. Shape all (tree n z)) (sym (m .is)) (subst (λ z. T (not z)) (sym e) tt)
+made-shape all n (lasting c a d) es ts x e m = subst (λ z. Shape all (tree n z)) (sym (m .is)) (subst (λ z. T (not z)) (sym e) tt)
+
+event-at : (ops : List Operator) (n : ℕ) (op : Operator) → OperatorAt ops n op → isEventAt ops n ≡ isEvent op
+event-at [] n op a = absurd a
+event-at (o ∷ ops) zero op a = ap isEvent a
+event-at (o ∷ ops) (suc n) op a = event-at ops n op a
+
+pub recs-shaped : (ops : List Operator) → Chart 0 ops → (es : List Event) → Shaped ops (recognitions ops es)
+recs-shaped ops c es t m = let w = recs-from ops c es t m in subst (Shape ops) (sym (w .is)) (made-shape ops (entryOf t) (w .operator) es (recognitions ops es) (w .x) (event-at ops (entryOf t) (w .operator) (w .at)) (w .made))
+
+pub recs-closed : (ops : List Operator) (es : List Event) → Closed (recognitions ops es)
+recs-closed ops es = subst Closed (sym (recognitions-extend ops es)) (extend-closed es (rules always 0 ops) [] (λ t m. absurd (List·Memᴰ·not-nil m)))
+
+pub listing-closed : (ops : List Operator) (es : List Event) (f o : ℤ) → Closed (listing ops es f o)
+listing-closed ops es f o t m = go t (l .holds t m) (recs-closed ops es t (l .sound t m))
+  where
+    l : Lists (Due f o) (listing ops es f o) (recognitions ops es)
+    l = listing-lists ops es f o
+
+    go : (u : Recognition) → Due f o u → Parts (λ v. List·Memᴰ v (recognitions ops es)) u → Parts (λ v. List·Memᴰ v (listing ops es f o)) u
+    go (ofEvent n s i) d p = tt
+    go (ofOne n a u) d p = l .full u p d
+    go (ofTwo n a b) d p = (l .full a (p .0) (omega (arith, least-is (startOf a) (startOf b), greatest-is (endOf a) (endOf b))), l .full b (p .1) (omega (arith, least-is (startOf a) (startOf b), greatest-is (endOf a) (endOf b))))
+
+pub listing-shaped : (ops : List Operator) → Chart 0 ops → (es : List Event) (f o : ℤ) → Shaped ops (listing ops es f o)
+listing-shaped ops c es f o t m = recs-shaped ops c es t (listing-lists ops es f o .sound t m)
+
+-- a higher floor
+pub listing-forget : (ops : List Operator) → Chart 0 ops → (es : List Event) (f f' o : ℤ) → f ≤ᶻ f' → forgetRows ops f' (asRows (listing ops es f o)) ≡ asRows (listing ops es f' o)
+listing-forget ops c es f f' o le = forget-writes ops f' (listing ops es f o) (l .sorted) (listing-closed ops es f o) (listing-shaped ops c es f o) ∙ ap asRows (lists-same (Due f' o) (Due f' o) (keep (lateTree f') (listing ops es f o)) (listing ops es f' o) (recognitions ops es) (recognitions ops es) fewer (listing-lists ops es f' o) (λ t m d. (m, d)) (λ t m d. (m, d)))
+  where
+    l : Lists (Due f o) (listing ops es f o) (recognitions ops es)
+    l = listing-lists ops es f o
+
+    fewer : Lists (Due f' o) (keep (lateTree f') (listing ops es f o)) (recognitions ops es)
+    fewer = record {
+      sorted = sorted-keep before (lateTree f') (listing ops es f o) (l .sorted);
+      sound = λ t m. l .sound t (keep-mem (lateTree f') (listing ops es f o) m .0);
+      holds = λ t m. let k = keep-mem (lateTree f') (listing ops es f o) m in (leZ→ f' (startOf t) (k .1), l .holds t (k .0) .1);
+      full = λ t m d. mem-keep (lateTree f') (listing ops es f o) (l .full t m (omega arith)) (→leZ f' (startOf t) (d .0));
+    }
+
+-- leaving out the events before the floor
+pub listing-floor : (ops : List Operator) → Chart 0 ops → (es : List Event) (f o : ℤ) → listing ops (eventsFrom f es) f o ≡ listing ops es f o
+listing-floor ops c es f o = lists-same (Due f o) (Due f o) _ _ (recognitions ops (eventsFrom f es)) (recognitions ops es) (listing-lists ops (eventsFrom f es) f o) (listing-lists ops es f o) (λ t m d. (floor-same ops c es f t (d .0) .1 m, d)) (λ t m d. (floor-same ops c es f t (d .0) .0 m, d))
+
+-- an event at the open instant
+pub listing-event : (ops : List Operator) → Chart 0 ops → (es : List Event) (f o : ℤ) (e : Event) → e .instant ≡ o → listing ops (es ++ e ∷ []) f o ≡ listing ops es f o
+listing-event ops c es f o e i = lists-same (Due f o) (Due f o) _ _ (recognitions ops (es ++ e ∷ [])) (recognitions ops es) (listing-lists ops (es ++ e ∷ []) f o) (listing-lists ops es f o) (λ t m d. (event-same ops c es e o (omega (arith, eq-fact i)) t (d .1) .1 m, d)) (λ t m d. (event-same ops c es e o (omega (arith, eq-fact i)) t (d .1) .0 m, d))
+
+-- numbered events: at their instant, and by serial
+pub numbered-mem : (o : ℤ) (s : ℕ) (ks : List ℕ) (e : Event) → List·Memᴰ e (numbered o s ks) → (e .instant ≡ o) × (s ≤ e .serial) × (e .serial < s + length ks)
+numbered-mem o s [] e m = absurd (List·Memᴰ·not-nil m)
+numbered-mem o s (k ∷ ks) e m = go (numbered-mem o (suc s) ks e) (List·Memᴰ·cases-cons m)
+  where
+    go : (List·Memᴰ e (numbered o (suc s) ks) → (e .instant ≡ o) × (suc s ≤ e .serial) × (e .serial < suc s + length ks)) → (e ≡ record { serial = s; code = k; instant = o }) ⊎ List·Memᴰ e (numbered o (suc s) ks) → (e .instant ≡ o) × (s ≤ e .serial) × (e .serial < s + length (k ∷ ks))
+    go ih (inl q) =
+        let p : e .serial ≡ s = ap (λ z. z .serial) q in
+        (ap (λ z. z .instant) q, omega arith, omega arith)
+    go ih (inr n) = let q = ih n in (q .0, omega (arith, q .1), omega (arith, q .2))
+
+numbered-sorted : (o : ℤ) (s : ℕ) (ks : List ℕ) → Sorted bySerial (numbered o s ks)
+numbered-sorted o s [] = tt
+numbered-sorted o s (k ∷ ks) = (λ e m. let q = numbered-mem o (suc s) ks e m in lt→ltb s (e .serial) (omega (arith, q .1)), numbered-sorted o (suc s) ks)
+
+-- a clock mark
+module _ (ops : List Operator) (c : Chart 0 ops) (old : List Event) (s : ℕ) (ks : List ℕ) (f o : ℤ) (fo : f ≤ᶻ o) (past : (e : Event) → List·Memᴰ e old → e .instant <ᶻ o) where
+  abbrev now : List Event
+  now = numbered o s ks
+
+  abbrev all : List Event
+  all = old ++ now
+
+  of-now : (k : ℕ) (x : Node Recognition) → nodeEnd trees x ≡ o → List·Memᴰ x (leaves k now) → List·Memᴰ x (leaves k all)
+  of-now k x e m = subst (List·Memᴰ x) (sym (leaves-append k old now)) (Memᴰ·append-right (leaves k old) m)
+
+  in-now : (k : ℕ) (x : Node Recognition) → nodeEnd trees x ≡ o → List·Memᴰ x (leaves k all) → List·Memᴰ x (leaves k now)
+  in-now k x e m = go (List·Memᴰ·append-cases (leaves k old) (subst (List·Memᴰ x) (leaves-append k old now) m))
+    where
+      gone : IsLeaf k old x → ⊥
+      gone q =
+          let a : (q .e) .instant <ᶻ o = past (q .e) (q .there) in
+          let b : nodeEnd trees x ≡ (q .e) .instant = ap (nodeEnd trees) (q .is) in
+          omega (arith, eq-fact (sym b ∙ e))
+
+      go : List·Memᴰ x (leaves k old) ⊎ List·Memᴰ x (leaves k now) → List·Memᴰ x (leaves k now)
+      go (inl h) = absurd (gone (leaves-mem k old x h))
+      go (inr h) = h
+
+  upto : (e : Event) → List·Memᴰ e all → e .instant ≤ᶻ o
+  upto e m = go (List·Memᴰ·append-cases old m)
+    where
+      go : List·Memᴰ e old ⊎ List·Memᴰ e now → e .instant ≤ᶻ o
+      go (inl h) = let l : e .instant <ᶻ o = past e h in omega arith
+      go (inr h) = let q = numbered-mem o s ks e h in omega (arith, eq-fact (q .0))
+
+  after : Lists (Past f o) (extend now (rules (endsAt o) 0 ops) (listing ops all f o)) (recognitions ops all)
+  after = closing ops c f o now all fo (numbered-sorted o s ks) in-now of-now (listing ops all f o) (listing-lists ops all f o)
+
+  pub listing-clock : (t : ℤ) → o <ᶻ t → closeRows o now ops (asRows (listing ops all f o)) ≡ asRows (listing ops all f t)
+  unfolding closeRows
+  listing-clock t lt = extend-writes now (rules (endsAt o) 0 ops) (listing ops all f o) (listing-closed ops all f o) (after .sorted) ∙ ap asRows (lists-same (Past f o) (Due f t) _ _ (recognitions ops all) (recognitions ops all) after (listing-lists ops all f t) (λ u m d. (m, omega arith)) (λ u m d. (m, (d .0, recs-end ops all o upto u m))))
+
+-- with no events there are no recognitions
+empty : (ts : List Recognition) → ((t : Recognition) → List·Memᴰ t ts → ⊥) → ts ≡ []
+empty [] h = refl
+empty (t ∷ ts) h = absurd (h t (List·Memᴰ·head refl))
+
+pub listing-empty : (ops : List Operator) (f o : ℤ) → listing ops [] f o ≡ []
+listing-empty ops f o = empty (listing ops [] f o) (λ t m. recs-all (λ u. ⊥) ops [] (λ n x k h. List·Memᴰ·not-nil h) (λ n a r h. h) (λ n l r h k. h) t (listing-lists ops [] f o .sound t m))

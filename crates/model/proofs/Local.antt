@@ -1,0 +1,74 @@
+-- What an operator makes inside a window of time depends only on the parts and events inside the window.
+use Prim.Native.Nat.{ℕ, suc, _<_}
+use native.Mathlib.Omega.{arith}
+use mathlib.Core.Path.{_≡_, subst}
+use mathlib.Core.Logic.{inl, inr}
+use mathlib.Core.Bool.{_&&_}
+use mathlib.Core.List.{List, [], _∷_, List·Memᴰ}
+use lib.Dec.{T, ltb, ltb→lt}
+use Rattle.interval.specs.Conditions.{isForbidding}
+use Rattle.interval.specs.declared.Edges.{Edges}
+use Rattle.model.specs.Recognitions.{Event, Operator, event, related, or, absence, lasting, Arm, only, Recognition, ofOne, ofTwo, entryOf, startOf, endOf, isLower, areLower}
+use Rattle.model.specs.RowSteps.{Node, leaves}
+use Rattle.model.proofs.Made.{Has, One, Made}
+use Rattle.model.proofs.Trees.{tree, trees}
+use Rattle.model.proofs.Sorted.{T-and}
+
+-- the operands are lower entries
+abbrev pub Lower : ℕ → Operator → Type 0
+Lower n (event k) = Unit {0}
+Lower n (related c a b) = (a < n) × (b < n)
+Lower n (or a b) = (a < n) × (b < n)
+Lower n (absence c a b) = (a < n) × (b < n)
+Lower n (lasting c a d) = a < n
+
+abbrev pub Chart : ℕ → List Operator → Type 0
+Chart n [] = Unit {0}
+Chart n (o ∷ os) = Lower n o × Chart (suc n) os
+
+two-lower : (a b n : ℕ) → T (ltb a n && ltb b n) → (a < n) × (b < n)
+two-lower a b n h = let p = T-and (ltb a n) (ltb b n) h in (ltb→lt a n (p .0), ltb→lt b n (p .1))
+
+lower : (n : ℕ) (op : Operator) → T (isLower n op) → Lower n op
+lower n (event k) h = tt
+lower n (related c a b) h = two-lower a b n h
+lower n (or a b) h = two-lower a b n h
+lower n (absence c a b) h = two-lower a b n h
+lower n (lasting c a d) h = ltb→lt a n h
+
+pub chart-lower : (n : ℕ) (ops : List Operator) → T (areLower n ops) → Chart n ops
+chart-lower n [] h = tt
+chart-lower n (op ∷ ops) h = let p = T-and (isLower n op) (areLower (suc n) ops) h in (lower n op (p .0), chart-lower (suc n) ops (p .1))
+
+-- a set that holds with a recognition its parts and whatever could forbid them
+pub record Window (W : Recognition → Type 0) : Type 0 where
+  pub one : (n : ℕ) (m : Arm) (t : Recognition) → W (ofOne n m t) → W t
+  pub fst : (n : ℕ) (l r : Recognition) → W (ofTwo n l r) → W l
+  pub snd : (n : ℕ) (l r : Recognition) → W (ofTwo n l r) → W r
+  pub bar : (c : Edges) (r s : Recognition) → T (isForbidding c (startOf r) (endOf r) (startOf s) (endOf s)) → W r → W s
+
+module _ {W : Recognition → Type 0} (w : Window W) (n : ℕ) (es es' : List Event) (ts us : List Recognition) (f : (t : Recognition) → entryOf t < n → W t → List·Memᴰ t ts → List·Memᴰ t us) (g : (t : Recognition) → entryOf t < n → W t → List·Memᴰ t us → List·Memᴰ t ts) where
+  moved : {a : ℕ} {r : Recognition} → a < n → W r → Has trees ts a r → Has trees us a r
+  moved {a} {r} l h k =
+      let e : entryOf r ≡ a = k .entry in
+      record { there = f r (omega arith) h (k .there); entry = e }
+
+  back : {a : ℕ} {r : Recognition} → a < n → W r → Has trees us a r → Has trees ts a r
+  back {a} {r} l h k =
+      let e : entryOf r ≡ a = k .entry in
+      record { there = g r (omega arith) h (k .there); entry = e }
+
+  in-one : {m : Arm} {a : ℕ} {x : Node Recognition} → a < n → W (tree n x) → One trees m a ts x → One trees m a us x
+  in-one {m} {a} {x} l h k = record { r = k .r; is = k .is; hasr = moved l (w .one n m (k .r) (subst (λ z. W (tree n z)) (k .is) h)) (k .hasr) }
+
+  pub local : (op : Operator) → Lower n op → (x : Node Recognition) → W (tree n x) → ((k : ℕ) → List·Memᴰ x (leaves k es) → List·Memᴰ x (leaves k es')) → Made trees op es ts x → Made trees op es' us x
+  local (event k) lo x h e m = e k m
+  local (related c a b) lo x h e m =
+      let h' : W (ofTwo n (m .l) (m .r)) = subst (λ z. W (tree n z)) (m .is) h in
+      record { l = m .l; r = m .r; is = m .is; hasl = moved (lo .0) (w .fst n (m .l) (m .r) h') (m .hasl); hasr = moved (lo .1) (w .snd n (m .l) (m .r) h') (m .hasr); ok = m .ok }
+  local (or a b) lo x h e (inl m) = inl (in-one (lo .0) h m)
+  local (or a b) lo x h e (inr m) = inr (in-one (lo .1) h m)
+  local (absence c a b) lo x h e m =
+      let h' : W (m .r) = w .one n only (m .r) (subst (λ z. W (tree n z)) (m .is) h) in
+      record { r = m .r; is = m .is; hasr = moved (lo .0) h' (m .hasr); ok = λ u k t. m .ok u (back (lo .1) (w .bar c (m .r) u t h') k) t }
+  local (lasting c a d) lo x h e m = record { r = m .r; is = m .is; hasr = moved lo (w .one n only (m .r) (subst (λ z. W (tree n z)) (m .is) h)) (m .hasr); ok = m .ok }

@@ -1,0 +1,181 @@
+-- What the watch does on rows: opening, an event, closing an instant, forgetting. Nothing here has to be believed for the reference
+-- model; the theorems say that these steps give the reference model's rows and numbers.
+use Prim.Native.Nat.{ℕ, zero, suc, _-_}
+use mathlib.Core.Bool.{Bool, true, false, cond, not, _||_}
+use mathlib.Core.List.{List, [], _∷_, _++_, map}
+use lib.Dec.{eqb, ltb, leb}
+use lib.IntN.{ℤ, pos, negsuc}
+use lib.ListN.{length, getD, take}
+use lib.Signed.{ltZ, leZ}
+use Rattle.interval.specs.Instants.{isInstant, eqZ, least, greatest}
+use Rattle.interval.specs.Conditions.{isRelated, isForbidding, hasLength}
+use Rattle.interval.specs.declared.Relation.{Relation}
+use Rattle.interval.specs.declared.Edges.{Edges}
+use Rattle.model.specs.Lists.{keep, some, each, numbers}
+use Rattle.model.specs.Recognitions.{Event, Operator, event, related, or, absence, lasting, Arm, only, left, right}
+use Rattle.model.specs.Order.{Row, row, none, leftOf, rightOf}
+use Rattle.model.specs.Reference.{Model, Answer, accepted, refused, firstFloor, Call, isAt, rowsOf}
+
+-- One step of a recognition over parts of any kind, recognitions or row numbers: an event's serial and instant; a part with its arm; two parts.
+pub data Node (A : Type 0) : Type 0 where
+  leaf : ℕ → ℤ → Node A
+  part : Arm → A → Node A
+  pair : A → A → Node A
+
+-- the entry, start and end of a part
+pub record View (A : Type 0) : Type 0 where
+  pub entry : A → ℕ
+  pub start : A → ℤ
+  pub end : A → ℤ
+
+abbrev pub leaves : {A : Type 0} → ℕ → List Event → List (Node A)
+leaves k es = map (λ e. leaf (e .serial) (e .instant)) (keep (λ e. eqb (e .code) k) es)
+
+module _ {A : Type 0} (v : View A) where
+  abbrev pub of : ℕ → List A → List A
+  of a xs = keep (λ x. eqb (v .entry x) a) xs
+
+  abbrev pub fits : Relation → A → A → Bool
+  fits c r s = isRelated c (v .start r) (v .end r) (v .start s) (v .end s)
+
+  abbrev pub forbidden : Edges → List A → A → Bool
+  forbidden c ss r = some (λ s. isForbidding c (v .start r) (v .end r) (v .start s) (v .end s)) ss
+
+  -- what an operator makes of the events and the parts there are, in the order of rows, end and entry aside
+  abbrev pub make : Operator → List Event → List A → List (Node A)
+  make (event k) es xs = leaves k es
+  make (related c a b) es xs = each (λ r. map (pair r) (keep (fits c r) (of b xs))) (of a xs)
+  make (or a b) es xs = map (part left) (of a xs) ++ map (part right) (of b xs)
+  make (absence c a b) es xs = map (part only) (keep (λ r. not (forbidden c (of b xs) r)) (of a xs))
+  make (lasting c a d) es xs = map (part only) (keep (λ r. hasLength c d (v .start r) (v .end r)) (of a xs))
+
+  abbrev pub nodeStart : Node A → ℤ
+  nodeStart (leaf s i) = i
+  nodeStart (part m r) = v .start r
+  nodeStart (pair r s) = least (v .start r) (v .start s)
+
+  abbrev pub nodeEnd : Node A → ℤ
+  nodeEnd (leaf s i) = i
+  nodeEnd (part m r) = v .end r
+  nodeEnd (pair r s) = greatest (v .end r) (v .end s)
+
+-- what an entry's operator makes, as far as its start and end pass the test
+pub record Rule : Type 0 where
+  pub entry : ℕ
+  pub operator : Operator
+  pub test : ℤ → ℤ → Bool
+
+-- a rule for each entry from n on
+abbrev pub rules : (ℤ → ℤ → Bool) → ℕ → List Operator → List Rule
+rules p n [] = []
+rules p n (op ∷ ops) = record { entry = n; operator = op; test = p } ∷ rules p (suc n) ops
+
+-- row i of a table, and a row number seen as a part
+abbrev pub rowAt : List Row → ℕ → Row
+rowAt rs i = getD rs i (row 0 (pos 0) (pos 0) (pos 0) (pos 0))
+
+abbrev pub places : List Row → View ℕ
+places rs = record { entry = λ i. (rowAt rs i) .entry; start = λ i. (rowAt rs i) .start; end = λ i. (rowAt rs i) .end }
+
+abbrev pub nodeRow : List Row → ℕ → Node ℕ → Row
+nodeRow rs n (leaf s i) = row n (pos s) none i i
+nodeRow rs n (part m i) = row n (leftOf m i) (rightOf m i) ((rowAt rs i) .start) ((rowAt rs i) .end)
+nodeRow rs n (pair i j) = row n (pos i) (pos j) (least ((rowAt rs i) .start) ((rowAt rs j) .start)) (greatest ((rowAt rs i) .end) ((rowAt rs j) .end))
+
+-- the rows that a rule derives from those there are; the rules one after another, each over what the earlier ones left
+abbrev pub derivedRows : Rule → List Event → List Row → List Row
+derivedRows j es rs = keep (λ r. j .test (r .start) (r .end)) (map (nodeRow rs (j .entry)) (make (places rs) (j .operator) es (numbers 0 (length rs))))
+
+unfoldable pub extendRows : List Event → List Rule → List Row → List Row
+extendRows es [] rs = rs
+extendRows es (j ∷ js) rs = extendRows es js (rs ++ derivedRows j es rs)
+
+-- Closing the instant o, es being its events: entry by entry, the rows that end at o are appended.
+abbrev pub endsAt : ℤ → ℤ → ℤ → Bool
+endsAt o s e = eqZ e o
+
+unfoldable pub closeRows : ℤ → List Event → List Operator → List Row → List Row
+closeRows o es chart rs = extendRows es (rules (endsAt o) 0 chart) rs
+
+-- Forgetting at f: the rows that start at f or later stay in their order, and their references are renumbered.
+abbrev pub isLate : ℤ → Row → Bool
+isLate f r = leZ f (r .start)
+
+-- where row i goes: as many rows stay before it
+abbrev pub moved : ℤ → List Row → ℕ → ℕ
+moved f rs i = length (keep (isLate f) (take i rs))
+
+abbrev pub renumber : (ℕ → ℕ) → ℤ → ℤ
+renumber g (pos i) = pos (g i)
+renumber g (negsuc i) = negsuc i
+
+-- whether entry n is an event's: the left number of its rows is a serial and no reference
+abbrev pub isEvent : Operator → Bool
+isEvent (event k) = true
+isEvent (related c a b) = false
+isEvent (or a b) = false
+isEvent (absence c a b) = false
+isEvent (lasting c a d) = false
+
+abbrev pub isEventAt : List Operator → ℕ → Bool
+isEventAt [] n = false
+isEventAt (op ∷ ops) zero = isEvent op
+isEventAt (op ∷ ops) (suc n) = isEventAt ops n
+
+abbrev pub renumbered : List Operator → ℤ → List Row → Row → Row
+renumbered chart f rs r = cond (isEventAt chart (r .entry)) r (row (r .entry) (renumber (moved f rs) (r .left)) (renumber (moved f rs) (r .right)) (r .start) (r .end))
+
+unfoldable pub forgetRows : List Operator → ℤ → List Row → List Row
+forgetRows chart f rs = map (renumbered chart f rs) (keep (isLate f) rs)
+
+-- "A watch has an open instant, a floor, a count of events, a count of rows and the events of the open instant": the codes of
+-- these, and the rows themselves
+pub record Watch : Type 0 where
+  pub openInstant : ℤ
+  pub floor : ℤ
+  pub count : ℕ
+  pub pending : List ℕ
+  pub rows : List Row
+
+abbrev pub watch : ℤ → ℤ → ℕ → List ℕ → List Row → Watch
+watch o f n ks rs = record { openInstant = o; floor = f; count = n; pending = ks; rows = rs }
+
+-- events of these codes at the instant o, the first with serial s
+abbrev pub numbered : ℤ → ℕ → List ℕ → List Event
+numbered o s [] = []
+numbered o s (k ∷ ks) = record { serial = s; code = k; instant = o } ∷ numbered o (suc s) ks
+
+abbrev pub pendingEvents : Watch → List Event
+pendingEvents w = numbered (w .openInstant) (suc (w .count - length (w .pending))) (w .pending)
+
+abbrev pub closedRows : List Operator → Watch → List Row
+closedRows chart w = closeRows (w .openInstant) (pendingEvents w) chart (w .rows)
+
+unfoldable pub watchOpening : ℤ → Answer Watch
+watchOpening o = cond (isInstant o) (accepted (watch o firstFloor 0 [] [])) (refused 8 (watch (pos 0) firstFloor 0 [] []))
+
+unfoldable pub watchEvent : Watch → ℕ → Answer Watch
+watchEvent w k =
+    cond (leb 1000000 (w .count)) (refused 10 w)
+    (cond (leb 64 (length (w .pending))) (refused 9 w)
+    (accepted (watch (w .openInstant) (w .floor) (suc (w .count)) (w .pending ++ k ∷ []) (w .rows))))
+
+unfoldable pub watchClock : List Operator → ℕ → Watch → ℤ → Answer Watch
+watchClock chart capacity w t =
+    cond (not (isInstant t) || leZ t (w .openInstant)) (refused 8 w)
+    (cond (ltb capacity (length (closedRows chart w))) (refused 12 w)
+    (accepted (watch t (w .floor) (w .count) [] (closedRows chart w))))
+
+unfoldable pub watchForget : List Operator → Watch → ℤ → Answer Watch
+watchForget chart w f =
+    cond (ltZ f (w .floor) || (ltZ (w .openInstant) f || not (isInstant f))) (refused 11 w)
+    (accepted (watch (w .openInstant) f (w .count) (w .pending) (forgetRows chart f (w .rows))))
+
+abbrev pub watchStep : List Operator → ℕ → Watch → Call → Answer Watch
+watchStep chart capacity w (Call.event k) = watchEvent w k
+watchStep chart capacity w (Call.clock t) = watchClock chart capacity w t
+watchStep chart capacity w (Call.forget f) = watchForget chart w f
+
+-- the watch that shows a state of the reference model
+unfoldable pub shown : List Operator → Model → Watch
+shown chart m = watch (m .openInstant) (m .floor) (length (m .events)) (map (λ e. e .code) (keep (isAt (m .openInstant)) (m .events))) (rowsOf chart m)

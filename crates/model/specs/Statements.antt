@@ -1,0 +1,122 @@
+-- What the theorems say; proofs/Theorems.antt proves each statement. No proof stands here. `T b` says that the test b is true.
+use Prim.Native.Nat.{ℕ, zero, suc, _<_}
+use mathlib.Core.Path.{_≡_}
+use mathlib.Core.Logic.{_⊎_, _↔_}
+use mathlib.Core.Bool.{Bool}
+use mathlib.Core.List.{List, [], _∷_, _++_, map, List·Memᴰ}
+use lib.Dec.{T}
+use lib.IntN.{ℤ, pos}
+use lib.ListN.{length}
+use lib.Signed.{ltZ, leZ}
+use Rattle.model.specs.Lists.{keep, numbers}
+use Rattle.model.specs.Recognitions.{Event, Operator, event, related, or, absence, lasting, areLower, only, left, right, Recognition, ofEvent, ofOne, ofTwo, entryOf, startOf, endOf, areRelated, forbids, isLasting}
+use Rattle.model.specs.Order.{before, listing, Row, row, none, leftOf, rightOf, asRows}
+use Rattle.model.specs.Reference.{Model, Call, opening, step, run, numbersOf}
+use Rattle.model.specs.RowSteps.{rowAt, watchOpening, watchStep, shown}
+use Rattle.model.specs.Joint.{isInJoint}
+
+-- x stands in the list
+infix 50 _∈_
+abbrev pub _∈_ : {A : Type 0} → A → List A → Type 0
+x ∈ xs = List·Memᴰ x xs
+
+-- each element is before every later one
+module _ {A : Type 0} (before : A → A → Bool) where
+  abbrev pub Sorted : List A → Type 0
+  Sorted [] = Unit {0}
+  Sorted (x ∷ xs) = ((y : A) → y ∈ xs → T (before x y)) × Sorted xs
+
+-- op is the operator of entry n
+abbrev pub OperatorAt : List Operator → ℕ → Operator → Type 0
+OperatorAt [] n op = ⊥
+OperatorAt (o ∷ os) zero op = o ≡ op
+OperatorAt (o ∷ os) (suc n) op = OperatorAt os n op
+
+-- r is one of R, and of entry a
+abbrev pub Of : (Recognition → Type 0) → ℕ → Recognition → Type 0
+Of R a r = R r × (entryOf r ≡ a)
+
+-- What an operator's line of the table asks of a tree t, R being the recognitions; said without lists of recognitions.
+abbrev pub Asks : Operator → List Event → (Recognition → Type 0) → Recognition → Type 0
+Asks (event k) es R t = (e : Event) × e ∈ es × (e .code ≡ k) × (t ≡ ofEvent (entryOf t) (e .serial) (e .instant))
+Asks (related c a b) es R t = (r : Recognition) × (s : Recognition) × Of R a r × Of R b s × T (areRelated c r s) × (t ≡ ofTwo (entryOf t) r s)
+Asks (or a b) es R t = ((r : Recognition) × Of R a r × (t ≡ ofOne (entryOf t) left r)) ⊎ ((s : Recognition) × Of R b s × (t ≡ ofOne (entryOf t) right s))
+Asks (absence c a b) es R t = (r : Recognition) × Of R a r × ((s : Recognition) → Of R b s → T (forbids c s r) → ⊥) × (t ≡ ofOne (entryOf t) only r)
+Asks (lasting c a d) es R t = (r : Recognition) × Of R a r × T (isLasting c d r) × (t ≡ ofOne (entryOf t) only r)
+
+-- what the line of its own entry asks of t
+abbrev pub Line : List Operator → List Event → (Recognition → Type 0) → Recognition → Type 0
+Line chart es R t = (op : Operator) × OperatorAt chart (entryOf t) op × Asks op es R t
+
+-- A recognition, by the table's line for its entry, of recognitions; m bounds how deep the parts go. Operands are lower entries, so
+-- that the number of entries bounds it.
+abbrev pub IsWithin : ℕ → List Operator → List Event → Recognition → Type 0
+IsWithin zero chart es t = ⊥
+IsWithin (suc m) chart es t = Line chart es (IsWithin m chart es) t
+
+abbrev pub IsRecognition : List Operator → List Event → Recognition → Type 0
+IsRecognition chart es t = IsWithin (length chart) chart es t
+
+-- The depth aside: a tree is a recognition exactly when the line of its entry asks it of recognitions ...
+abbrev pub RecognitionHolds : Type 0
+RecognitionHolds = (chart : List Operator) → T (areLower 0 chart) → (es : List Event) (t : Recognition) → IsRecognition chart es t ↔ Line chart es (IsRecognition chart es) t
+
+-- ... and no other set of trees has this property.
+abbrev pub RecognitionUnique : Type 1
+RecognitionUnique = (chart : List Operator) → T (areLower 0 chart) → (es : List Event) (R : Recognition → Type 0) → ((t : Recognition) → R t ↔ Line chart es R t) → (t : Recognition) → R t ↔ IsRecognition chart es t
+
+-- The order of rows is a strict order of all trees, any two of which it tells apart.
+pub record StrictOrder (before : Recognition → Recognition → Bool) : Type 0 where
+  pub irreflexive : (t : Recognition) → T (before t t) → ⊥
+  pub transitive : (t u v : Recognition) → T (before t u) → T (before u v) → T (before t v)
+  pub total : (t u : Recognition) → T (before t u) ⊎ (t ≡ u) ⊎ T (before u t)
+
+-- What a listing is, said without an algorithm: strictly increasing in the order of rows, and a tree is in it exactly when it is a
+-- recognition that starts at the floor or later and ends before the open instant. So each once, none besides.
+pub record IsListing (chart : List Operator) (es : List Event) (floor openInstant : ℤ) (ts : List Recognition) : Type 0 where
+  pub increasing : Sorted before ts
+  pub members : (t : Recognition) → (t ∈ ts) ↔ (IsRecognition chart es t × T (leZ floor (startOf t)) × T (ltZ (endOf t) openInstant))
+
+abbrev pub ListingHolds : Type 0
+ListingHolds = (chart : List Operator) → T (areLower 0 chart) → (es : List Event) (floor openInstant : ℤ) → IsListing chart es floor openInstant (listing chart es floor openInstant)
+
+abbrev pub ListingUnique : Type 0
+ListingUnique = (chart : List Operator) (es : List Event) (floor openInstant : ℤ) (ts us : List Recognition) → IsListing chart es floor openInstant ts → IsListing chart es floor openInstant us → ts ≡ us
+
+-- "The events of a recognition that starts at the floor or later are all at the floor or later, and so are those that could forbid it":
+-- leaving out the events before the floor leaves the listing as it is. Events keep their serials.
+abbrev pub FloorHolds : Type 0
+FloorHolds = (chart : List Operator) → T (areLower 0 chart) → (es : List Event) (floor openInstant : ℤ) → listing chart (keep (λ e. leZ floor (e .instant)) es) floor openInstant ≡ listing chart es floor openInstant
+
+-- An event added at the open instant, or later, changes no recognition that ends before it.
+abbrev pub LaterEventHolds : Type 0
+LaterEventHolds = (chart : List Operator) → T (areLower 0 chart) → (es : List Event) (e : Event) (openInstant : ℤ) → T (leZ openInstant (e .instant)) → (t : Recognition) → T (ltZ (endOf t) openInstant) → IsRecognition chart (es ++ e ∷ []) t ↔ IsRecognition chart es t
+
+-- row i, its references followed down, gives the recognition's own tree; "a reference is the operand's place in that order, always an earlier one"
+unfoldable pub Reads : List Row → ℕ → Recognition → Type 0
+Reads rs i (ofEvent n s x) = rowAt rs i ≡ row n (pos s) none x x
+Reads rs i (ofOne n m r) = (j : ℕ) × (j < i) × (rowAt rs i ≡ row n (leftOf m j) (rightOf m j) (startOf r) (endOf r)) × Reads rs j r
+Reads rs i (ofTwo n r s) = (j : ℕ) × (k : ℕ) × (j < i) × (k < i) × (rowAt rs i ≡ row n (pos j) (pos k) (startOf (ofTwo n r s)) (endOf (ofTwo n r s))) × Reads rs j r × Reads rs k s
+
+-- The row of t, which stands where as many recognitions stand before it, reads t.
+abbrev pub ReferencesHold : Type 0
+ReferencesHold = (chart : List Operator) → T (areLower 0 chart) → (es : List Event) (floor openInstant : ℤ) (us vs : List Recognition) (t : Recognition) → listing chart es floor openInstant ≡ us ++ t ∷ vs → Reads (asRows (listing chart es floor openInstant)) (length us) t
+
+-- "a list of events, the nth with serial n", after every opening and list of calls
+abbrev pub SerialsHold : Type 0
+SerialsHold = (chart : List Operator) → T (areLower 0 chart) → (capacity : ℕ) (o : ℤ) (calls : List Call) →
+    let m : Model = run (step chart capacity) ((opening o) .state) calls in
+    map (λ e. e .serial) (m .events) ≡ numbers 1 (length (m .events))
+
+-- After every opening and list of calls the watch on rows shows the reference model, and each call was answered with its number.
+pub record History (chart : List Operator) (capacity : ℕ) (o : ℤ) (calls : List Call) : Type 0 where
+  pub opened : (watchOpening o) .number ≡ (opening o) .number
+  pub state : run (watchStep chart capacity) ((watchOpening o) .state) calls ≡ shown chart (run (step chart capacity) ((opening o) .state) calls)
+  pub answers : numbersOf (watchStep chart capacity) ((watchOpening o) .state) calls ≡ numbersOf (step chart capacity) ((opening o) .state) calls
+
+abbrev pub HistoryHolds : Type 0
+HistoryHolds = (chart : List Operator) → T (areLower 0 chart) → (capacity : ℕ) (o : ℤ) (calls : List Call) → History chart capacity o calls
+
+-- The watch on rows of every history is in joint.
+abbrev pub JointHolds : Type 0
+JointHolds = (chart : List Operator) → T (areLower 0 chart) → (capacity : ℕ) (o : ℤ) (calls : List Call) → T (isInJoint chart capacity (run (watchStep chart capacity) ((watchOpening o) .state) calls))

@@ -1,0 +1,1 @@
+// The reference model: definitions in `specs/`, theorems in `proofs/`. This crate has no code.

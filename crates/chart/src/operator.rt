@@ -5,7 +5,7 @@ ghost use lib.ListN.{getD};
 ghost use lib.Dec.{ltb};
 ghost use mathlib.Core.Bool.{_&&_};
 ghost use mathlib.Core.List.{[]};
-ghost use Rattle.chart.specs.Operators.{words, sameBytes, operatorOf, edgesOf, relationOf, lengthTestOf, kindOf, inRange, areLower};
+ghost use Rattle.chart.specs.Operators.{words, paddedWords, wordLengths, sameBytes, operatorOf, edgesOf, relationOf, lengthTestOf, kindOf, inRange, areLower};
 use interval::Edges;
 use interval::LengthTest;
 use interval::Relation;
@@ -30,9 +30,11 @@ const LENGTHS: [usize; 17] = [5, 3, 2, 3, 3, 3, 3, 3, 5, 8, 6, 6, 8, 6, 5, 6, 7]
 pub fn operator_of(s: &[u8]) -> u8
     ensures { λ r. ⌜ r ≡ operatorOf (now (s .entry)) ⌝ }
 {
+    let letters = WORDS;
+    let sizes = LENGTHS;
     let mut i: u8 = 0;
     while i < 17 {
-        if is_word(s, i as usize) {
+        if is_word(s, i as usize, &letters, &sizes) {
             return i;
         }
         i += 1;
@@ -40,17 +42,18 @@ pub fn operator_of(s: &[u8]) -> u8
     i
 }
 
-fn is_word(s: &[u8], i: usize) -> bool
-    requires { ⌜ i < 17 ⌝ }
+// Whether s is the word of code i. The tables are lent, since a constant is laid out anew wherever it is indexed.
+fn is_word(s: &[u8], i: usize, letters: &[u8; 136], sizes: &[usize; 17]) -> bool
+    requires { ⌜ (i < 17) × (now letters ≡ paddedWords) × (now sizes ≡ wordLengths) ⌝ }
     ensures { λ r. ⌜ r ≡ sameBytes (now (s .entry)) (getD words i []) ⌝ }
 {
-    let n = LENGTHS[i];
+    let n = sizes[i];
     if s.len() != n {
         return false;
     }
     let mut k: usize = 0;
     while k < n {
-        if s[k] != WORDS[i * 8 + k] {
+        if s[k] != letters[i * 8 + k] {
             return false;
         }
         k += 1;

@@ -18,3 +18,4 @@ pub mod Meaning
 pub mod Capacity
 pub mod Theorems
 pub mod Examples
+pub mod Range

@@ -8,14 +8,14 @@ use mathlib.Core.List.{List, [], _∷_, _++_, List·Memᴰ, List·Memᴰ·head, 
 use lib.Dec.{T, lt→ltb}
 use lib.ListN.{length}
 use lib.IntN.{ℤ}
-use Rattle.interval.proofs.Signed.{_≤ᶻ_, _<ᶻ_, eq-fact, leZ→, →leZ, least-is, greatest-is, greatest-most}
+use Rattle.interval.proofs.Signed.{_≤ᶻ_, _<ᶻ_, eq-fact, leZ→, →leZ, least-is, greatest-is, least-most, greatest-most}
 use Rattle.model.specs.Lists.{keep}
 use Rattle.model.specs.Recognitions.{Event, Operator, event, related, or, absence, lasting, Arm, Recognition, ofEvent, ofOne, ofTwo, entryOf, startOf, endOf, recognitions}
 use Rattle.model.specs.Order.{before, listing, asRows}
-use Rattle.model.specs.RowSteps.{Node, leaves, nodeEnd, rules, endsAt, closeRows, isEvent, isEventAt, forgetRows, numbered}
+use Rattle.model.specs.RowSteps.{Node, leaves, nodeStart, nodeEnd, rules, endsAt, closeRows, isEvent, isEventAt, forgetRows, numbered}
 use Rattle.model.specs.Statements.{Sorted, OperatorAt}
 use Rattle.model.proofs.Sorted.{sorted-keep, keep-mem, mem-keep}
-use Rattle.model.proofs.Trees.{tree, trees, tree-end}
+use Rattle.model.proofs.Trees.{tree, trees, tree-end, tree-start}
 use Rattle.model.proofs.Made.{Made}
 use Rattle.model.proofs.Local.{Chart}
 use Rattle.model.proofs.Extend.{extend, always, recognitions-extend, extend-all, recs-from}
@@ -32,6 +32,10 @@ recs-all P ops es a b c t m = extend-all P es a b c (rules always 0 ops) [] (λ 
 -- no recognition ends after the last event
 pub recs-end : (ops : List Operator) (es : List Event) (o : ℤ) → ((e : Event) → List·Memᴰ e es → e .instant ≤ᶻ o) → (t : Recognition) → List·Memᴰ t (recognitions ops es) → endOf t ≤ᶻ o
 recs-end ops es o h = recs-all (λ t. endOf t ≤ᶻ o) ops es (λ n x k m. let q = leaves-mem k es x m in let e : endOf (tree n x) ≡ (q .e) .instant = tree-end n x ∙ ap (nodeEnd trees) (q .is) in let l : (q .e) .instant ≤ᶻ o = h (q .e) (q .there) in omega (arith, eq-fact e)) (λ n m r l. l) (λ n l r p q. greatest-most (λ z. z ≤ᶻ o) (endOf l) (endOf r) p q)
+
+-- none starts before the first
+pub recs-start : (ops : List Operator) (es : List Event) (f : ℤ) → ((e : Event) → List·Memᴰ e es → f ≤ᶻ e .instant) → (t : Recognition) → List·Memᴰ t (recognitions ops es) → f ≤ᶻ startOf t
+recs-start ops es f h = recs-all (λ t. f ≤ᶻ startOf t) ops es (λ n x k m. let q = leaves-mem k es x m in let e : startOf (tree n x) ≡ (q .e) .instant = tree-start n x ∙ ap (nodeStart trees) (q .is) in let l : f ≤ᶻ (q .e) .instant = h (q .e) (q .there) in omega (arith, eq-fact e)) (λ n m r l. l) (λ n l r p q. least-most (λ z. f ≤ᶻ z) (startOf l) (startOf r) p q)
 
 -- leaves stand at events' entries
 made-shape : (all : List Operator) (n : ℕ) (op : Operator) (es : List Event) (ts : List Recognition) (x : Node Recognition) → isEventAt all n ≡ isEvent op → Made trees op es ts x → Shape all (tree n x)

@@ -1,0 +1,341 @@
+-- What each operator's function appends is what the reference model's step derives: the rows that the searches leave out make nothing
+-- that ends at the instant.
+use Prim.Native.Nat.{ℕ, zero, suc, _+_, _-_, _≤_, _<_}
+use native.Mathlib.Omega.{arith}
+use native.Mathlib.Nat.{zero-add, sub-zero}
+use mathlib.Core.Path.{_≡_, refl, sym, ap, ap₂, _∙_}
+use mathlib.Core.Logic.{_⊎_, inl, inr}
+use mathlib.Core.Bool.{Bool, true, false, cond, not, _&&_, _||_}
+use mathlib.Core.List.{List, [], _++_, map, map-append}
+use borrow.Author.Tests.{leb-true, leb-false}
+use lib.Dec.{eqb, leb}
+use lib.IntN.{ℤ, pos, negsuc, natAbs}
+use lib.ListN.{length, getD, take}
+use lib.Seq.{length-take-le, getD-take}
+use lib.Signed.{leZ}
+use Rattle.interval.specs.Instants.{eqZ, least, greatest}
+use Rattle.interval.specs.Conditions.{isRelated, isForbidding, hasLength}
+use Rattle.interval.specs.declared.Relation.{Relation}
+use Rattle.interval.specs.declared.Relation.the-variants.{Seq, And, Meets, Overlaps, Starts, During, Finishes, Equals}
+use Rattle.interval.specs.declared.Edges.{Edges}
+use Rattle.interval.specs.declared.LengthTest.{LengthTest}
+use Rattle.interval.proofs.Signed.{_≤ᶻ_, _<ᶻ_, never, and-first, and-second, eq-true, eq-same, eq-fact, eq-told, le-false, greatest-is, greatest-most, antisym}
+use Rattle.interval.proofs.Laws.{Ends, endingOf, related-ends, forbidding-inside}
+use Rattle.model.specs.Lists.{keep, some, each, numbers}
+use Rattle.model.specs.Recognitions.{Event, Operator, event, related, or, absence, lasting, Arm, only, left, right}
+use Rattle.model.specs.Order.{Row, row, none}
+use Rattle.model.specs.RowSteps.{Node, leaves, leaf, part, pair, of, fits, forbidden, make, rowAt, places, nodeRow, derivedRows, endsAt, numbered}
+use Rattle.model.proofs.Sorted.{keep-append}
+use Rattle.table.specs.Table.{cell, rowsIn}
+use Rattle.table.proofs.Rows.{length-rows, row-at}
+use Rattle.closing.specs.Added.{span, when, eventRow, eventRows, partRow, armRow, armRows, orRows, lengthRow, lengthRows, forbids, isWithin, isForbidden, absenceRow, absenceRows, leftMayBeOld, rightMayBeOld, pairRow, rightFrom, pairsWith, hasRow, leftFrom, pairRows, addedRows}
+use Rattle.closing.proofs.Spans.{each-same, none-at, some-same, each-numbered, some-snoc, some-none, each-from, each-nothing, span-same, keep-keep, some-keep, kept-ones, kept-each}
+
+-- a table while the instant o is closed: m rows from before, which end before o; the others of its n rows end at o
+pub record Grown (o : ℤ) (m n : ℕ) (t : List ℤ) : Type 0 where
+  pub few : m ≤ n
+  pub old : (i : ℕ) → i < m → cell t i 4 <ᶻ o
+  pub new : (i : ℕ) → m ≤ i → i < n → cell t i 4 ≡ o
+  pub proper : (i : ℕ) → i < n → cell t i 3 ≤ᶻ cell t i 4
+  pub ordered : (i j : ℕ) → i ≤ j → j < m → cell t i 4 ≤ᶻ cell t j 4
+  pub above : (i : ℕ) → i < n → leZ (pos 0) (cell t i 0) ≡ true
+
+-- an entry's number, read as it stands
+eq-entry : (z : ℤ) (a : ℕ) → leZ (pos 0) z ≡ true → eqb (natAbs z) a ≡ eqZ z (pos a)
+eq-entry (pos z) a h = refl
+eq-entry (negsuc z) a h = never h
+
+not-at : (a o : ℤ) → a <ᶻ o → eqZ a o ≡ false
+not-at a o h = go (eqZ a o) refl
+  where
+    go : (b : Bool) → eqZ a o ≡ b → b ≡ false
+    go true e = absurd (omega (arith, eq-told a o e))
+    go false e = refl
+
+-- which of two related rows end at the instant at which the pair ends
+record Told (c : Relation) (re se o : ℤ) : Type 0 where
+  left : leftMayBeOld c ≡ false → re ≡ o
+  right : rightMayBeOld c ≡ false → se ≡ o
+  one : (re ≡ o) ⊎ (se ≡ o)
+
+told : (c : Relation) (re se w o : ℤ) → Ends (endingOf c) re se w → w ≡ o → Told c re se o
+unfolding leftMayBeOld rightMayBeOld
+told Seq re se w o h e = record { left = λ z. never (sym z); right = λ z. h ∙ e; one = inr (h ∙ e) }
+told And re se w o (inl h) e = record { left = λ z. never (sym z); right = λ z. never (sym z); one = inl (h ∙ e) }
+told And re se w o (inr h) e = record { left = λ z. never (sym z); right = λ z. never (sym z); one = inr (h ∙ e) }
+told Meets re se w o h e = record { left = λ z. never (sym z); right = λ z. h ∙ e; one = inr (h ∙ e) }
+told Overlaps re se w o h e = record { left = λ z. never (sym z); right = λ z. h ∙ e; one = inr (h ∙ e) }
+told Starts re se w o h e = record { left = λ z. never (sym z); right = λ z. h ∙ e; one = inr (h ∙ e) }
+told During re se w o h e = record { left = λ z. never (sym z); right = λ z. h ∙ e; one = inr (h ∙ e) }
+told Finishes re se w o h e = record { left = λ z. h .0 ∙ e; right = λ z. h .1 ∙ e; one = inr (h .1 ∙ e) }
+told Equals re se w o h e = record { left = λ z. h .0 ∙ e; right = λ z. h .1 ∙ e; one = inr (h .1 ∙ e) }
+
+module _ (o : ℤ) (m n : ℕ) (t : List ℤ) (g : Grown o m n t) (entry : ℕ) where
+  -- no row ends later than the instant
+  ends : (i : ℕ) → i < n → cell t i 4 ≤ᶻ o
+  ends i h = go (leb m i) refl
+    where
+      go : (b : Bool) → leb m i ≡ b → cell t i 4 ≤ᶻ o
+      go true e = omega (arith, eq-fact (g .new i (leb-true m i e) h))
+      go false e = omega (arith, g .old i (leb-false m i e))
+
+  -- the rows that refer to one row alone, as far as it passes a test
+  module _ (side : Arm) (q q' : ℕ → Bool) (same : (i : ℕ) → i < n → q i ≡ q' i) where
+    abbrev one : ℕ → List Row
+    one i = cond (q i) (when (eqZ ((nodeRow (rowsIn n t) entry (part side i)) .end) o) (nodeRow (rowsIn n t) entry (part side i))) []
+
+    one-is : (i : ℕ) → i < n → one i ≡ cond (q' i) (when (eqZ (cell t i 4) o) (partRow side entry t i)) []
+    unfolding partRow
+    one-is i h = rw (same i h, row-at n i t h)
+
+    none-old : (i : ℕ) → i < m → one i ≡ []
+    none-old i h =
+        one-is i (omega (arith, g .few)) ∙ rw (not-at (cell t i 4) o (g .old i h)) (go (q' i))
+      where
+        go : (b : Bool) → _≡_ {A = List Row} (cond b [] []) []
+        go true = refl
+        go false = refl
+
+    parts : keep (λ r. endsAt o (r .start) (r .end)) (map (nodeRow (rowsIn n t) entry) (map (part side) (keep q (numbers 0 (length (rowsIn n t)))))) ≡ each (λ i. when (q' i) (partRow side entry t i)) (span m n)
+    parts =
+        ap (λ k. keep (λ r. endsAt o (r .start) (r .end)) (map (nodeRow (rowsIn n t) entry) (map (part side) (keep q (numbers 0 k))))) (length-rows n t)
+        ∙ kept-ones (λ r. endsAt o (r .start) (r .end)) (nodeRow (rowsIn n t) entry) (part side) q (numbers 0 n)
+        ∙ each-from one m n (g .few) none-old
+        ∙ span-same one (λ i. when (q' i) (partRow side entry t i)) m n (λ i p h. one-is i h ∙ rw (g .new i p h, eq-same o))
+
+  -- whether row i is one of entry a
+  of-entry : (a i : ℕ) → i < n → eqb ((rowAt (rowsIn n t) i) .entry) a ≡ eqZ (cell t i 0) (pos a)
+  of-entry a i h = rw (row-at n i t h) (eq-entry (cell t i 0) a (g .above i h))
+
+  abbrev derived : List (Node ℕ) → List Row
+  derived xs = keep (λ r. endsAt o (r .start) (r .end)) (map (nodeRow (rowsIn n t) entry) xs)
+
+  arm-derived : (side : Arm) (a : ℕ) → derived (map (part side) (of (places (rowsIn n t)) a (numbers 0 (length (rowsIn n t))))) ≡ armRows side entry (pos a) m n t
+  unfolding armRows armRow
+  arm-derived side a = parts side (λ i. eqb ((rowAt (rowsIn n t) i) .entry) a) (λ i. eqZ (cell t i 0) (pos a)) (of-entry a)
+
+  or-derived : (a b : ℕ) → derived (map (part left) (of (places (rowsIn n t)) a (numbers 0 (length (rowsIn n t)))) ++ map (part right) (of (places (rowsIn n t)) b (numbers 0 (length (rowsIn n t))))) ≡ orRows entry (pos a) (pos b) m n t
+  unfolding orRows
+  or-derived a b =
+      let xs = map (part left) (of (places (rowsIn n t)) a (numbers 0 (length (rowsIn n t)))) in
+      let ys = map (part right) (of (places (rowsIn n t)) b (numbers 0 (length (rowsIn n t)))) in
+      ap (keep (λ r. endsAt o (r .start) (r .end))) (map-append (nodeRow (rowsIn n t) entry) xs ys)
+      ∙ keep-append (λ r. endsAt o (r .start) (r .end)) (map (nodeRow (rowsIn n t) entry) xs) (map (nodeRow (rowsIn n t) entry) ys)
+      ∙ ap₂ _++_ (arm-derived left a) (arm-derived right b)
+
+  length-derived : (c : LengthTest) (a d : ℕ) → derived (make (places (rowsIn n t)) (lasting c a d) [] (numbers 0 (length (rowsIn n t)))) ≡ lengthRows c d entry (pos a) m n t
+  unfolding lengthRows lengthRow partRow
+  length-derived c a d =
+      let q : ℕ → Bool = λ i. eqb ((rowAt (rowsIn n t) i) .entry) a in
+      let p : ℕ → Bool = λ i. hasLength c d ((rowAt (rowsIn n t) i) .start) ((rowAt (rowsIn n t) i) .end) in
+      ap (λ l. derived (map (part only) l)) (keep-keep p q (numbers 0 (length (rowsIn n t))))
+      ∙ parts only (λ i. q i && p i) (λ i. eqZ (cell t i 0) (pos a) && hasLength c d (cell t i 3) (cell t i 4)) (λ i h. ap₂ _&&_ (of-entry a i h) (rw (row-at n i t h)))
+
+  -- the backward search: the rows that it does not look at forbid nothing
+  module _ (e : Edges) (b r : ℕ) (hr : r < n) where
+    forbids-at : ℕ → Bool
+    forbids-at j = forbids e (pos b) (cell t r 3) (cell t r 4) t j
+
+    forbids-late : (j : ℕ) → j < n → forbids-at j ≡ true → cell t r 3 ≤ᶻ cell t j 4
+    unfolding forbids-at forbids
+    forbids-late j h p =
+        let w = forbidding-inside e (cell t r 3) (cell t r 4) (cell t j 3) (cell t j 4) (and-second (eqZ (cell t j 0) (pos b)) _ p) in
+        omega (arith, w .start, g .proper j h)
+
+    ends-ordered : (i j : ℕ) → i ≤ j → j < n → cell t i 4 ≤ᶻ cell t j 4
+    ends-ordered i j h k = go (leb m j) refl
+      where
+        go : (d : Bool) → leb m j ≡ d → cell t i 4 ≤ᶻ cell t j 4
+        go true p = omega (arith, eq-fact (g .new j (leb-true m j p) k), ends i (omega arith))
+        go false p = g .ordered i j h (leb-false m j p)
+
+    not-forbidding : (i k : ℕ) → i ≤ k → k < n → leZ (cell t r 3) (cell t k 4) ≡ false → forbids-at i ≡ false
+    not-forbidding i k h q w = go (forbids-at i) refl
+      where
+        go : (d : Bool) → forbids-at i ≡ d → d ≡ false
+        go true p = absurd (omega (arith, forbids-late i (omega arith) p, ends-ordered i k h q, le-false (cell t r 3) (cell t k 4) w))
+        go false p = refl
+
+    search-whole : (k : ℕ) → k ≤ n → isForbidden e (pos b) (cell t r 3) (cell t r 4) t k ≡ some forbids-at (numbers 0 k)
+    unfolding isForbidden isWithin forbids-at
+    search-whole zero h = refl
+    search-whole (suc k) h = go (leZ (cell t r 3) (cell t k 4)) refl (search-whole k (omega arith)) ∙ sym (some-snoc forbids-at 0 k ∙ rw (zero-add k))
+      where
+        go : (d : Bool) → leZ (cell t r 3) (cell t k 4) ≡ d → isForbidden e (pos b) (cell t r 3) (cell t r 4) t k ≡ some forbids-at (numbers 0 k) → (d && (forbids-at k || isForbidden e (pos b) (cell t r 3) (cell t r 4) t k)) ≡ (forbids-at k || some forbids-at (numbers 0 k))
+        go true p f = rw f
+        go false p f = rw (not-forbidding k k (omega arith) (omega arith) p) (sym (some-none forbids-at 0 k (λ i a z. not-forbidding i k (omega arith) (omega arith) p)))
+
+    forbidden-is : forbidden (places (rowsIn n t)) e (of (places (rowsIn n t)) b (numbers 0 (length (rowsIn n t)))) r ≡ isForbidden e (pos b) (cell t r 3) (cell t r 4) t n
+    unfolding forbids-at forbids
+    forbidden-is =
+        let v = places (rowsIn n t) in
+        let p : ℕ → Bool = λ s. isForbidding e (v .start r) (v .end r) (v .start s) (v .end s) in
+        let q : ℕ → Bool = λ s. eqb (v .entry s) b in
+        some-keep p q (numbers 0 (length (rowsIn n t)))
+        ∙ ap (λ k. some (λ s. q s && p s) (numbers 0 k)) (length-rows n t)
+        ∙ some-same (λ s. q s && p s) forbids-at 0 n (λ s l h. ap₂ _&&_ (of-entry b s (omega arith)) (rw (row-at n r t hr, row-at n s t (omega arith))))
+        ∙ sym (search-whole n (omega arith))
+
+  absence-derived : (e : Edges) (a b : ℕ) → derived (make (places (rowsIn n t)) (absence e a b) [] (numbers 0 (length (rowsIn n t)))) ≡ absenceRows e entry (pos a) (pos b) m n t
+  unfolding absenceRows absenceRow partRow
+  absence-derived e a b =
+      let v = places (rowsIn n t) in
+      let xs = numbers 0 (length (rowsIn n t)) in
+      let q : ℕ → Bool = λ i. eqb (v .entry i) a in
+      let p : ℕ → Bool = λ i. not (forbidden v e (of v b xs) i) in
+      ap (λ l. derived (map (part only) l)) (keep-keep p q xs)
+      ∙ parts only (λ i. q i && p i) (λ i. eqZ (cell t i 0) (pos a) && not (isForbidden e (pos b) (cell t i 3) (cell t i 4) t n)) (λ i h. ap₂ _&&_ (of-entry a i h) (ap not (forbidden-is e b i h)))
+
+  -- the events
+  event-derived : (k first pending : ℕ) (codes : List ℕ) → pending ≤ length codes → derived (leaves k (numbered o first (take pending codes))) ≡ eventRows entry k o first pending codes
+  unfolding eventRows eventRow
+  event-derived k first pending codes h =
+      rw (sub-zero pending)
+      (let one : Event → List Row = λ e. cond (eqb (e .code) k) (when (eqZ (e .instant) o) (row entry (pos (e .serial)) none (e .instant) (e .instant))) [] in
+      kept-ones (λ r. endsAt o (r .start) (r .end)) (nodeRow (rowsIn n t) entry) (λ e. leaf (e .serial) (e .instant)) (λ e. eqb (e .code) k) (numbered o first (take pending codes))
+      ∙ each-numbered one o first (take pending codes)
+      ∙ ap (λ l. each (λ j. one (record { serial = first + j; code = getD (take pending codes) j 0; instant = o })) (numbers 0 l)) (length-take-le pending codes h)
+      ∙ each-same (λ j. one (record { serial = first + j; code = getD (take pending codes) j 0; instant = o })) (λ j. when (eqb (getD codes j 0) k) (row entry (pos (first + j)) none o o)) 0 pending (λ j p q. rw (getD-take pending codes j 0 (omega arith), eq-same o)))
+
+  -- two operands
+  module _ (c : Relation) (a b : ℕ) where
+    abbrev pairAt : ℕ → ℕ → Row
+    pairAt r s = row entry (pos r) (pos s) (least (cell t r 3) (cell t s 3)) (greatest (cell t r 4) (cell t s 4))
+
+    -- the row of a pair, if it is one and ends at the instant: as the model has it, and by the table's numbers
+    abbrev paired : ℕ → ℕ → List Row
+    paired r s = cond (eqb ((rowAt (rowsIn n t) s) .entry) b && fits (places (rowsIn n t)) c r s) (when (eqZ ((nodeRow (rowsIn n t) entry (pair r s)) .end) o) (nodeRow (rowsIn n t) entry (pair r s))) []
+
+    abbrev isPair : ℕ → ℕ → Bool
+    isPair r s = eqZ (cell t s 0) (pos b) && isRelated c (cell t r 3) (cell t r 4) (cell t s 3) (cell t s 4)
+
+    paired-is : (r s : ℕ) → r < n → s < n → paired r s ≡ cond (isPair r s) (when (eqZ (greatest (cell t r 4) (cell t s 4)) o) (pairAt r s)) []
+    paired-is r s h k = rw (of-entry b s k, row-at n r t h, row-at n s t k)
+
+    -- a pair that is none, or ends elsewhere
+    paired-none : (r s : ℕ) → r < n → s < n → (eqZ (cell t s 0) (pos b) ≡ true → Told c (cell t r 4) (cell t s 4) o → ⊥) → paired r s ≡ []
+    paired-none r s h k f = paired-is r s h k ∙ go (isPair r s) refl (eqZ (greatest (cell t r 4) (cell t s 4)) o) refl
+      where
+        go : (x : Bool) → isPair r s ≡ x → (y : Bool) → eqZ (greatest (cell t r 4) (cell t s 4)) o ≡ y → cond x (when y (pairAt r s)) [] ≡ []
+        go true p true q =
+            let p₁ = and-first (eqZ (cell t s 0) (pos b)) (isRelated c (cell t r 3) (cell t r 4) (cell t s 3) (cell t s 4)) p in
+            let p₂ = and-second (eqZ (cell t s 0) (pos b)) (isRelated c (cell t r 3) (cell t r 4) (cell t s 3) (cell t s 4)) p in
+            absurd (f p₁ (told c (cell t r 4) (cell t s 4) (greatest (cell t r 4) (cell t s 4)) o (related-ends c (cell t r 3) (cell t r 4) (cell t s 3) (cell t s 4) (g .proper r h) (g .proper s k) p₂) (eq-true (greatest (cell t r 4) (cell t s 4)) o q)))
+        go true p false q = refl
+        go false p y q = refl
+
+    old-not : (i : ℕ) → i < m → cell t i 4 ≡ o → ⊥
+    old-not i h e = omega (arith, g .old i h, eq-fact e)
+
+    -- a pair with a new row ends at the instant
+    pair-ends : (r s : ℕ) → r < n → s < n → (m ≤ r) ⊎ (m ≤ s) → eqZ (greatest (cell t r 4) (cell t s 4)) o ≡ true
+    pair-ends r s h k w = rw (antisym (greatest (cell t r 4) (cell t s 4)) o (greatest-most (λ z. z ≤ᶻ o) (cell t r 4) (cell t s 4) (ends r h) (ends s k)) (go w)) (eq-same o)
+      where
+        go : (m ≤ r) ⊎ (m ≤ s) → o ≤ᶻ greatest (cell t r 4) (cell t s 4)
+        go (inl z) = let v = greatest-is (cell t r 4) (cell t s 4) in omega (arith, v .left, eq-fact (g .new r z h))
+        go (inr z) = let v = greatest-is (cell t r 4) (cell t s 4) in omega (arith, v .right, eq-fact (g .new s z k))
+
+    paired-new : (r s : ℕ) → r < n → s < n → (m ≤ r) ⊎ (m ≤ s) → paired r s ≡ pairRow c entry (pos b) r (cell t r 3) (cell t r 4) t s
+    unfolding pairRow
+    paired-new r s h k w = paired-is r s h k ∙ rw (pair-ends r s h k w)
+
+    -- where the search for s begins
+    record Right (r k : ℕ) : Type 0 where
+      within : k ≤ n
+      before : (s : ℕ) → s < k → (s < m) × ((rightMayBeOld c ≡ false) ⊎ (r < m))
+      from : (s : ℕ) → k ≤ s → (m ≤ r) ⊎ (m ≤ s)
+
+    right-from : (r : ℕ) → Right r (rightFrom c m r)
+    unfolding rightFrom
+    right-from r = go (rightMayBeOld c) refl (leb m r) refl
+      where
+        go : (x : Bool) → rightMayBeOld c ≡ x → (y : Bool) → leb m r ≡ y → Right r (cond (x && y) 0 m)
+        go true p true q = record { within = omega arith; before = λ s h. absurd (omega arith); from = λ s h. inl (leb-true m r q) }
+        go true p false q = record { within = g .few; before = λ s h. (h, inr (leb-false m r q)); from = λ s h. inr h }
+        go false p y q = record { within = g .few; before = λ s h. (h, inl p); from = λ s h. inr h }
+
+    inner : (r : ℕ) → r < n → each (paired r) (numbers 0 n) ≡ each (pairRow c entry (pos b) r (cell t r 3) (cell t r 4) t) (span (rightFrom c m r) n)
+    inner r h =
+        let w = right-from r in
+        each-from (paired r) (rightFrom c m r) n (w .within) (λ s k. let z = w .before s k in paired-none r s h (omega (arith, w .within)) (λ e v. left-out (z .0) (z .1) v))
+        ∙ span-same (paired r) (pairRow c entry (pos b) r (cell t r 3) (cell t r 4) t) (rightFrom c m r) n (λ s k l. paired-new r s h l (w .from s k))
+      where
+        either-old : {s : ℕ} → s < m → r < m → (cell t r 4 ≡ o) ⊎ (cell t s 4 ≡ o) → ⊥
+        either-old k l (inl e) = old-not r l e
+        either-old k l (inr e) = old-not _ k e
+
+        left-out : {s : ℕ} → s < m → (rightMayBeOld c ≡ false) ⊎ (r < m) → Told c (cell t r 4) (cell t s 4) o → ⊥
+        left-out k (inl e) v = old-not _ k (v .right e)
+        left-out k (inr l) v = either-old k l (v .one)
+
+    -- where the search for r begins
+    record Left (k : ℕ) : Type 0 where
+      within : k ≤ n
+      before : (r s : ℕ) → r < k → s < n → eqZ (cell t s 0) (pos b) ≡ true → Told c (cell t r 4) (cell t s 4) o → ⊥
+
+    -- no row of b is new: none ends at the instant
+    none-new : hasRow (pos b) m n t ≡ false → (s : ℕ) → s < n → eqZ (cell t s 0) (pos b) ≡ true → cell t s 4 ≡ o → ⊥
+    unfolding hasRow
+    none-new z s h e w = go (leb m s) refl
+      where
+        go : (x : Bool) → leb m s ≡ x → ⊥
+        go true p = never (sym (none-at (λ i. eqZ (cell t i 0) (pos b)) m (n - m) z s (leb-true m s p) (omega (arith, g .few))) ∙ e)
+        go false p = old-not s (leb-false m s p) w
+
+    left-from : Left (leftFrom c (pos b) m n t)
+    unfolding leftFrom
+    left-from = go (hasRow (pos b) m n t) refl (leftMayBeOld c) refl (rightMayBeOld c) refl
+      where
+        new-left : {r : ℕ} → r < m → hasRow (pos b) m n t ≡ false → (s : ℕ) → s < n → eqZ (cell t s 0) (pos b) ≡ true → (cell t r 4 ≡ o) ⊎ (cell t s 4 ≡ o) → ⊥
+        new-left h z s k e (inl w) = old-not _ h w
+        new-left h z s k e (inr w) = none-new z s k e w
+
+        go : (x : Bool) → hasRow (pos b) m n t ≡ x → (y : Bool) → leftMayBeOld c ≡ y → (z : Bool) → rightMayBeOld c ≡ z → Left (cond x (cond y 0 m) (cond z m n))
+        go true p true q z u = record { within = omega arith; before = λ r s h. absurd (omega arith) }
+        go true p false q z u = record { within = g .few; before = λ r s h k e v. old-not r h (v .left q) }
+        go false p y q true u = record { within = g .few; before = λ r s h k e v. new-left h p s k e (v .one) }
+        go false p y q false u = record { within = omega arith; before = λ r s h k e v. none-new p s k e (v .right u) }
+
+    abbrev pairsOf : ℕ → List Row
+    pairsOf r = cond (eqb ((rowAt (rowsIn n t) r) .entry) a) (derived (map (pair r) (keep (fits (places (rowsIn n t)) c r) (of (places (rowsIn n t)) b (numbers 0 (length (rowsIn n t))))))) []
+
+    of-pairs : (r : ℕ) → derived (map (pair r) (keep (fits (places (rowsIn n t)) c r) (of (places (rowsIn n t)) b (numbers 0 (length (rowsIn n t)))))) ≡ each (paired r) (numbers 0 n)
+    of-pairs r =
+        let v = places (rowsIn n t) in
+        let q : ℕ → Bool = λ s. eqb (v .entry s) b in
+        ap (λ l. derived (map (pair r) l)) (keep-keep (fits v c r) q (numbers 0 (length (rowsIn n t))))
+        ∙ ap (λ k. derived (map (pair r) (keep (λ s. q s && fits v c r s) (numbers 0 k)))) (length-rows n t)
+        ∙ kept-ones (λ x. endsAt o (x .start) (x .end)) (nodeRow (rowsIn n t) entry) (pair r) (λ s. q s && fits v c r s) (numbers 0 n)
+
+    pairs-old : (r : ℕ) → r < leftFrom c (pos b) m n t → pairsOf r ≡ []
+    pairs-old r h =
+        let w = left-from in
+        let l : r < n = omega (arith, w .within) in
+        rw (of-pairs r ∙ each-nothing (paired r) n (λ s k. paired-none r s l k (w .before r s h k))) (go (eqb ((rowAt (rowsIn n t) r) .entry) a))
+      where
+        go : (x : Bool) → _≡_ {A = List Row} (cond x [] []) []
+        go true = refl
+        go false = refl
+
+    pairs-new : (r : ℕ) → r < n → pairsOf r ≡ pairsWith c entry (pos a) (pos b) m n t r
+    unfolding pairsWith
+    pairs-new r h = rw (of-entry a r h, of-pairs r ∙ inner r h)
+
+    pair-derived : derived (make (places (rowsIn n t)) (related c a b) [] (numbers 0 (length (rowsIn n t)))) ≡ pairRows c entry (pos a) (pos b) m n t
+    unfolding pairRows
+    pair-derived =
+        let v = places (rowsIn n t) in
+        let xs = numbers 0 (length (rowsIn n t)) in
+        kept-each (λ x. endsAt o (x .start) (x .end)) (nodeRow (rowsIn n t) entry) (λ r. map (pair r) (keep (fits v c r) (of v b xs))) (λ r. eqb (v .entry r) a) xs
+        ∙ ap (λ k. each pairsOf (numbers 0 k)) (length-rows n t)
+        ∙ each-from pairsOf (leftFrom c (pos b) m n t) n (left-from .within) pairs-old
+        ∙ span-same pairsOf (pairsWith c entry (pos a) (pos b) m n t) (leftFrom c (pos b) m n t) n (λ r k h. pairs-new r h)
+
+  -- what an entry derives
+  pub derived-is : (op : Operator) (first pending : ℕ) (codes : List ℕ) → pending ≤ length codes → derivedRows (record { entry = entry; operator = op; test = endsAt o }) (numbered o first (take pending codes)) (rowsIn n t) ≡ addedRows op entry o first pending codes m n t
+  unfolding addedRows
+  derived-is (event k) first pending codes h = event-derived k first pending codes h
+  derived-is (related c a b) first pending codes h = pair-derived c a b
+  derived-is (or a b) first pending codes h = or-derived a b
+  derived-is (absence e a b) first pending codes h = absence-derived e a b
+  derived-is (lasting c a d) first pending codes h = length-derived c a d

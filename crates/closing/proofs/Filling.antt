@@ -1,0 +1,113 @@
+-- A table that a loop fills: what is left to append, appended, gives what was asked for. A turn of a loop, a full table, the end.
+use Prim.Native.Nat.{ℕ, suc, _+_, _≤_, _<_}
+use native.Mathlib.Omega.{arith}
+use mathlib.Core.Path.{_≡_, refl, sym, ap, _∙_}
+use mathlib.Core.Bool.{Bool, true, false, cond}
+use mathlib.Core.List.{List, [], _∷_, _++_}
+use lib.Dec.{ltb}
+use lib.IntN.{ℤ}
+use lib.ListN.{length}
+use Rattle.model.specs.Lists.{each}
+use Rattle.model.specs.Order.{Row}
+use Rattle.table.specs.Table.{cell, Filled, filled, fill, putRow}
+use Rattle.table.proofs.Rows.{length-put, cell-other}
+use Rattle.table.proofs.Fill.{fill-none, fill-count-least, fill-append, fill-append-full}
+use Rattle.closing.specs.Added.{Appendable, span}
+use Rattle.closing.proofs.Spans.{each-on, each-none}
+
+-- the first n rows of t are those of u
+abbrev pub Kept : ℕ → List ℤ → List ℤ → Type 0
+Kept n t u = (i k : ℕ) → i < n → k < 5 → cell t i k ≡ cell u i k
+
+-- filling keeps the rows there were, and the length
+pub fill-kept : (room n : ℕ) (rs : List Row) (t : List ℤ) → Kept n ((fill room n rs t) .table) t
+unfolding fill
+fill-kept room n [] t i k h g = refl
+fill-kept room n (r ∷ rs) t i k h g = go (ltb n room) (fill-kept room (suc n) rs (putRow n r t) i k (omega arith) g)
+  where
+    go : (b : Bool) → cell ((fill room (suc n) rs (putRow n r t)) .table) i k ≡ cell (putRow n r t) i k → cell ((cond b (fill room (suc n) rs (putRow n r t)) (filled (suc room) t)) .table) i k ≡ cell t i k
+    go true e = e ∙ cell-other n i k r t g (λ p. omega arith)
+    go false e = refl
+
+pub fill-length : (room n : ℕ) (rs : List Row) (t : List ℤ) → length ((fill room n rs t) .table) ≡ length t
+unfolding fill
+fill-length room n [] t = refl
+fill-length room n (r ∷ rs) t = go (ltb n room) (fill-length room (suc n) rs (putRow n r t))
+  where
+    go : (b : Bool) → length ((fill room (suc n) rs (putRow n r t)) .table) ≡ length (putRow n r t) → length ((cond b (fill room (suc n) rs (putRow n r t)) (filled (suc room) t)) .table) ≡ length t
+    go true e = e ∙ length-put n r t
+    go false e = refl
+
+-- what a function that appends rs to the n rows of t hands back: the count k and the table u
+abbrev pub Done : ℕ → ℕ → List Row → List ℤ → ℕ → List ℤ → Type 0
+Done room n rs t k u = (k ≡ (fill room n rs t) .count) × (u ≡ (fill room n rs t) .table)
+
+-- n rows in the table t and `rest` left to append, where `all` was to be appended to the n₀ rows of t₀
+pub record Filling (room n₀ : ℕ) (all : List Row) (t₀ : List ℤ) (n : ℕ) (rest : List Row) (t : List ℤ) : Type 0 where
+  pub least : n₀ ≤ n
+  pub most : n ≤ room
+  pub size : length t ≡ length t₀
+  pub kept : Kept n₀ t t₀
+  pub on : fill room n rest t ≡ fill room n₀ all t₀
+
+pub begin : (room n : ℕ) (all : List Row) (t : List ℤ) → n ≤ room → Filling room n all t n all t
+begin room n all t h = record { least = omega arith; most = h; size = refl; kept = λ i k p q. refl; on = refl }
+
+module _ {room n₀ : ℕ} {all : List Row} {t₀ : List ℤ} {n : ℕ} {rest : List Row} {t : List ℤ} (f : Filling room n₀ all t₀ n rest t) where
+  -- some were appended, and there was room for them
+  pub next : (rs qs : List Row) (k : ℕ) (u : List ℤ) → rest ≡ rs ++ qs → Done room n rs t k u → k ≤ room → Filling room n₀ all t₀ k qs u
+  next rs qs k u e d h =
+      let c : k ≡ (fill room n rs t) .count = d .0 in
+      let l : n ≤ (fill room n rs t) .count = fill-count-least room n rs t (f .most) in
+      let w : (fill room n rs t) .count ≤ room = omega arith in
+      record {
+        least = omega (arith, f .least);
+        most = h;
+        size = ap length (d .1) ∙ fill-length room n rs t ∙ f .size;
+        kept = λ i j p q. ap (λ x. cell x i j) (d .1) ∙ fill-kept room n rs t i j (omega (arith, f .least)) q ∙ f .kept i j p q;
+        on = rw (c, d .1) (sym (fill-append room n rs qs t (f .most) w)) ∙ ap (λ l. fill room n l t) (sym e) ∙ f .on;
+      }
+
+  -- there was no room
+  pub full : (rs qs : List Row) (k : ℕ) (u : List ℤ) → rest ≡ rs ++ qs → Done room n rs t k u → room < k → Done room n₀ all t₀ k u
+  full rs qs k u e d h =
+      let c : k ≡ (fill room n rs t) .count = d .0 in
+      let w : room < (fill room n rs t) .count = omega arith in
+      let z : fill room n rs t ≡ fill room n₀ all t₀ = sym (fill-append-full room n rs qs t (f .most) w) ∙ ap (λ l. fill room n l t) (sym e) ∙ f .on in
+      (d .0 ∙ ap (λ (x : Filled). x .count) z, d .1 ∙ ap (λ (x : Filled). x .table) z)
+
+  -- all that was left was appended
+  pub last : {k : ℕ} {u : List ℤ} → Done room n rest t k u → Done room n₀ all t₀ k u
+  last d = (d .0 ∙ ap (λ (x : Filled). x .count) (f .on), d .1 ∙ ap (λ (x : Filled). x .table) (f .on))
+
+  -- nothing is left
+  pub ended : rest ≡ [] → Done room n₀ all t₀ n t
+  ended e =
+      let z : filled n t ≡ fill room n₀ all t₀ = sym (fill-none room n t) ∙ ap (λ l. fill room n l t) (sym e) ∙ f .on in
+      (ap (λ (x : Filled). x .count) z, ap (λ (x : Filled). x .table) z)
+
+-- a loop that appends h i at each number i from one on to before e
+module _ {room n₀ : ℕ} {all : List Row} {t₀ : List ℤ} {n : ℕ} {t : List ℤ} (h : ℕ → List Row) (i e : ℕ) (f : Filling room n₀ all t₀ n (each h (span i e)) t) where
+  module _ {rs : List Row} {k : ℕ} {u : List ℤ} (l : i < e) (same : rs ≡ h i) (d : Done room n rs t k u) where
+    pub turn : k ≤ room → Filling room n₀ all t₀ k (each h (span (i + 1) e)) u
+    turn = next f rs (each h (span (i + 1) e)) k u (each-on h i e l ∙ ap (λ x. x ++ each h (span (i + 1) e)) (sym same)) d
+
+    pub stop : room < k → Done room n₀ all t₀ k u
+    stop = full f rs (each h (span (i + 1) e)) k u (each-on h i e l ∙ ap (λ x. x ++ each h (span (i + 1) e)) (sym same)) d
+
+  -- a number at which nothing is to be appended
+  pub skip : i < e → h i ≡ [] → Filling room n₀ all t₀ n (each h (span (i + 1) e)) t
+  skip l z = record {
+    least = f .least;
+    most = f .most;
+    size = f .size;
+    kept = f .kept;
+    on = ap (λ x. fill room n x t) (sym (each-on h i e l ∙ ap (λ x. x ++ each h (span (i + 1) e)) z)) ∙ f .on;
+  }
+
+  pub over : e ≤ i → Done room n₀ all t₀ n t
+  over l = ended f (each-none h i e l)
+
+-- what a function that appends asks, in the middle of a loop
+pub appendable : {room n₀ entry : ℕ} {all : List Row} {t₀ : List ℤ} {n : ℕ} {rest : List Row} {t : List ℤ} → Appendable n₀ room entry t₀ → Filling room n₀ all t₀ n rest t → Appendable n room entry t
+appendable {room} {n₀} {entry} {all} {t₀} {n} {rest} {t} a f = record { fit = f .most; most = a .most; held = omega (arith, a .held, f .size); low = a .low }

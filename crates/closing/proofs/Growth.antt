@@ -1,0 +1,176 @@
+-- The table grows: the rows appended for an entry end at the instant and start no later, and the table with them is one in which the
+-- next entry's rows may be derived.
+use Prim.Native.Nat.{ℕ, suc, _+_, _*_, _-_, _≤_, _<_}
+use native.Mathlib.Omega.{arith}
+use native.Mathlib.Nat.{add-zero}
+use native.Mathlib.Decide.{ℕ-discrete}
+use mathlib.Core.Path.{_≡_, refl, sym, ap, _∙_, subst}
+use mathlib.Core.Logic.{inl, inr}
+use mathlib.Core.Bool.{Bool, true, false, cond, not, _&&_}
+use mathlib.Core.List.{List, [], _∷_, map, List·Memᴰ, List·Memᴰ·head, List·Memᴰ·tail, List·Memᴰ·not-nil, List·Memᴰ·eq-of-singleton, List·Memᴰ·append-cases}
+use lib.Dec.{eqb, leb}
+use lib.IntN.{ℤ, pos}
+use lib.ListN.{length, getD, take, set}
+use lib.Seq.{getD-set-same, getD-set-other}
+use Rattle.interval.specs.Instants.{eqZ, least, greatest}
+use Rattle.interval.specs.Conditions.{isRelated, hasLength}
+use Rattle.interval.specs.declared.Relation.{Relation}
+use Rattle.interval.proofs.Signed.{_≤ᶻ_, lt-true, le-true, is-le, eqZ→}
+use Rattle.interval.proofs.Laws.{start-le-end}
+use Rattle.chart.specs.declared.Chart.{Chart}
+use Rattle.model.specs.Lists.{each, numbers}
+use Rattle.model.specs.Recognitions.{Operator, event, related, or, absence, lasting, Arm, left, right}
+use Rattle.model.specs.Order.{Row, row, none}
+use Rattle.model.specs.RowSteps.{endsAt, numbered, make, places, nodeRow}
+use Rattle.model.proofs.Sorted.{keep-mem, each-mem}
+use Rattle.model.proofs.Rows.{numbers-mem}
+use Rattle.table.specs.Table.{cell, rowsIn, putRow, putRows}
+use Rattle.table.specs.Ready.{Ready, EndBefore}
+use Rattle.table.proofs.Rows.{length-put, cell-other, row-put}
+use Rattle.closing.specs.Added.{span, when, eventRow, eventRows, partRow, armRow, armRows, orRows, lengthRow, lengthRows, isForbidden, absenceRow, absenceRows, leftMayBeOld, rightMayBeOld, hasRow, pairRow, rightFrom, pairsWith, leftFrom, pairRows, addedRows}
+use Rattle.closing.proofs.Derived.{Grown, derived-is}
+
+-- before the first entry
+pub grown-none : (chart : Chart) (o : ℤ) (n : ℕ) (t : List ℤ) → Ready chart n t → EndBefore o n t → Grown o n n t
+grown-none chart o n t r b = record {
+  few = omega arith;
+  old = λ i h. lt-true (cell t i 4) o (b i h);
+  new = λ i h k. absurd (omega arith);
+  proper = λ i h. le-true (cell t i 3) (cell t i 4) (r .proper i h);
+  ordered = λ i j h k. le-true (cell t i 4) (cell t j 4) (r .ordered i j h k);
+  above = r .entryAbove;
+}
+
+-- one row more
+entry-put : (n : ℕ) (r : Row) (t : List ℤ) → n * 5 + 5 ≤ length t → cell (putRow n r t) n 0 ≡ pos (r .entry)
+unfolding putRow
+entry-put n r t h =
+    let i = n * 5 in
+    let a = pos (r .entry) in
+    let t₁ = set t i a in
+    let t₂ = set t₁ (suc i) (r .left) in
+    let t₃ = set t₂ (suc (suc i)) (r .right) in
+    let t₄ = set t₃ (suc (suc (suc i))) (r .start) in
+    ap (λ k. getD (putRow n r t) k (pos 0)) (add-zero i)
+    ∙ getD-set-other t₄ (suc (suc (suc (suc i)))) i (r .end) (pos 0) (λ e. omega arith)
+    ∙ getD-set-other t₃ (suc (suc (suc i))) i (r .start) (pos 0) (λ e. omega arith)
+    ∙ getD-set-other t₂ (suc (suc i)) i (r .right) (pos 0) (λ e. omega arith)
+    ∙ getD-set-other t₁ (suc i) i (r .left) (pos 0) (λ e. omega arith)
+    ∙ getD-set-same t i a (pos 0) (omega arith)
+
+-- a row that ends at the instant and starts no later
+pub record Ending (o : ℤ) (r : Row) : Type 0 where
+  pub at : r .end ≡ o
+  pub proper : r .start ≤ᶻ r .end
+
+grown-one : (o : ℤ) (m n : ℕ) (t : List ℤ) (r : Row) → Grown o m n t → Ending o r → n * 5 + 5 ≤ length t → Grown o m (suc n) (putRow n r t)
+grown-one o m n t r g e h =
+    let u = putRow n r t in
+    let w = row-put n r t h in
+    let w₃ : cell u n 3 ≡ r .start = ap (λ (x : Row). x .start) w in
+    let w₄ : cell u n 4 ≡ r .end = ap (λ (x : Row). x .end) w in
+    let same : (i k : ℕ) → i < n → k < 5 → cell u i k ≡ cell t i k = λ i k p q. cell-other n i k r t q (λ z. omega arith) in
+    record {
+      few = omega (arith, g .few);
+      old = λ i p. rw (same i 4 (omega (arith, g .few)) (omega arith)) (g .old i p);
+      new = λ i p q. at-last (ℕ-discrete i n) (λ z. rw z (w₄ ∙ e .at)) (λ z. same i 4 (omega arith) (omega arith) ∙ g .new i p (omega arith));
+      proper = λ i q. at-last (ℕ-discrete i n) (λ z. rw (z, w₃, w₄) (e .proper)) (λ z. rw (same i 3 (omega arith) (omega arith), same i 4 (omega arith) (omega arith)) (g .proper i (omega arith)));
+      ordered = λ i j p q. rw (same i 4 (omega (arith, g .few)) (omega arith), same j 4 (omega (arith, g .few)) (omega arith)) (g .ordered i j p q);
+      above = λ i q. at-last (ℕ-discrete i n) (λ z. rw (z, entry-put n r t h) (is-le (pos 0) (pos (r .entry)) (omega arith))) (λ z. rw (same i 0 (omega arith) (omega arith)) (g .above i (omega arith)));
+    }
+  where
+    at-last : {P Q : Type 0} → Dec P → (P → Q) → ((P → ⊥) → Q) → Q
+    at-last (yes p) f g' = f p
+    at-last (no p) f g' = g' p
+
+pub grown-more : (o : ℤ) (m n : ℕ) (t : List ℤ) (rs : List Row) → Grown o m n t → ((r : Row) → List·Memᴰ r rs → Ending o r) → (n + length rs) * 5 ≤ length t → Grown o m (n + length rs) (putRows n rs t)
+unfolding putRows
+grown-more o m n t [] g e h = rw (add-zero n) g
+grown-more o m n t (r ∷ rs) g e h =
+    let z : suc n + length rs ≡ n + suc (length rs) = omega arith in
+    subst (λ k. Grown o m k (putRows (suc n) rs (putRow n r t))) z (grown-more o m (suc n) (putRow n r t) rs (grown-one o m n t r g (e r (List·Memᴰ·head refl)) (omega arith)) (λ q k. e q (List·Memᴰ·tail k)) (omega (arith, length-put n r t)))
+
+-- the rows that an entry adds
+when-mem : (b : Bool) (x r : Row) → List·Memᴰ r (when b x) → r ≡ x
+when-mem true x r k = List·Memᴰ·eq-of-singleton k
+when-mem false x r k = absurd (List·Memᴰ·not-nil k)
+
+span-low : (a e i : ℕ) → List·Memᴰ i (span a e) → a ≤ e → i < e
+span-low a e i k h = let p = numbers-mem a (e - a) i k in omega arith
+
+span-mem : (f : ℕ → List Row) (a e : ℕ) (r : Row) → List·Memᴰ r (each f (span a e)) → a ≤ e → (i : ℕ) × (i < e) × List·Memᴰ r (f i)
+span-mem f a e r k h = let p = each-mem f (span a e) k in (p .0, span-low a e (p .0) (p .1) h, p .2)
+
+module _ (o : ℤ) (m n : ℕ) (t : List ℤ) (g : Grown o m n t) (entry : ℕ) where
+  abbrev Proper : Row → Type 0
+  Proper r = r .start ≤ᶻ r .end
+
+  part-proper : (side : Arm) (i : ℕ) → i < n → Proper (partRow side entry t i)
+  unfolding partRow
+  part-proper side i h = g .proper i h
+
+  -- each operator whose rows refer to one row
+  parts-proper : (side : Arm) (q : ℕ → Bool) (r : Row) → List·Memᴰ r (each (λ i. when (q i) (partRow side entry t i)) (span m n)) → Proper r
+  parts-proper side q r k =
+      let p = span-mem (λ i. when (q i) (partRow side entry t i)) m n r k (g .few) in
+      subst Proper (sym (when-mem (q (p .0)) (partRow side entry t (p .0)) r (p .2))) (part-proper side (p .0) (p .1))
+
+  event-proper : (k first pending : ℕ) (codes : List ℕ) (r : Row) → List·Memᴰ r (eventRows entry k o first pending codes) → Proper r
+  unfolding eventRows eventRow
+  event-proper k first pending codes r w =
+      let p = each-mem (λ j. when (eqb (getD codes j 0) k) (row entry (pos (first + j)) none o o)) (span 0 pending) w in
+      subst Proper (sym (when-mem (eqb (getD codes (p .0) 0) k) (row entry (pos (first + p .0)) none o o) r (p .2))) (omega arith)
+
+  right-low : (c : Relation) (r : ℕ) → rightFrom c m r ≤ n
+  unfolding rightFrom
+  right-low c r = go (rightMayBeOld c && leb m r)
+    where
+      go : (b : Bool) → cond b 0 m ≤ n
+      go true = omega arith
+      go false = g .few
+
+  pair-proper : (c : Relation) (b : ℤ) (i : ℕ) → i < n → (r : Row) → List·Memᴰ r (each (pairRow c entry b i (cell t i 3) (cell t i 4) t) (span (rightFrom c m i) n)) → Proper r
+  unfolding pairRow
+  pair-proper c b i h r k =
+      let f : ℕ → List Row = λ s. when (eqZ (cell t s 0) b && isRelated c (cell t i 3) (cell t i 4) (cell t s 3) (cell t s 4)) (row entry (pos i) (pos s) (least (cell t i 3) (cell t s 3)) (greatest (cell t i 4) (cell t s 4))) in
+      let p = span-mem f (rightFrom c m i) n r k (right-low c i) in
+      let s = p .0 in
+      subst Proper (sym (when-mem (eqZ (cell t s 0) b && isRelated c (cell t i 3) (cell t i 4) (cell t s 3) (cell t s 4)) (row entry (pos i) (pos s) (least (cell t i 3) (cell t s 3)) (greatest (cell t i 4) (cell t s 4))) r (p .2))) (start-le-end (cell t i 3) (cell t i 4) (cell t s 3) (cell t s 4) (g .proper i h) (g .proper s (p .1)))
+
+  left-low : (c : Relation) (b : ℤ) → leftFrom c b m n t ≤ n
+  unfolding leftFrom
+  left-low c b = go (hasRow b m n t) (leftMayBeOld c) (rightMayBeOld c)
+    where
+      go : (x y z : Bool) → cond x (cond y 0 m) (cond z m n) ≤ n
+      go true true z = omega arith
+      go true false z = g .few
+      go false y true = g .few
+      go false y false = omega arith
+
+  pairs-proper : (c : Relation) (a b : ℤ) (r : Row) → List·Memᴰ r (pairRows c entry a b m n t) → Proper r
+  unfolding pairRows pairsWith
+  pairs-proper c a b r k =
+      let f : ℕ → List Row = λ i. cond (eqZ (cell t i 0) a) (each (pairRow c entry b i (cell t i 3) (cell t i 4) t) (span (rightFrom c m i) n)) [] in
+      let p = span-mem f (leftFrom c b m n t) n r k (left-low c b) in
+      go (p .0) (p .1) (eqZ (cell t (p .0) 0) a) (p .2)
+    where
+      go : (i : ℕ) → i < n → (x : Bool) → List·Memᴰ r (cond x (each (pairRow c entry b i (cell t i 3) (cell t i 4) t) (span (rightFrom c m i) n)) []) → Proper r
+      go i h true w = pair-proper c b i h r w
+      go i h false w = absurd (List·Memᴰ·not-nil w)
+
+  added-proper : (op : Operator) (first pending : ℕ) (codes : List ℕ) (r : Row) → List·Memᴰ r (addedRows op entry o first pending codes m n t) → Proper r
+  unfolding addedRows orRows armRows armRow lengthRows lengthRow absenceRows absenceRow
+  added-proper (event k) first pending codes r w = event-proper k first pending codes r w
+  added-proper (related c a b) first pending codes r w = pairs-proper c (pos a) (pos b) r w
+  added-proper (or a b) first pending codes r w = elim (List·Memᴰ·append-cases (each (λ i. when (eqZ (cell t i 0) (pos a)) (partRow left entry t i)) (span m n)) w) [ inl k ↦ parts-proper left (λ i. eqZ (cell t i 0) (pos a)) r k | inr k ↦ parts-proper right (λ i. eqZ (cell t i 0) (pos b)) r k ]
+  added-proper (absence e a b) first pending codes r w = parts-proper left (λ i. eqZ (cell t i 0) (pos a) && not (isForbidden e (pos b) (cell t i 3) (cell t i 4) t n)) r w
+  added-proper (lasting c a d) first pending codes r w = parts-proper left (λ i. eqZ (cell t i 0) (pos a) && hasLength c d (cell t i 3) (cell t i 4)) r w
+
+  pub added-ending : (op : Operator) (first pending : ℕ) (codes : List ℕ) → pending ≤ length codes → (r : Row) → List·Memᴰ r (addedRows op entry o first pending codes m n t) → Ending o r
+  added-ending op first pending codes h r w =
+      let es = numbered o first (take pending codes) in
+      let k = subst (List·Memᴰ r) (sym (derived-is o m n t g entry op first pending codes h)) w in
+      record {
+        at = eqZ→ (r .end) o (keep-mem (λ x. endsAt o (x .start) (x .end)) (map (nodeRow (rowsIn n t) entry) (make (places (rowsIn n t)) op es (numbers 0 (length (rowsIn n t))))) k .1);
+        proper = added-proper op first pending codes r w;
+      }

@@ -1,0 +1,122 @@
+-- What a test that the code made tells of the table's numbers, and a turn of each loop over plain variables.
+use Prim.Native.Nat.{ℕ, zero, suc, _+_, _-_, _≤_, _<_}
+use native.Mathlib.Omega.{arith}
+use native.Mathlib.Numerals.{add-one}
+use mathlib.Core.Path.{_≡_, refl, sym, ap, _∙_}
+use mathlib.Core.Bool.{Bool, true, false}
+use mathlib.Core.List.{List, [], _∷_}
+use lib.IntN.{ℤ}
+use lib.Signed.{leZ}
+use mir.Syntax.{w32}
+use mir.Val.{SFits, toZ, ofZ}
+use Rattle.interval.proofs.Machine.{same32}
+use Rattle.interval.specs.Instants.{eqZ}
+use Rattle.interval.proofs.Signed.{never}
+use Rattle.interval.specs.declared.Relation.{Relation}
+use Rattle.interval.specs.declared.Edges.{Edges}
+use Rattle.interval.specs.declared.LengthTest.{LengthTest}
+use Rattle.model.specs.Recognitions.{Arm, left}
+use Rattle.table.specs.Table.{cell}
+use Rattle.closing.specs.Added.{partRow, armRow, armRows, lengthRow, forbids, isWithin, isForbidden, absenceRow, pairRow, rightFrom, pairsWith, hasRow}
+use Rattle.closing.proofs.Spans.{span-same}
+use Rattle.closing.proofs.Filling.{Kept}
+
+-- the answer of `is_of`, whose second number reached it as bits
+pub of-entry : (t : List ℤ) (i : ℕ) (a : ℤ) {b v : Bool} → SFits w32 a → b ≡ eqZ (cell t i 0) (toZ w32 (ofZ w32 a)) → b ≡ v → eqZ (cell t i 0) a ≡ v
+of-entry t i a f e h = ap (eqZ (cell t i 0)) (sym (same32 a f)) ∙ sym e ∙ h
+
+pub within-at : (start : ℤ) (t : List ℤ) (j : ℕ) → (j ≡ 0 → ⊥) → isWithin start t j ≡ leZ start (cell t (j - 1) 4)
+unfolding isWithin
+within-at start t zero h = absurd (h refl)
+within-at start t (suc j) h = let e : suc j - 1 ≡ j = omega arith in rw e
+
+-- tables whose first n rows agree: each of them makes the same
+module _ (n : ℕ) (t u : List ℤ) (k : Kept n t u) (entry : ℕ) where
+  pub arm-same : (side : Arm) (a : ℤ) (i : ℕ) → i < n → armRow side entry a t i ≡ armRow side entry a u i
+  unfolding armRow partRow
+  arm-same side a i h = rw (k i 0 h (omega arith), k i 3 h (omega arith), k i 4 h (omega arith))
+
+  pub arms-same : (side : Arm) (a : ℤ) (m e : ℕ) → e ≤ n → armRows side entry a m e t ≡ armRows side entry a m e u
+  unfolding armRows
+  arms-same side a m e h = span-same (armRow side entry a t) (armRow side entry a u) m e (λ i p q. arm-same side a i (omega arith))
+
+  pub length-same : (c : LengthTest) (d : ℕ) (a : ℤ) (i : ℕ) → i < n → lengthRow c d entry a t i ≡ lengthRow c d entry a u i
+  unfolding lengthRow partRow
+  length-same c d a i h = rw (k i 0 h (omega arith), k i 3 h (omega arith), k i 4 h (omega arith))
+
+  pub forbids-same : (e : Edges) (b start end : ℤ) (j : ℕ) → j < n → forbids e b start end t j ≡ forbids e b start end u j
+  unfolding forbids
+  forbids-same e b start end j h = rw (k j 0 h (omega arith), k j 3 h (omega arith), k j 4 h (omega arith))
+
+  pub forbidden-same : (e : Edges) (b start end : ℤ) (j : ℕ) → j ≤ n → isForbidden e b start end t j ≡ isForbidden e b start end u j
+  unfolding isForbidden isWithin
+  forbidden-same e b start end zero h = refl
+  forbidden-same e b start end (suc j) h = rw (k j 4 (omega arith) (omega arith), forbids-same e b start end j (omega arith), forbidden-same e b start end j (omega arith))
+
+  pub absence-same : (e : Edges) (a b : ℤ) (i : ℕ) → i < n → absenceRow e entry a b n t i ≡ absenceRow e entry a b n u i
+  unfolding absenceRow partRow
+  absence-same e a b i h = rw (k i 0 h (omega arith), k i 3 h (omega arith), k i 4 h (omega arith), forbidden-same e b (cell u i 3) (cell u i 4) n (omega arith))
+
+  pub pair-same : (c : Relation) (b : ℤ) (r : ℕ) (start end : ℤ) (s : ℕ) → s < n → pairRow c entry b r start end t s ≡ pairRow c entry b r start end u s
+  unfolding pairRow
+  pair-same c b r start end s h = rw (k s 0 h (omega arith), k s 3 h (omega arith), k s 4 h (omega arith))
+
+  pub pairs-same : (c : Relation) (a b : ℤ) (m e r : ℕ) → r < n → e ≤ n → pairsWith c entry a b m e t r ≡ pairsWith c entry a b m e u r
+  unfolding pairsWith
+  pairs-same c a b m e r h g =
+      rw (k r 0 h (omega arith), k r 3 h (omega arith), k r 4 h (omega arith), span-same (pairRow c entry b r (cell u r 3) (cell u r 4) t) (pairRow c entry b r (cell u r 3) (cell u r 4) u) (rightFrom c m r) e (λ s p q. pair-same c b r (cell u r 3) (cell u r 4) s (omega arith)))
+
+-- a search for a row of entry b: one found, one more passed, none left
+module _ (b : ℤ) (i n : ℕ) (t : List ℤ) where
+  pub has-one : i < n → eqZ (cell t i 0) b ≡ true → hasRow b i n t ≡ true
+  unfolding hasRow
+  has-one h e = let z : n - i ≡ suc (n - (i + 1)) = omega arith in rw (z, e)
+
+  pub has-later : i < n → eqZ (cell t i 0) b ≡ false → hasRow b i n t ≡ hasRow b (i + 1) n t
+  unfolding hasRow
+  has-later h e = let z : n - i ≡ suc (n - (i + 1)) = omega arith in rw (z, e, add-one)
+
+  pub has-none : n ≤ i → hasRow b i n t ≡ false
+  unfolding hasRow
+  has-none h = let z : n - i ≡ 0 = omega arith in rw z
+
+-- a start or an end that was read from the table
+pub read-back : (z w : ℤ) → SFits w32 z → z ≡ w → toZ w32 (ofZ w32 z) ≡ w
+read-back z w f e = same32 z f ∙ e
+
+-- the search for a forbidding row: one found, one passed, none left
+module _ (e : Edges) (b start end : ℤ) (t : List ℤ) where
+  pub within-some : (j : ℕ) → isWithin start t j ≡ true → 0 < j
+  unfolding isWithin
+  within-some zero h = never h
+  within-some (suc j) h = omega arith
+
+  pub forbidden-one : (j : ℕ) → isWithin start t j ≡ true → forbids e b start end t (j - 1) ≡ true → isForbidden e b start end t j ≡ true
+  unfolding isForbidden
+  forbidden-one zero h g = absurd (omega (arith, within-some 0 h))
+  forbidden-one (suc j) h g = let z : suc j - 1 ≡ j = omega arith in rw (h, rw z at g)
+
+  pub forbidden-on : (j : ℕ) → isWithin start t j ≡ true → forbids e b start end t (j - 1) ≡ false → isForbidden e b start end t j ≡ isForbidden e b start end t (j - 1)
+  unfolding isForbidden
+  forbidden-on zero h g = absurd (omega (arith, within-some 0 h))
+  forbidden-on (suc j) h g = let z : suc j - 1 ≡ j = omega arith in rw (h, rw z at g, z)
+
+  pub forbidden-end : (j : ℕ) → isWithin start t j ≡ false → isForbidden e b start end t j ≡ false
+  unfolding isForbidden
+  forbidden-end zero h = refl
+  forbidden-end (suc j) h = rw h
+
+-- a candidate i that is none of a, is forbidden, or stands
+module _ (e : Edges) (entry : ℕ) (a b : ℤ) (n : ℕ) (t : List ℤ) (i : ℕ) where
+  pub absence-other : eqZ (cell t i 0) a ≡ false → absenceRow e entry a b n t i ≡ []
+  unfolding absenceRow
+  absence-other h = rw h
+
+  module _ (start end : ℤ) (s : start ≡ cell t i 3) (z : end ≡ cell t i 4) (h : eqZ (cell t i 0) a ≡ true) where
+    pub absence-forbidden : isForbidden e b start end t n ≡ true → absenceRow e entry a b n t i ≡ []
+    unfolding absenceRow
+    absence-forbidden g = rw (h, rw (s, z) at g)
+
+    pub absence-stands : isForbidden e b start end t n ≡ false → partRow left entry t i ∷ [] ≡ absenceRow e entry a b n t i
+    unfolding absenceRow
+    absence-stands g = rw (h, rw (s, z) at g)

@@ -1,0 +1,6 @@
+pub mod Spans
+pub mod Filling
+pub mod Derived
+pub mod Laws
+pub mod Growth
+pub mod Entries

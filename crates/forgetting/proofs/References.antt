@@ -1,0 +1,54 @@
+-- Laws of references: -1 stays, and another goes where its row went. No code here.
+use Prim.Native.Nat.{ℕ, _≤_, _<_}
+use native.Mathlib.Omega.{arith}
+use mathlib.Core.Path.{_≡_, refl, sym, ap}
+use mathlib.Core.Logic.{inl, inr}
+use mathlib.Core.Bool.{Bool, true, false}
+use borrow.Author.Tests.{ltb-true}
+use lib.IntN.{ℤ, pos, negsuc, natAbs}
+use lib.Signed.{ltZ, leZ}
+use Rattle.interval.proofs.Signed.{never, signed}
+use Rattle.model.specs.Order.{Row}
+use Rattle.model.specs.RowSteps.{renumber}
+use Rattle.table.specs.Ready.{Refers}
+use Rattle.forgetting.specs.Walk.{withReferences}
+
+-- by the sign, as the code goes
+pub renumber-none : (g : ℕ → ℕ) (z : ℤ) → ltZ z (pos 0) ≡ true → z ≡ renumber g z
+renumber-none g (pos n) e = absurd (omega (arith, ltb-true n 0 e))
+renumber-none g (negsuc n) e = refl
+
+pub renumber-some : (g : ℕ → ℕ) (z : ℤ) → ltZ z (pos 0) ≡ false → pos (g (natAbs z)) ≡ renumber g z
+renumber-some g (pos n) e = refl
+renumber-some g (negsuc n) e = never (sym e)
+
+pub not-negative : (z : ℤ) → ltZ z (pos 0) ≡ false → leZ (pos 0) z ≡ true
+not-negative z e = omega (arith, signed)
+
+pub refers-below : (n : ℕ) (z : ℤ) → Refers n z → ltZ z (pos 0) ≡ false → natAbs z < n
+refers-below n (pos k) (inl p) e = let z : _≡_ {A = ℕ} 0 1 = cc in absurd (omega arith)
+refers-below n (pos k) (inr p) e = p .1
+refers-below n (negsuc k) p e = never (sym e)
+
+-- a higher bound is as good
+pub refers-more : (m n : ℕ) (z : ℤ) → m ≤ n → Refers m z → Refers n z
+refers-more m n z h (inl p) = inl p
+refers-more m n z h (inr p) = inr (p .0, omega arith)
+
+-- two numberings that agree below i
+renumber-same : (g h : ℕ → ℕ) (i : ℕ) (z : ℤ) → Refers i z → ((j : ℕ) → j < i → g j ≡ h j) → renumber g z ≡ renumber h z
+renumber-same g h i (negsuc n) r same = refl
+renumber-same g h i (pos n) (inl e) same = let z : _≡_ {A = ℕ} 0 1 = cc in absurd (omega arith)
+renumber-same g h i (pos n) (inr r) same = ap pos (same n (r .1))
+
+renumber-id : (z : ℤ) → renumber (λ j. j) z ≡ z
+renumber-id (pos n) = refl
+renumber-id (negsuc n) = refl
+
+pub references-same : (event : Bool) (g h : ℕ → ℕ) (i : ℕ) (r : Row) → (event ≡ false → Refers i (r .left)) → Refers i (r .right) → ((j : ℕ) → j < i → g j ≡ h j) → withReferences event g r ≡ withReferences event h r
+references-same true g h i r x y same = refl
+references-same false g h i r x y same = rw (renumber-same g h i (r .left) (x refl) same, renumber-same g h i (r .right) y same)
+
+pub references-id : (event : Bool) (r : Row) → withReferences event (λ j. j) r ≡ r
+references-id true r = refl
+references-id false r = rw (renumber-id (r .left), renumber-id (r .right))

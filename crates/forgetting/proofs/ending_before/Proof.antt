@@ -1,0 +1,14 @@
+-- `ending_before` meets its contract: it is the search, with the flag off.
+use Rattle.interval.proofs.Machine.{same32}
+use borrow.Author.Needs.{needs}
+use Rattle.forgetting.proofs.ending_before.Statement.{statement}
+use Rattle.forgetting.proofs.ending_before.Tie as tie
+
+count-ending-requires : tie.Need-count-ending-requires
+count-ending-requires c κs = search needs
+
+returns : tie.Need-returns
+returns c = simp (same32, c .before .fits .e) at (c .count-ending .ensures)
+
+pub ending-before-spec : {M : Type 1} → statement M
+ending-before-spec = tie.close (tie.spec count-ending-requires returns)

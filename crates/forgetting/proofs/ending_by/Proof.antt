@@ -1,0 +1,14 @@
+-- `ending_by` meets its contract: it is the search, with the flag on.
+use Rattle.interval.proofs.Machine.{same32}
+use borrow.Author.Needs.{needs}
+use Rattle.forgetting.proofs.ending_by.Statement.{statement}
+use Rattle.forgetting.proofs.ending_by.Tie as tie
+
+count-ending-requires : tie.Need-count-ending-requires
+count-ending-requires c κs = search needs
+
+returns : tie.Need-returns
+returns c = simp (same32, c .before .fits .e) at (c .count-ending .ensures)
+
+pub ending-by-spec : {M : Type 1} → statement M
+ending-by-spec = tie.close (tie.spec count-ending-requires returns)

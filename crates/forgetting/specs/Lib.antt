@@ -1,0 +1,3 @@
+pub mod Forgetting
+pub mod Walk
+pub mod Ends

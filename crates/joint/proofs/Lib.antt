@@ -1,0 +1,4 @@
+pub mod Tests
+pub mod Rows
+pub mod Ready
+pub mod Theorems

@@ -1,0 +1,199 @@
+-- The tests of one row over the numbers of the table are the model's tests of that row.
+use Prim.Native.Nat.{ℕ, zero, suc, _+_, _<_, _≤_}
+use native.Mathlib.Omega.{arith}
+use native.Mathlib.Nat.{add-zero, zero-add}
+use mathlib.Core.Path.{_≡_, refl, sym, ap, ap₂, _∙_}
+use mathlib.Core.Bool.{Bool, true, false, cond, _&&_, _||_}
+use mathlib.Core.List.{List, map}
+use borrow.Author.Tests.{ltb-true, leb-true}
+use lib.Dec.{eqb, ltb, leb}
+use lib.IntN.{ℤ, pos, negsuc, natAbs}
+use lib.Signed.{ltZ, leZ}
+use Rattle.interval.specs.Instants.{eqZ}
+use Rattle.interval.specs.Conditions.{hasLength}
+use Rattle.interval.specs.declared.LengthTest.{LengthTest}
+use Rattle.interval.proofs.Signed.{never, and-first, and-second, eq-true}
+use Rattle.chart.specs.Operators.{kindOf, inRange, areLower}
+use Rattle.chart.specs.Charts.{isUsable, allBelow, entryFits, entryAt}
+use Rattle.chart.specs.declared.Chart.{Chart}
+use Rattle.chart.specs.declared.operator.Kind.{Kind}
+use Rattle.chart.specs.declared.operator.Kind.the-variants.{Event, Or, Pair, Absence, Length, Unknown}
+use Rattle.chart.proofs.Below.{at-place}
+use Rattle.model.specs.Lists.{numbers}
+use Rattle.model.specs.Order.{Row, row, none}
+use Rattle.model.specs.Recognitions.{Operator}
+use Rattle.model.specs.RowSteps.{rowAt}
+use Rattle.model.specs.Joint.{isNone, refers, spansOne, spansTwo, isSerial, agrees, agreesAt, isOrdered, isRowInJoint}
+use Rattle.table.specs.Table.{cell, tableRow, rowsIn}
+use Rattle.table.specs.Operators.{operatorBy, entryOperator, operatorsOf}
+use Rattle.table.proofs.Rows.{row-at}
+use Rattle.joint.specs.Joint.{isTableRowInJoint}
+use Rattle.joint.specs.Rows.{refersTo, hasPart, isEventRow, spansBoth, isPairRow, isArmRow, isSingleRow, agreesBy, isAfterLast, isRowOf}
+use Rattle.joint.proofs.Tests.{not-least, refers-negative}
+
+-- Booleans
+and-false : (a : Bool) → (a && false) ≡ false
+and-false true = refl
+and-false false = refl
+
+and-same : (a : Bool) → (a && true) ≡ a
+and-same true = refl
+and-same false = refl
+
+and-swap : (a b : Bool) → (a && b) ≡ (b && a)
+and-swap true b = sym (and-same b)
+and-swap false true = refl
+and-swap false false = refl
+
+and-group : (a b c : Bool) → (a && (b && c)) ≡ ((a && b) && c)
+and-group true b c = refl
+and-group false b c = refl
+
+-- where the second arm cannot be without the first number's -1, the one test decides
+arms : (n x y : Bool) → (n ≡ true → y ≡ false) → ((x && n) || y) ≡ cond n x y
+arms true true y h = refl
+arms true false y h = h refl
+arms false true y h = refl
+arms false false y h = refl
+
+-- a length test of the operand is one of the row, where they start and end alike
+same-length : (c : LengthTest) (d : ℕ) (s e s' e' : ℤ) → ((eqZ s s' && eqZ e e') && hasLength c d s' e') ≡ ((eqZ s s' && eqZ e e') && hasLength c d s e)
+same-length c d s e s' e' = go (eqZ s s') refl (eqZ e e') refl
+  where
+    go : (a : Bool) → eqZ s s' ≡ a → (b : Bool) → eqZ e e' ≡ b → ((a && b) && hasLength c d s' e') ≡ ((a && b) && hasLength c d s e)
+    go true p true q = ap₂ (hasLength c d) (sym (eq-true s s' p)) (sym (eq-true e e' q))
+    go true p false q = refl
+    go false p b q = refl
+
+-- row i of entry n, whose numbers are l, r, s and e; rs are rows of which those before row i are the table's
+module _ (count : ℕ) (rs : List Row) (t : List ℤ) (i n : ℕ) (l r s e : ℤ) (same : (j : ℕ) → j < i → rowAt rs j ≡ tableRow t j) where
+  abbrev self : Row
+  self = row n l r s e
+
+  refers-is : (z : ℤ) (a : ℕ) (p : Row → Bool) → refers count rs i self z a p ≡ (refersTo t i z a && p (tableRow t (natAbs z)))
+  unfolding refersTo
+  refers-is (pos j) a p = go (ltb j i) refl
+    where
+      go : (b : Bool) → ltb j i ≡ b → (b && (eqb ((rowAt rs j) .entry) a && p (rowAt rs j))) ≡ ((b && eqb (natAbs (cell t j 0)) a) && p (tableRow t j))
+      go true h = ap (λ q. eqb (q .entry) a && p q) (same j (ltb-true j i h))
+      go false h = refl
+  refers-is (negsuc j) a p = refl
+
+  part-is : (z : ℤ) (a : ℕ) → refers count rs i self z a (spansOne count rs i self) ≡ hasPart t i z a s e
+  unfolding hasPart
+  part-is z a = refers-is z a (spansOne count rs i self)
+
+  event-is : isSerial count rs i self l ≡ (leZ (pos 1) l && leb (natAbs l) count)
+  event-is = go l
+    where
+      go : (z : ℤ) → isSerial count rs i self z ≡ (leZ (pos 1) z && leb (natAbs z) count)
+      go (pos k) = refl
+      go (negsuc k) = refl
+
+  -- -1 refers to no row
+  none-part : (z : ℤ) (a : ℕ) → isNone z ≡ true → hasPart t i z a s e ≡ false
+  unfolding hasPart
+  none-part z a h = rw (eq-true z none h, refers-negative t i none a refl)
+
+  lasting-is : (c : LengthTest) (d a : ℕ) → refers count rs i self l a (λ q. spansOne count rs i self q && hasLength c d (q .start) (q .end)) ≡ (hasPart t i l a s e && hasLength c d s e)
+  unfolding hasPart
+  lasting-is c d a =
+      refers-is l a (λ q. spansOne count rs i self q && hasLength c d (q .start) (q .end))
+      ∙ ap (λ x. refersTo t i l a && x) (same-length c d s e (cell t (natAbs l) 3) (cell t (natAbs l) 4))
+      ∙ and-group (refersTo t i l a) (eqZ s (cell t (natAbs l) 3) && eqZ e (cell t (natAbs l) 4)) (hasLength c d s e)
+
+  pub agrees-is : (k : Kind) (a b : ℕ) → inRange k a b ≡ true → agrees count rs i self (operatorBy k a b) ≡ agreesBy k a b count t i l r s e
+  unfolding operatorBy agreesBy isEventRow isArmRow isPairRow isSingleRow spansBoth inRange
+  agrees-is Event a b h = ap (λ x. x && (isNone r && eqZ s e)) event-is
+  agrees-is Or a b h =
+      ap₂ (λ x y. (x && isNone r) || (isNone l && y)) (part-is l a) (part-is r b)
+      ∙ arms (isNone r) (hasPart t i l a s e) (isNone l && hasPart t i r b s e) (λ g. rw (none-part r b g) (and-swap (isNone l) false))
+  agrees-is (Pair c) a b h =
+      refers-is l a (λ p. refers count rs i self r b (spansTwo count rs i self c p))
+      ∙ ap (λ x. refersTo t i l a && x) (refers-is r b (spansTwo count rs i self c (tableRow t (natAbs l))))
+  agrees-is (Absence c) a b h = ap (λ x. x && isNone r) (part-is l a) ∙ and-swap (hasPart t i l a s e) (isNone r)
+  agrees-is (Length c) a b h =
+      ap (λ x. x && isNone r) (lasting-is c b a)
+      ∙ and-swap (hasPart t i l a s e && hasLength c b s e) (isNone r)
+      ∙ and-group (isNone r) (hasPart t i l a s e) (hasLength c b s e)
+  agrees-is Unknown a b h = never h
+
+-- the operator of an entry, in a list of as many as there are entries
+module _ (count : ℕ) (rs : List Row) (i : ℕ) (r : Row) (f : ℕ → Operator) where
+  at-entry : (s m n : ℕ) → n < m → agreesAt count rs i r (map f (numbers s m)) n ≡ agrees count rs i r (f (s + n))
+  at-entry s zero n h = absurd (omega arith)
+  at-entry s (suc m) zero h = ap (λ k. agrees count rs i r (f k)) (sym (add-zero s))
+  at-entry s (suc m) (suc n) h =
+      let e : suc s + n ≡ s + suc n = omega arith in
+      at-entry (suc s) m n (omega arith) ∙ ap (λ k. agrees count rs i r (f k)) e
+
+  past-entries : (s m n : ℕ) → m ≤ n → agreesAt count rs i r (map f (numbers s m)) n ≡ false
+  past-entries s zero n h = refl
+  past-entries s (suc m) zero h = absurd (omega arith)
+  past-entries s (suc m) (suc n) h = past-entries (suc s) m n (omega arith)
+
+module _ (chart : Chart) where
+  operator-is : (count : ℕ) (rs : List Row) (i : ℕ) (r : Row) (n : ℕ) → n < chart .count → agreesAt count rs i r (operatorsOf chart) n ≡ agrees count rs i r (entryOperator (entryAt chart n))
+  unfolding operatorsOf
+  operator-is count rs i r n h =
+      at-entry count rs i r (λ k. entryOperator (entryAt chart k)) 0 (chart .count) n h
+      ∙ ap (λ k. agrees count rs i r (entryOperator (entryAt chart k))) (zero-add n)
+
+  pub no-operator : (count : ℕ) (rs : List Row) (i : ℕ) (r : Row) (n : ℕ) → chart .count ≤ n → agreesAt count rs i r (operatorsOf chart) n ≡ false
+  unfolding operatorsOf
+  no-operator count rs i r n h = past-entries count rs i r (λ k. entryOperator (entryAt chart k)) 0 (chart .count) n h
+
+-- a chart that a watch may use
+module _ (chart : Chart) (usable : isUsable chart ≡ true) where
+  pub usable-few : chart .count ≤ 32
+  unfolding isUsable
+  usable-few =
+      let fits = allBelow (chart .count) (λ n. entryFits n (entryAt chart n)) in
+      leb-true (chart .count) 32 (and-first (leb (chart .count) 32) fits (and-second (leb 1 (chart .count)) (leb (chart .count) 32 && fits) usable))
+
+  usable-entry : (n : ℕ) → n < chart .count → let e = entryAt chart n in inRange (kindOf (e .op)) (e .a) (e .b) ≡ true
+  unfolding isUsable entryFits
+  usable-entry n h =
+      let p : ℕ → Bool = λ m. entryFits m (entryAt chart m) in
+      let e = entryAt chart n in
+      let fits = and-second (leb (chart .count) 32) (allBelow (chart .count) p) (and-second (leb 1 (chart .count)) (leb (chart .count) 32 && allBelow (chart .count) p) usable) in
+      and-first (inRange (kindOf (e .op)) (e .a) (e .b)) (areLower (kindOf (e .op)) n (e .a) (e .b)) (at-place (chart .count) p fits n h)
+
+-- the rows of a table
+module _ (rows : ℕ) (t : List ℤ) where
+  ordered-is : (i : ℕ) → i < rows → isOrdered (rowsIn rows t) i ≡ isAfterLast t i (cell t i 4)
+  unfolding isAfterLast
+  ordered-is zero h = refl
+  ordered-is (suc i) h = ap₂ (λ p q. leZ (p .end) (q .end)) (row-at rows i t (omega arith)) (row-at rows (suc i) t h)
+
+module _ (chart : Chart) (instant floor : ℤ) (events rows : ℕ) (t : List ℤ) (i : ℕ) where
+  pub row-above : isTableRowInJoint chart instant floor events rows t i ≡ true → leZ (pos 0) (cell t i 0) ≡ true
+  unfolding isTableRowInJoint
+  row-above e = and-first (leZ (pos 0) (cell t i 0)) (isRowInJoint (operatorsOf chart) floor instant events (rowsIn rows t) i) e
+
+  pub row-negative : ltZ (cell t i 0) (pos 0) ≡ true → isTableRowInJoint chart instant floor events rows t i ≡ false
+  unfolding isTableRowInJoint
+  row-negative e = simp (not-least (cell t i 0) (pos 0) e)
+
+  module _ (here : i < rows) where
+    -- the same over the row's numbers
+    pub row-told : isRowInJoint (operatorsOf chart) floor instant events (rowsIn rows t) i ≡ (leZ floor (cell t i 3) && (ltZ (cell t i 4) instant && (isAfterLast t i (cell t i 4) && agreesAt events (rowsIn rows t) i (tableRow t i) (operatorsOf chart) (natAbs (cell t i 0)))))
+    row-told =
+        let rs = rowsIn rows t in
+        let ops = operatorsOf chart in
+        ap (λ q. leZ floor (q .start) && (ltZ (q .end) instant && (isOrdered rs i && agreesAt events rs i q ops (q .entry)))) (row-at rows i t here)
+        ∙ ap (λ b. leZ floor (cell t i 3) && (ltZ (cell t i 4) instant && (b && agreesAt events rs i (tableRow t i) ops (natAbs (cell t i 0))))) (ordered-is rows t i here)
+
+    pub row-unknown : chart .count ≤ natAbs (cell t i 0) → isTableRowInJoint chart instant floor events rows t i ≡ false
+    unfolding isTableRowInJoint
+    row-unknown h = simp (row-told, no-operator chart events (rowsIn rows t) i (tableRow t i) (natAbs (cell t i 0)) h, and-false)
+
+    pub row-is : isUsable chart ≡ true → leZ (pos 0) (cell t i 0) ≡ true → natAbs (cell t i 0) < chart .count → isTableRowInJoint chart instant floor events rows t i ≡ isRowOf (entryAt chart (natAbs (cell t i 0))) instant floor events t i
+    unfolding isTableRowInJoint isRowOf
+    row-is u e h =
+        let rs = rowsIn rows t in
+        let n = natAbs (cell t i 0) in
+        let m = entryAt chart n in
+        let same : agrees events rs i (tableRow t i) (entryOperator m) ≡ agreesBy (kindOf (m .op)) (m .a) (m .b) events t i (cell t i 1) (cell t i 2) (cell t i 3) (cell t i 4) =
+        agrees-is events rs t i n (cell t i 1) (cell t i 2) (cell t i 3) (cell t i 4) (λ j g. row-at rows j t (omega arith)) (kindOf (m .op)) (m .a) (m .b) (usable-entry chart u n h) in
+        simp (e, row-told, operator-is chart events rs i (tableRow t i) n h, same)

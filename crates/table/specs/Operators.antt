@@ -1,0 +1,27 @@
+-- A chart value's operators, as the reference model has them.
+use Prim.Native.Nat.{ℕ}
+use mathlib.Core.List.{List, map}
+use Rattle.chart.specs.Operators.{kindOf}
+use Rattle.chart.specs.Charts.{entryAt}
+use Rattle.chart.specs.declared.Chart.{Chart}
+use Rattle.chart.specs.declared.Entry.{Entry}
+use Rattle.chart.specs.declared.operator.Kind.{Kind}
+use Rattle.chart.specs.declared.operator.Kind.the-variants.{Event, Or, Pair, Absence, Length, Unknown}
+use Rattle.model.specs.Lists.{numbers}
+use Rattle.model.specs.Recognitions.{Operator, event, related, or, absence, lasting}
+
+-- An unknown code stands in no chart that a watch may use; it is read as an event here only to have a value.
+unfoldable pub operatorBy : Kind → ℕ → ℕ → Operator
+operatorBy Event a b = event a
+operatorBy Or a b = or a b
+operatorBy (Pair c) a b = related c a b
+operatorBy (Absence e) a b = absence e a b
+operatorBy (Length t) a b = lasting t a b
+operatorBy Unknown a b = event a
+
+abbrev pub entryOperator : Entry → Operator
+entryOperator e = operatorBy (kindOf (e .op)) (e .a) (e .b)
+
+-- "A chart has 1 to 32 entries, numbered from 0"
+unfoldable pub operatorsOf : Chart → List Operator
+operatorsOf c = map (λ n. entryOperator (entryAt c n)) (numbers 0 (c .count))

@@ -1,0 +1,62 @@
+-- The caller's table. Document 01, "Instants, events, rows": "A row is five signed 32-bit numbers: entry, left, right, start, end.
+-- Rows are numbered from 0."
+use Prim.Native.Nat.{ℕ, zero, suc, _+_, _*_, _-_}
+use mathlib.Core.Bool.{Bool, cond}
+use mathlib.Core.List.{List, [], _∷_, _++_, map}
+use lib.Dec.{ltb}
+use lib.IntN.{ℤ, pos, natAbs}
+use lib.ListN.{length, getD, take, drop, replicate}
+use lib.Seq.{sets, slice}
+use Rattle.interval.specs.Instants.{eqZ}
+use Rattle.model.specs.Lists.{every, each, numbers}
+use Rattle.model.specs.Order.{Row, row}
+
+-- column k of row i
+abbrev pub cell : List ℤ → ℕ → ℕ → ℤ
+cell t i k = getD t (i * 5 + k) (pos 0)
+
+-- row i; an entry is no negative number in a table that is in joint
+abbrev pub tableRow : List ℤ → ℕ → Row
+tableRow t i = row (natAbs (cell t i 0)) (cell t i 1) (cell t i 2) (cell t i 3) (cell t i 4)
+
+-- the first n rows
+unfoldable pub rowsIn : ℕ → List ℤ → List Row
+rowsIn n t = map (tableRow t) (numbers 0 n)
+
+-- a row's five numbers, and those of a list of rows
+abbrev pub cellsOf : Row → List ℤ
+cellsOf r = pos (r .entry) ∷ r .left ∷ r .right ∷ r .start ∷ r .end ∷ []
+
+unfoldable pub flat : List Row → List ℤ
+flat rs = each cellsOf rs
+
+-- the table with row r at place i, and with the rows rs from place n on
+unfoldable pub putRow : ℕ → Row → List ℤ → List ℤ
+putRow i r t = sets t (i * 5) (cellsOf r)
+
+unfoldable pub putRows : ℕ → List Row → List ℤ → List ℤ
+putRows n [] t = t
+putRows n (r ∷ rs) t = putRows (suc n) rs (putRow n r t)
+
+-- a table being filled: how many rows it has, one more than it holds where a row found no room
+pub record Filled : Type 0 where
+  pub count : ℕ
+  pub table : List ℤ
+
+abbrev pub filled : ℕ → List ℤ → Filled
+filled n t = record { count = n; table = t }
+
+-- the rows rs appended to n rows, as long as there is room
+unfoldable pub fill : ℕ → ℕ → List Row → List ℤ → Filled
+fill room n [] t = filled n t
+fill room n (r ∷ rs) t = cond (ltb n room) (fill room (suc n) rs (putRow n r t)) (filled (suc room) t)
+
+-- the numbers from index a to before index e, and the table with zeros there
+abbrev pub part : ℕ → ℕ → List ℤ → List ℤ
+part a e t = slice a e t
+
+unfoldable pub areZeros : ℕ → ℕ → List ℤ → Bool
+areZeros a e t = every (λ z. eqZ z (pos 0)) (part a e t)
+
+unfoldable pub zeroed : ℕ → ℕ → List ℤ → List ℤ
+zeroed a e t = take a t ++ (replicate (e - a) (pos 0) ++ drop e t)

@@ -1,0 +1,81 @@
+-- The steps of the calls, by the tests that lead to each answer.
+use Prim.Native.Nat.{ℕ, _*_}
+use native.Mathlib.Omega.{arith}
+use mathlib.Core.Path.{_≡_, refl, sym, ap, _∙_}
+use mathlib.Core.Bool.{Bool, true, false, cond, not}
+use lib.Signed.{ltZ, leZ}
+use mathlib.Core.List.{List}
+use lib.IntN.{ℤ, pos}
+use Rattle.interval.specs.Instants.{isInstant}
+use Rattle.interval.proofs.Signed.{signed, is-lt, not-lt}
+use Rattle.chart.specs.Charts.{isUsable}
+use Rattle.chart.specs.declared.Chart.{Chart}
+use Rattle.table.specs.Table.{zeroed}
+use Rattle.watch.specs.Steps.{Step, refusedStep, takenStep, emptyWatch, roomIn, openingStep, isWatchInJoint, checkNumber, checked}
+use Rattle.watch.specs.declared.Watch.{Watch}
+
+module _ (chart : Chart) (t : List ℤ) (o : ℤ) where
+  pub opening-14 : isUsable chart ≡ false → openingStep chart t o ≡ refusedStep 14 (emptyWatch (pos 0)) t
+  unfolding openingStep
+  opening-14 e = rw e
+
+  pub opening-8 : isUsable chart ≡ true → isInstant o ≡ false → openingStep chart t o ≡ refusedStep 8 (emptyWatch (pos 0)) t
+  unfolding openingStep
+  opening-8 e d = rw (e, d)
+
+  pub opening-taken : isUsable chart ≡ true → isInstant o ≡ true → openingStep chart t o ≡ takenStep (emptyWatch o) (zeroed 0 (roomIn t * 5) t)
+  unfolding openingStep
+  opening-taken e d = rw (e, d)
+
+-- the check before each call
+module _ (chart : Chart) (w : Watch) (t : List ℤ) where
+  pub check-14 : isUsable chart ≡ false → checkNumber chart w t ≡ 14
+  unfolding checkNumber
+  check-14 e = rw e
+
+  pub check-13 : isUsable chart ≡ true → isWatchInJoint chart w t ≡ false → checkNumber chart w t ≡ 13
+  unfolding checkNumber
+  check-13 e d = rw (e, d)
+
+  pub check-0 : isUsable chart ≡ true → isWatchInJoint chart w t ≡ true → checkNumber chart w t ≡ 0
+  unfolding checkNumber
+  check-0 e d = rw (e, d)
+
+  -- what it tells
+  pub record InJoint : Type 0 where
+    pub usable : isUsable chart ≡ true
+    pub joint : isWatchInJoint chart w t ≡ true
+
+  pub check-told : checkNumber chart w t ≡ 0 → InJoint
+  unfolding checkNumber
+  check-told e = go (isUsable chart) refl (isWatchInJoint chart w t) refl e
+    where
+      go : (a : Bool) → isUsable chart ≡ a → (b : Bool) → isWatchInJoint chart w t ≡ b → _≡_ {A = ℕ} (cond a (cond b 0 13) 14) 0 → InJoint
+      go true p true q z = record { usable = p; joint = q }
+      go true p false q z = absurd (omega arith)
+      go false p b q z = absurd (omega arith)
+
+  pub check-passed : (own : Step) → checkNumber chart w t ≡ 0 → checked chart w t own ≡ own
+  unfolding checked
+  check-passed own z = let j = check-told z in rw (j .usable, j .joint)
+
+  pub check-refused : (own : Step) → (checkNumber chart w t ≡ 0 → ⊥) → checked chart w t own ≡ refusedStep (checkNumber chart w t) w t
+  unfolding checked checkNumber
+  check-refused own d = go (isUsable chart) (isWatchInJoint chart w t) d
+    where
+      go : (a b : Bool) → (_≡_ {A = ℕ} (cond a (cond b 0 13) 14) 0 → ⊥) → cond a (cond b own (refusedStep 13 w t)) (refusedStep 14 w t) ≡ refusedStep (cond a (cond b 0 13) 14) w t
+      go true true z = absurd (z refl)
+      go true false z = refl
+      go false b z = refl
+
+-- before is not at or after
+pub lt-not-le : (a b : ℤ) → ltZ a b ≡ not (leZ b a)
+lt-not-le a b = go (leZ b a) refl
+  where
+    go : (c : Bool) → leZ b a ≡ c → ltZ a b ≡ not c
+    go true e = not-lt a b (omega (arith, signed))
+    go false e = is-lt a b (omega (arith, signed))
+
+pub not-twice : (b : Bool) → not (not b) ≡ b
+not-twice true = refl
+not-twice false = refl

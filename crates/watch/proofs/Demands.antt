@@ -1,0 +1,213 @@
+-- The demands of specs/Demands.antt.
+use Prim.Native.Nat.{ℕ, zero, suc, _+_, _*_, _-_, _≤_}
+use native.Mathlib.Omega.{arith}
+use native.Mathlib.Nat.{sub-self}
+use mathlib.Core.Path.{_≡_, refl, sym, ap, ap₂, _∙_, subst}
+use mathlib.Core.Bool.{Bool, true, false, cond, not, _||_, _&&_}
+use mathlib.Core.List.{List, [], _∷_, _++_, map}
+use lib.Dec.{T, leb, ltb, eqb}
+use lib.IntN.{ℤ, pos}
+use lib.ListN.{length, take, drop, replicate, length-map}
+use lib.Seq.{take-at}
+use lib.Signed.{ltZ, leZ}
+use Rattle.interval.specs.Instants.{isInstant}
+use Rattle.interval.proofs.Signed.{holds→, never, and-first, and-second}
+use Rattle.chart.specs.Charts.{isUsable}
+use Rattle.chart.specs.declared.Chart.{Chart}
+use Rattle.model.specs.Capacity.{capacity}
+use Rattle.model.specs.Lists.{keep}
+use Rattle.model.specs.Order.{Row, listing, asRows}
+use Rattle.model.specs.Recognitions.{Operator, Recognition, startOf, endOf}
+use Rattle.model.specs.Reference as ref
+use Rattle.model.specs.Reference.{Call, rowsOf, isAt, firstFloor}
+use Rattle.model.specs.RowSteps as rows
+use Rattle.model.specs.RowSteps.{shown}
+use Rattle.model.specs.Joint.{isInJoint}
+use Rattle.model.specs.Statements.{Reads}
+use Rattle.model.proofs.Theorems as model
+use Rattle.model.proofs.Range.{starts-in-range}
+use Rattle.table.specs.Operators.{operatorsOf}
+use Rattle.table.specs.Table.{rowsIn, flat, areZeros, putRows, zeroed}
+use Rattle.table.proofs.Rows.{length-flat}
+use Rattle.watch.specs.Steps.{Step, emptyWatch, openingStep, refusedStep, takenStep, roomIn, isWatchInJoint, checked, answered, eventOwn, eventStep, withEvent, clockOwn, clockStep, closedRows, marked, forgetOwn, forgetStep, keptRows, raised}
+use Rattle.watch.specs.Histories.{State, state, call, after, answers, opened}
+use Rattle.watch.specs.declared.Watch.{Watch}
+use Rattle.watch.specs.Demands.{history, book, FollowsBook, isForget, nothingForgotten, HoldsRecognitions, Demand1, Demand2, Demand3}
+use Rattle.watch.proofs.Shown.{tableOf, watchOf, stateOf, rows-flat, zeros-behind, drop-table}
+use Rattle.watch.proofs.History.{bounds, history-shown}
+use Rattle.watch.proofs.Lower.{usable-lower}
+
+-- a step that is refused, or taken with number 0
+Given : State → Step → Type 0
+Given s x = (x .answer .refusal ≡ 0 → ⊥) → state x ≡ s
+
+given-refused : (s : State) (n : ℕ) → Given s (refusedStep n (s .watch) (s .table))
+unfolding Given
+given-refused s n d = refl
+
+given-taken : (s : State) (w : Watch) (u : List ℤ) → Given s (takenStep w u)
+unfolding Given
+given-taken s w u d = absurd (d refl)
+
+given-cond : (s : State) (b : Bool) (x y : Step) → Given s x → Given s y → Given s (cond b x y)
+given-cond s true x y p q = p
+given-cond s false x y p q = q
+
+given-checked : (chart : Chart) (s : State) (own : Step) → Given s own → Given s (checked chart (s .watch) (s .table) own)
+unfolding checked
+given-checked chart s own g =
+    let w = s .watch in
+    let t = s .table in
+    let joint = isWatchInJoint chart w t in
+    given-cond s (isUsable chart) (cond joint own (refusedStep 13 w t)) (refusedStep 14 w t) (given-cond s joint own (refusedStep 13 w t) g (given-refused s 13)) (given-refused s 14)
+
+given-event : (s : State) (k : ℕ) → Given s (record { answer = eventOwn (s .watch) k; table = s .table })
+unfolding eventOwn Given
+given-event s k = go (leb 1000000 (s .watch .events)) (leb 64 (s .watch .pending))
+  where
+    go : (a b : Bool) → ((cond a (answered 10 (s .watch)) (cond b (answered 9 (s .watch)) (answered 0 (withEvent (s .watch) k)))) .refusal ≡ 0 → ⊥) → record { watch = (cond a (answered 10 (s .watch)) (cond b (answered 9 (s .watch)) (answered 0 (withEvent (s .watch) k)))) .watch; table = s .table } ≡ s
+    go true b d = refl
+    go false true d = refl
+    go false false d = absurd (d refl)
+
+given-clock : (chart : Chart) (s : State) (x : ℤ) → Given s (clockOwn chart (s .watch) (s .table) x)
+unfolding clockOwn
+given-clock chart s x =
+    let w = s .watch in
+    let t = s .table in
+    let rs = closedRows chart w t in
+    let full = ltb (roomIn t) (length rs) in
+    let taken = takenStep (marked w x (length rs)) (putRows (w .rows) (drop (w .rows) rs) t) in
+    given-cond s (not (isInstant x) || leZ x (w .instant)) (refusedStep 8 w t) (cond full (refusedStep 12 w t) taken) (given-refused s 8)
+    (given-cond s full (refusedStep 12 w t) taken (given-refused s 12) (given-taken s (marked w x (length rs)) (putRows (w .rows) (drop (w .rows) rs) t)))
+
+given-forget : (chart : Chart) (s : State) (f : ℤ) → Given s (forgetOwn chart (s .watch) (s .table) f)
+unfolding forgetOwn
+given-forget chart s f =
+    let w = s .watch in
+    let t = s .table in
+    let n = length (keptRows chart w t f) in
+    let u = zeroed (n * 5) (w .rows * 5) (putRows 0 (keptRows chart w t f) t) in
+    given-cond s (ltZ f (w .floor) || (ltZ (w .instant) f || not (isInstant f))) (refusedStep 11 w t) (takenStep (raised w f n) u) (given-refused s 11) (given-taken s (raised w f n) u)
+
+given-call : (chart : Chart) (s : State) (c : Call) → Given s (call chart s c)
+unfolding call eventStep clockStep forgetStep
+given-call chart s (ref.event k) = given-checked chart s (record { answer = eventOwn (s .watch) k; table = s .table }) (given-event s k)
+given-call chart s (ref.clock x) = given-checked chart s (clockOwn chart (s .watch) (s .table) x) (given-clock chart s x)
+given-call chart s (ref.forget f) = given-checked chart s (forgetOwn chart (s .watch) (s .table) f) (given-forget chart s f)
+
+pub demand-1 : Demand1
+unfolding Given
+demand-1 chart s c = given-call chart s c
+
+-- the floor is kept by all calls but an accepted forget
+cond-floor : (b : Bool) (x y : Step) (f : ℤ) → x .answer .watch .floor ≡ f → y .answer .watch .floor ≡ f → (cond b x y) .answer .watch .floor ≡ f
+cond-floor true x y f p q = p
+cond-floor false x y f p q = q
+
+floor-checked : (chart : Chart) (s : State) (own : Step) → own .answer .watch .floor ≡ s .watch .floor → (checked chart (s .watch) (s .table) own) .answer .watch .floor ≡ s .watch .floor
+unfolding checked
+floor-checked chart s own p = cond-floor (isUsable chart) (cond (isWatchInJoint chart (s .watch) (s .table)) own (refusedStep 13 (s .watch) (s .table))) (refusedStep 14 (s .watch) (s .table)) (s .watch .floor) (cond-floor (isWatchInJoint chart (s .watch) (s .table)) own (refusedStep 13 (s .watch) (s .table)) (s .watch .floor) p refl) refl
+
+floor-event : (w : Watch) (k : ℕ) → (eventOwn w k) .watch .floor ≡ w .floor
+unfolding eventOwn withEvent
+floor-event w k = go (leb 1000000 (w .events)) (leb 64 (w .pending))
+  where
+    go : (a b : Bool) → (cond a (answered 10 w) (cond b (answered 9 w) (answered 0 (withEvent w k)))) .watch .floor ≡ w .floor
+    go true b = refl
+    go false true = refl
+    go false false = refl
+
+floor-clock : (chart : Chart) (w : Watch) (t : List ℤ) (x : ℤ) → (clockOwn chart w t x) .answer .watch .floor ≡ w .floor
+unfolding clockOwn marked
+floor-clock chart w t x = go (not (isInstant x) || leZ x (w .instant)) (ltb (roomIn t) (length (closedRows chart w t)))
+  where
+    go : (a b : Bool) → (cond a (refusedStep 8 w t) (cond b (refusedStep 12 w t) (takenStep (marked w x (length (closedRows chart w t))) (putRows (w .rows) (drop (w .rows) (closedRows chart w t)) t)))) .answer .watch .floor ≡ w .floor
+    go true b = refl
+    go false true = refl
+    go false false = refl
+
+not-both : (n : ℕ) → not (true && eqb n 0) ≡ true → n ≡ 0 → ⊥
+not-both n e z = never (sym (ap (λ k. not (true && eqb k 0)) z) ∙ e)
+
+floor-call : (chart : Chart) (s : State) (c : Call) → not (isForget c && eqb ((call chart s c) .answer .refusal) 0) ≡ true → (state (call chart s c)) .watch .floor ≡ s .watch .floor
+unfolding call eventStep clockStep
+floor-call chart s (ref.event k) e = floor-checked chart s (record { answer = eventOwn (s .watch) k; table = s .table }) (floor-event (s .watch) k)
+floor-call chart s (ref.clock x) e = floor-checked chart s (clockOwn chart (s .watch) (s .table) x) (floor-clock chart (s .watch) (s .table) x)
+floor-call chart s (ref.forget f) e = ap (λ z. z .watch .floor) (demand-1 chart s (ref.forget f) (not-both ((call chart s (ref.forget f)) .answer .refusal) e))
+
+floor-kept : (chart : Chart) (s : State) (calls : List Call) → nothingForgotten chart s calls ≡ true → (after chart s calls) .watch .floor ≡ s .watch .floor
+unfolding after nothingForgotten
+floor-kept chart s [] e = refl
+floor-kept chart s (c ∷ cs) e =
+    let p = not (isForget c && eqb ((call chart s c) .answer .refusal) 0) in
+    let q = nothingForgotten chart (state (call chart s c)) cs in
+    floor-kept chart (state (call chart s c)) cs (and-second p q e) ∙ floor-call chart s c (and-first p q e)
+
+floor-opened : (chart : Chart) (t : List ℤ) (o : ℤ) → (opened chart t o) .watch .floor ≡ firstFloor
+unfolding openingStep
+floor-opened chart t o = go (isUsable chart) (isInstant o)
+  where
+    go : (a b : Bool) → (cond a (cond b (takenStep (emptyWatch o) (zeroed 0 (roomIn t * 5) t)) (refusedStep 8 (emptyWatch (pos 0)) t)) (refusedStep 14 (emptyWatch (pos 0)) t)) .answer .watch .floor ≡ firstFloor
+    go true true = refl
+    go true false = refl
+    go false b = refl
+
+module _ (chart : Chart) (usable : isUsable chart ≡ true) (t : List ℤ) (o : ℤ) (inRange : isInstant o ≡ true) (calls : List Call) where
+  abbrev ops : List Operator
+  ops = operatorsOf chart
+
+  abbrev b : ref.Model
+  b = book chart t o calls
+
+  abbrev rs : List Row
+  rs = rowsOf ops b
+
+  abbrev tail : List ℤ
+  tail = drop (roomIn t * 5) t
+
+  -- the state shows the reference model
+  is-shown : history chart t o calls ≡ stateOf (roomIn t) tail (shown ops b)
+  is-shown = (history-shown chart usable t o inRange calls) .0 ∙ ap (stateOf (roomIn t) tail) ((model.history ops (usable-lower chart usable) (roomIn t) o calls) .state)
+
+  few : length rs ≤ roomIn t
+  unfolding shown
+  few = (bounds ops (roomIn t) (shown ops b) (holds→ _ (subst (λ w. T (isInJoint ops (roomIn t) w)) ((model.history ops (usable-lower chart usable) (roomIn t) o calls) .state) (model.in-joint ops (usable-lower chart usable) (roomIn t) o calls)))) .few
+
+  follows : FollowsBook chart t o calls
+  unfolding shown
+  follows = record {
+    instant = ap (λ s. s .watch .instant) is-shown;
+    floor = ap (λ s. s .watch .floor) is-shown;
+    events = ap (λ s. s .watch .events) is-shown;
+    rows = ap (λ s. s .watch .rows) is-shown;
+    pending = ap (λ s. take (s .watch .pending) (s .watch .codes)) is-shown ∙ take-at codes (replicate (64 - length codes) 0) (length codes) refl;
+    pendingCount = ap (λ s. s .watch .pending) is-shown ∙ length-map (keep (isAt (b .openInstant)) (b .events)) (λ e. e .code);
+    inUse = ap (λ s. take (s .watch .rows * 5) (s .table)) is-shown ∙ take-at (flat rs) _ (length rs * 5) (length-flat rs);
+    unused = ap (λ s. areZeros (s .watch .rows * 5) (roomIn t * 5) (s .table)) is-shown ∙ zeros-behind (roomIn t) tail rs few;
+    beyond = ap (λ s. drop (roomIn t * 5) (s .table)) is-shown ∙ drop-table (roomIn t) tail rs (roomIn t) few (omega arith) ∙ ap (λ n. replicate (n * 5) (pos 0) ++ tail) (sub-self (roomIn t));
+    trees = λ us vs u e. subst (λ l. Reads l (length us) u) (sym (ap (λ s. rowsIn (s .watch .rows) (s .table)) is-shown ∙ rows-flat rs _)) (model.references ops (usable-lower chart usable) (b .events) (b .floor) (b .openInstant) us vs u e);
+    numbers = (history-shown chart usable t o inRange calls) .1 ∙ (model.history ops (usable-lower chart usable) (roomIn t) o calls) .answers;
+  }
+    where
+      codes : List ℕ
+      codes = map (λ e. e .code) (keep (isAt (b .openInstant)) (b .events))
+
+  -- with nothing forgotten the floor leaves out nothing
+  holds : nothingForgotten chart (opened chart t o) calls ≡ true → HoldsRecognitions chart t o calls
+  holds none =
+      let f = follows in
+      let low : b .floor ≡ firstFloor = sym (f .floor) ∙ floor-kept chart (opened chart t o) calls none ∙ floor-opened chart t o in
+      let l = model.listing-is ops (usable-lower chart usable) (b .events) (b .floor) (b .openInstant) in
+      record {
+        ts = listing ops (b .events) (b .floor) (b .openInstant);
+        inUse = f .inUse;
+        increasing = l .increasing;
+        members = λ u. (λ i. let m = l .members u .0 i in (m .0, subst (λ z. T (ltZ (endOf u) z)) (sym (f .instant)) (m .2)), λ i. l .members u .1 (i .0, subst (λ z. T (leZ z (startOf u))) (sym low) (starts-in-range ops (usable-lower chart usable) (roomIn t) o inRange calls u (i .0)), subst (λ z. T (ltZ (endOf u) z)) (f .instant) (i .1)));
+      }
+
+pub demand-2 : Demand2
+demand-2 chart usable t o inRange calls none = holds chart usable t o inRange calls none
+
+pub demand-3 : Demand3
+demand-3 chart usable t o inRange calls = follows chart usable t o inRange calls

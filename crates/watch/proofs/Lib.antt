@@ -1,0 +1,6 @@
+pub mod Shown
+pub mod Stepping
+pub mod Lower
+pub mod History
+pub mod Demands
+pub mod Calls

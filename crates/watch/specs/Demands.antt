@@ -1,0 +1,81 @@
+-- The three demands of the request, said of the step definitions; no proof stands here. proofs/Demands.antt proves each.
+-- The step definitions are what the contracts of the calls cite, so that what is said here holds of the code.
+use Prim.Native.Nat.{ℕ, _*_}
+use mathlib.Core.Path.{_≡_}
+use mathlib.Core.Bool.{Bool, true, false, not, _&&_}
+use mathlib.Core.Logic.{_↔_}
+use mathlib.Core.List.{List, [], _∷_, _++_, map}
+use lib.Dec.{T, eqb}
+use lib.IntN.{ℤ}
+use lib.ListN.{length, take, drop}
+use lib.Signed.{ltZ}
+use Rattle.interval.specs.Instants.{isInstant}
+use Rattle.chart.specs.Charts.{isUsable}
+use Rattle.chart.specs.declared.Chart.{Chart}
+use Rattle.model.specs.Lists.{keep}
+use Rattle.model.specs.Recognitions.{Recognition, endOf}
+use Rattle.model.specs.Order.{before, listing, asRows}
+use Rattle.model.specs.Reference.{Model, Call, opening, step, run, numbersOf, rowsOf, isAt, firstFloor}
+use Rattle.model.specs.Statements.{_∈_, Sorted, IsRecognition, Reads}
+use Rattle.model.specs.Reference as ref
+use Rattle.table.specs.Table.{rowsIn, flat, areZeros}
+use Rattle.table.specs.Operators.{operatorsOf}
+use Rattle.watch.specs.Steps.{roomIn}
+use Rattle.watch.specs.Histories.{State, state, call, after, answers, opened}
+
+-- A history: an opening of this chart, table and instant, and then these calls. The watch and table after it; and the reference model, which is fed
+-- the chart, the calls and the number of rows the table can hold.
+abbrev pub history : Chart → List ℤ → ℤ → List Call → State
+history chart t o calls = after chart (opened chart t o) calls
+
+abbrev pub book : Chart → List ℤ → ℤ → List Call → Model
+book chart t o calls = run (step (operatorsOf chart) (roomIn t)) ((opening o) .state) calls
+
+-- "After every such list, the empty one too, the watch has the book's open instant, floor, count of events, number of rows and events of the open
+-- instant in their order. The rows in use are the book's, number for number; the others are zeros; the numbers after the last row the table can
+-- hold are those from before the opening. A row's references, followed down, give its recognition's own tree. Each call was accepted, or refused
+-- with a number, as in the book."
+pub record FollowsBook (chart : Chart) (t : List ℤ) (o : ℤ) (calls : List Call) : Type 0 where
+  pub instant : (history chart t o calls) .watch .instant ≡ (book chart t o calls) .openInstant
+  pub floor : (history chart t o calls) .watch .floor ≡ (book chart t o calls) .floor
+  pub events : (history chart t o calls) .watch .events ≡ length ((book chart t o calls) .events)
+  pub rows : (history chart t o calls) .watch .rows ≡ length (rowsOf (operatorsOf chart) (book chart t o calls))
+  pub pending : take ((history chart t o calls) .watch .pending) ((history chart t o calls) .watch .codes) ≡ map (λ e. e .code) (keep (isAt ((book chart t o calls) .openInstant)) ((book chart t o calls) .events))
+  pub pendingCount : (history chart t o calls) .watch .pending ≡ length (keep (isAt ((book chart t o calls) .openInstant)) ((book chart t o calls) .events))
+  pub inUse : take ((history chart t o calls) .watch .rows * 5) ((history chart t o calls) .table) ≡ flat (rowsOf (operatorsOf chart) (book chart t o calls))
+  pub unused : areZeros ((history chart t o calls) .watch .rows * 5) (roomIn t * 5) ((history chart t o calls) .table) ≡ true
+  pub beyond : drop (roomIn t * 5) ((history chart t o calls) .table) ≡ drop (roomIn t * 5) t
+  pub trees : (us vs : List Recognition) (u : Recognition) → listing (operatorsOf chart) ((book chart t o calls) .events) ((book chart t o calls) .floor) ((book chart t o calls) .openInstant) ≡ us ++ u ∷ vs → Reads (rowsIn ((history chart t o calls) .watch .rows) ((history chart t o calls) .table)) (length us) u
+  pub numbers : answers chart (opened chart t o) calls ≡ numbersOf (step (operatorsOf chart) (roomIn t)) ((opening o) .state) calls
+
+-- Demand 3, for every chart that 14 lets through, every table, every opening instant in range and every list of calls
+abbrev pub Demand3 : Type 0
+Demand3 = (chart : Chart) → isUsable chart ≡ true → (t : List ℤ) (o : ℤ) → isInstant o ≡ true → (calls : List Call) → FollowsBook chart t o calls
+
+-- Demand 1: "a refused event, mark or forget hands back the watch it got, and no refusal alters a lent byte"
+abbrev pub Demand1 : Type 0
+Demand1 = (chart : Chart) (s : State) (c : Call) → ((call chart s c) .answer .refusal ≡ 0 → ⊥) → state (call chart s c) ≡ s
+
+-- nothing has been forgotten: no forget of the list was accepted
+abbrev pub isForget : Call → Bool
+isForget (ref.event k) = false
+isForget (ref.clock x) = false
+isForget (ref.forget f) = true
+
+unfoldable pub nothingForgotten : Chart → State → List Call → Bool
+nothingForgotten chart s [] = true
+nothingForgotten chart s (c ∷ cs) = not (isForget c && eqb ((call chart s c) .answer .refusal) 0) && nothingForgotten chart (state (call chart s c)) cs
+
+-- the rows in use are those of ts, which has each recognition over the closed instants, those before the open one, one time, none besides, in the
+-- order of rows
+pub record HoldsRecognitions (chart : Chart) (t : List ℤ) (o : ℤ) (calls : List Call) : Type 0 where
+  pub ts : List Recognition
+  pub inUse : take ((history chart t o calls) .watch .rows * 5) ((history chart t o calls) .table) ≡ flat (asRows ts)
+  pub increasing : Sorted before ts
+  pub members : (u : Recognition) → (u ∈ ts) ↔ (IsRecognition (operatorsOf chart) ((book chart t o calls) .events) u × T (ltZ (endOf u) ((history chart t o calls) .watch .instant)))
+
+-- Demand 2: "While nothing has been forgotten, in a history as 3 has it, the table after each accepted clock mark holds, for each chart entry, the
+-- recognitions that the published definition gives for the closed instants: each of them one time, none besides, in the stated order." It is so
+-- after every call, an accepted clock mark among them, which makes its instant the open one.
+abbrev pub Demand2 : Type 0
+Demand2 = (chart : Chart) → isUsable chart ≡ true → (t : List ℤ) (o : ℤ) → isInstant o ≡ true → (calls : List Call) → nothingForgotten chart (opened chart t o) calls ≡ true → HoldsRecognitions chart t o calls

@@ -1,0 +1,183 @@
+// The chronicle watch: a watch by value, its calls, and the caller's table lent to each of them.
+ghost use mathlib.Core.Path.{_≡_};
+ghost use mathlib.Core.Bool.{not, _||_};
+ghost use lib.Signed.{ltZ, leZ};
+ghost use Rattle.interval.specs.Instants.{isInstant};
+ghost use Prim.Native.Nat.{_<_};
+ghost use Rattle.watch.specs.Steps.{emptyWatch, openingStep, checkNumber, withEvent, eventOwn, eventStep, marked, raised};
+use chart::Chart;
+
+// A watch: open instant, floor, count of events, count of rows, and the events of the open instant: how many, and their codes in
+// their order with zeros behind them.
+pub struct Watch {
+    pub instant: i32,
+    pub floor: i32,
+    pub events: usize,
+    pub rows: usize,
+    pub pending: usize,
+    pub codes: [u8; 64],
+}
+
+// What a call answers: the refusal's number, 0 for none, and the new watch.
+pub struct Answer {
+    pub refusal: u32,
+    pub watch: Watch,
+}
+
+fn empty_watch(instant: i32) -> Watch
+    ensures { λ r. ⌜ r ≡ emptyWatch instant ⌝ }
+{
+    Watch {
+        instant,
+        floor: -1000000000,
+        events: 0,
+        rows: 0,
+        pending: 0,
+        codes: [0u8; 64],
+    }
+}
+
+impl Watch {
+    // Opens a watch on a lent table: all its rows are zeros then. Refused (14, 8): the empty watch at instant 0, the table as it was.
+    // One look at each entry of the chart, one pass over the table.
+    pub fn opening(chart: Chart, table: &mut [i32], instant: i32) -> Answer
+        ensures { λ r. ⌜ (r ≡ (openingStep chart (now (table .entry)) instant) .answer) × (now (table .exit) ≡ (openingStep chart (now (table .entry)) instant) .table) ⌝ }
+    {
+        if !chart::is_usable(chart) {
+            return Answer {
+                refusal: 14,
+                watch: empty_watch(0),
+            };
+        }
+        if !interval::is_instant(instant) {
+            return Answer {
+                refusal: 8,
+                watch: empty_watch(0),
+            };
+        }
+        let room = table::rows_that_fit(table.len());
+        table::zero_part(table, 0, room * 5);
+        Answer {
+            refusal: 0,
+            watch: empty_watch(instant),
+        }
+    }
+
+    // The watch with one event more.
+    fn with_event(self, k: u8) -> Watch
+        requires { ⌜ (self .pending < 64) × (self .events < 1000000) ⌝ }
+        ensures { λ r. ⌜ r ≡ withEvent self k ⌝ }
+    {
+        let n = self.pending;
+        let mut next = self;
+        next.codes[n] = k;
+        next.pending = n + 1;
+        next.events = next.events + 1;
+        next
+    }
+
+    // An event of code k on a watch that is known to be in joint: 10, then 9. Constant time.
+    pub fn event_in_joint(self, k: u8) -> Answer
+        ensures { λ r. ⌜ r ≡ eventOwn self k ⌝ }
+    {
+        if 1000000 <= self.events {
+            return Answer {
+                refusal: 10,
+                watch: self,
+            };
+        }
+        if 64 <= self.pending {
+            return Answer {
+                refusal: 9,
+                watch: self,
+            };
+        }
+        let next = self.with_event(k);
+        Answer {
+            refusal: 0,
+            watch: next,
+        }
+    }
+
+    // The watch after a clock mark, with n rows.
+    fn marked(self, instant: i32, n: usize) -> Watch
+        ensures { λ r. ⌜ r ≡ marked self instant n ⌝ }
+    {
+        Watch {
+            instant,
+            floor: self.floor,
+            events: self.events,
+            rows: n,
+            pending: 0,
+            codes: [0u8; 64],
+        }
+    }
+
+    // The watch after a forget, with n rows.
+    fn raised(self, floor: i32, n: usize) -> Watch
+        ensures { λ r. ⌜ r ≡ raised self floor n ⌝ }
+    {
+        let mut next = self;
+        next.floor = floor;
+        next.rows = n;
+        next
+    }
+
+    // The number that calls on this watch, chart and table are refused with first: 14, 13, or 0. One look at each entry and each row.
+    pub fn check(self, chart: Chart, table: &[i32]) -> u32
+        ensures { λ r. ⌜ r ≡ checkNumber chart self (now (table .entry)) ⌝ }
+    {
+        if !chart::is_usable(chart) {
+            return 14;
+        }
+        if !joint::is_in_joint(
+            chart,
+            self.instant,
+            self.floor,
+            self.events,
+            self.rows,
+            self.pending,
+            table,
+        ) {
+            return 13;
+        }
+        0
+    }
+
+    // An event of code k at the open instant: 14, 13, 10, 9. A check, then constant time.
+    pub fn event(self, chart: Chart, table: &[i32], k: u8) -> Answer
+        ensures { λ r. ⌜ r ≡ (eventStep chart self (now (table .entry)) k) .answer ⌝ }
+    {
+        let n = self.check(chart, table);
+        if n != 0 {
+            return Answer {
+                refusal: n,
+                watch: self,
+            };
+        }
+        self.event_in_joint(k)
+    }
+}
+
+// Whether x is an instant after the open one.
+fn is_later(opened: i32, x: i32) -> bool
+    ensures { λ r. ⌜ r ≡ not (not (isInstant x) || leZ x opened) ⌝ }
+{
+    if !interval::is_instant(x) {
+        return false;
+    }
+    opened < x
+}
+
+// Whether f may be the floor: an instant from the floor there is to the open one.
+fn is_floor(floor: i32, opened: i32, f: i32) -> bool
+    ensures { λ r. ⌜ r ≡ not (ltZ f floor || (ltZ opened f || not (isInstant f))) ⌝ }
+{
+    if f < floor {
+        return false;
+    }
+    if opened < f {
+        return false;
+    }
+    interval::is_instant(f)
+}

@@ -1,8 +1,11 @@
 -- The steps of the calls, by the tests that lead to each answer.
-use Prim.Native.Nat.{ℕ, _*_}
+use Prim.Native.Nat.{ℕ, _+_, _*_, _≤_, _<_}
 use native.Mathlib.Omega.{arith}
 use mathlib.Core.Path.{_≡_, refl, sym, ap, _∙_}
-use mathlib.Core.Bool.{Bool, true, false, cond, not}
+use mathlib.Core.Bool.{Bool, true, false, cond, not, _||_}
+use borrow.Author.Tests.{leb-true, leb-false, lt-ltb, le-ltb}
+use lib.Dec.{leb, ltb}
+use lib.ListN.{length, drop}
 use lib.Signed.{ltZ, leZ}
 use mathlib.Core.List.{List}
 use lib.IntN.{ℤ, pos}
@@ -10,8 +13,9 @@ use Rattle.interval.specs.Instants.{isInstant}
 use Rattle.interval.proofs.Signed.{signed, is-lt, not-lt}
 use Rattle.chart.specs.Charts.{isUsable}
 use Rattle.chart.specs.declared.Chart.{Chart}
-use Rattle.table.specs.Table.{zeroed}
-use Rattle.watch.specs.Steps.{Step, refusedStep, takenStep, emptyWatch, roomIn, openingStep, isWatchInJoint, checkNumber, checked}
+use Rattle.table.specs.Table.{zeroed, putRows}
+use Rattle.joint.proofs.Theorems as joint
+use Rattle.watch.specs.Steps.{Step, refusedStep, takenStep, emptyWatch, roomIn, openingStep, isWatchInJoint, checkNumber, checked, closedRows, closedNumber, closedTable, marked, clockOwn, keptRows, raised, forgetOwn}
 use Rattle.watch.specs.declared.Watch.{Watch}
 
 module _ (chart : Chart) (t : List ℤ) (o : ℤ) where
@@ -79,3 +83,50 @@ lt-not-le a b = go (leZ b a) refl
 pub not-twice : (b : Bool) → not (not b) ≡ b
 not-twice true = refl
 not-twice false = refl
+
+-- what the check tells the calls that go on
+pub told : (chart : Chart) (w : Watch) (t : List ℤ) → checkNumber chart w t ≡ 0 → joint.InJoint chart (w .instant) (w .floor) (w .events) (w .rows) (w .pending) t
+told chart w t z =
+    let j = check-told chart w t z in
+    joint.in-joint-ready chart (w .instant) (w .floor) (w .events) (w .rows) (w .pending) t (j .usable) (j .joint)
+
+-- a clock mark, by the tests that lead to its answer
+module _ (chart : Chart) (w : Watch) (t : List ℤ) (x : ℤ) where
+  abbrev early : Bool
+  early = not (isInstant x) || leZ x (w .instant)
+
+  abbrev size : ℕ
+  size = length (closedRows chart w t)
+
+  pub clock-8 : early ≡ true → clockOwn chart w t x ≡ refusedStep 8 w t
+  unfolding clockOwn
+  clock-8 e = rw e
+
+  pub clock-12 : early ≡ false → roomIn t < closedNumber chart w t → (clockOwn chart w t x ≡ refusedStep 12 w t) × (closedTable chart w t ≡ t)
+  unfolding clockOwn closedNumber closedTable
+  clock-12 e h = go (leb size (roomIn t)) refl h
+    where
+      go : (b : Bool) → leb size (roomIn t) ≡ b → roomIn t < cond b size (roomIn t + 1) → (clockOwn chart w t x ≡ refusedStep 12 w t) × (cond b (putRows (w .rows) (drop (w .rows) (closedRows chart w t)) t) t ≡ t)
+      go true p k = absurd (omega (arith, leb-true size (roomIn t) p))
+      go false p k = (rw (e, lt-ltb (roomIn t) size (leb-false size (roomIn t) p)), refl)
+
+  pub clock-taken : early ≡ false → closedNumber chart w t ≤ roomIn t → clockOwn chart w t x ≡ takenStep (marked w x (closedNumber chart w t)) (closedTable chart w t)
+  unfolding clockOwn closedNumber closedTable
+  clock-taken e h = go (leb size (roomIn t)) refl h
+    where
+      go : (b : Bool) → leb size (roomIn t) ≡ b → cond b size (roomIn t + 1) ≤ roomIn t → clockOwn chart w t x ≡ takenStep (marked w x (cond b size (roomIn t + 1))) (cond b (putRows (w .rows) (drop (w .rows) (closedRows chart w t)) t) t)
+      go true p k = rw (e, le-ltb (roomIn t) size (omega arith))
+      go false p k = absurd (omega arith)
+
+-- a forget
+module _ (chart : Chart) (w : Watch) (t : List ℤ) (f : ℤ) where
+  abbrev barred : Bool
+  barred = ltZ f (w .floor) || (ltZ (w .instant) f || not (isInstant f))
+
+  pub forget-11 : barred ≡ true → forgetOwn chart w t f ≡ refusedStep 11 w t
+  unfolding forgetOwn
+  forget-11 e = rw e
+
+  pub forget-taken : barred ≡ false → forgetOwn chart w t f ≡ takenStep (raised w f (length (keptRows chart w t f))) (zeroed (length (keptRows chart w t f) * 5) (w .rows * 5) (putRows 0 (keptRows chart w t f) t))
+  unfolding forgetOwn
+  forget-taken e = rw e

@@ -4,7 +4,7 @@ ghost use mathlib.Core.Bool.{not, _||_};
 ghost use lib.Signed.{ltZ, leZ};
 ghost use Rattle.interval.specs.Instants.{isInstant};
 ghost use Prim.Native.Nat.{_<_};
-ghost use Rattle.watch.specs.Steps.{emptyWatch, openingStep, checkNumber, withEvent, eventOwn, eventStep, marked, raised};
+ghost use Rattle.watch.specs.Steps.{emptyWatch, openingStep, checkNumber, withEvent, eventOwn, eventStep, closedNumber, closedTable, marked, clockOwn, clockStep, raised, forgetOwn, forgetStep};
 use chart::Chart;
 
 // A watch: open instant, floor, count of events, count of rows, and the events of the open instant: how many, and their codes in
@@ -156,6 +156,88 @@ impl Watch {
             };
         }
         self.event_in_joint(k)
+    }
+
+    // A clock mark: closes the open instant and opens `instant`: 14, 13, 8, 12. A check, then closing.
+    pub fn clock(self, chart: Chart, table: &mut [i32], instant: i32) -> Answer
+        ensures { λ r. ⌜ (r ≡ (clockStep chart self (now (table .entry)) instant) .answer) × (now (table .exit) ≡ (clockStep chart self (now (table .entry)) instant) .table) ⌝ }
+    {
+        let n = self.check(chart, table);
+        if n != 0 {
+            return Answer {
+                refusal: n,
+                watch: self,
+            };
+        }
+        self.clock_in_joint(chart, table, instant)
+    }
+
+    // A clock mark on a watch that is known to be in joint. With nothing pending it looks at each entry of the chart; otherwise see closing::close.
+    pub fn clock_in_joint(self, chart: Chart, table: &mut [i32], instant: i32) -> Answer
+        requires { ⌜ checkNumber chart self (now table) ≡ 0 ⌝ }
+        ensures { λ r. ⌜ (r ≡ (clockOwn chart self (now (table .entry)) instant) .answer) × (now (table .exit) ≡ (clockOwn chart self (now (table .entry)) instant) .table) ⌝ }
+    {
+        if !is_later(self.instant, instant) {
+            return Answer {
+                refusal: 8,
+                watch: self,
+            };
+        }
+        let room = table::rows_that_fit(table.len());
+        let n = self.closed(chart, table);
+        if room < n {
+            return Answer {
+                refusal: 12,
+                watch: self,
+            };
+        }
+        Answer {
+            refusal: 0,
+            watch: self.marked(instant, n),
+        }
+    }
+
+    // Closes the open instant: the number of rows then, or one more than the table holds and the table as it was.
+    fn closed(self, chart: Chart, table: &mut [i32]) -> usize
+        requires { ⌜ checkNumber chart self (now table) ≡ 0 ⌝ }
+        ensures { λ r. ⌜ (r ≡ closedNumber chart self (now (table .entry))) × (now (table .exit) ≡ closedTable chart self (now (table .entry))) ⌝ }
+    {
+        let pending = self.pending;
+        let first = self.events - pending + 1;
+        let codes = self.codes;
+        closing::close(chart, table, self.rows, self.instant, first, pending, codes)
+    }
+
+    // A forget: raises the floor to f: 14, 13, 11. A check, then one walk of the rows.
+    pub fn forget(self, chart: Chart, table: &mut [i32], f: i32) -> Answer
+        ensures { λ r. ⌜ (r ≡ (forgetStep chart self (now (table .entry)) f) .answer) × (now (table .exit) ≡ (forgetStep chart self (now (table .entry)) f) .table) ⌝ }
+    {
+        let n = self.check(chart, table);
+        if n != 0 {
+            return Answer {
+                refusal: n,
+                watch: self,
+            };
+        }
+        self.forget_in_joint(chart, table, f)
+    }
+
+    // A forget on a watch that is known to be in joint. One walk of the rows.
+    pub fn forget_in_joint(self, chart: Chart, table: &mut [i32], f: i32) -> Answer
+        requires { ⌜ checkNumber chart self (now table) ≡ 0 ⌝ }
+        ensures { λ r. ⌜ (r ≡ (forgetOwn chart self (now (table .entry)) f) .answer) × (now (table .exit) ≡ (forgetOwn chart self (now (table .entry)) f) .table) ⌝ }
+    {
+        if !is_floor(self.floor, self.instant, f) {
+            return Answer {
+                refusal: 11,
+                watch: self,
+            };
+        }
+        let n = forgetting::forget(chart, table, self.rows, f);
+        Answer {
+            refusal: 0,
+            watch: self.raised(f, n),
+        }
     }
 }
 

@@ -1,21 +1,21 @@
 -- The reader's loop, line by line, and the check behind refusal 14.
-use Prim.Native.Nat.{ℕ, zero, suc, _+_, _-_, _≤_, _<_}
+use Prim.Native.Nat.{ℕ, suc, _+_, _-_, _≤_, _<_}
 use native.Mathlib.Omega.{arith}
 use native.Mathlib.Numerals.{add-one}
-use mathlib.Core.Path.{_≡_, refl, sym, ap, _∙_}
+use mathlib.Core.Path.{_≡_, refl}
 use mathlib.Core.Bool.{Bool, true, false, cond, _&&_}
 use mathlib.Core.List.{List, [], _∷_}
-use borrow.Author.Tests.{eq-eqb, ne-eqb, eqb-true, ltb-true, ltb-false, lt-ltb, le-leb, lt-leb}
-use lib.Dec.{eqb, ltb}
+use borrow.Author.Tests.{eq-eqb, ne-eqb, eqb-true, eqb-false, leb-true, leb-false, ltb-true, ltb-false, lt-ltb, le-leb, lt-leb}
+use lib.Dec.{eqb, leb, ltb}
 use lib.ListN.{length, take, drop, length-take}
 use lib.Seq.{length-take-le}
-use Rattle.text.specs.Text.{Line, lines, indexOf, whole, isRecord, fields}
-use Rattle.text.proofs.Laws.{first-whole, first-broken, index-le, lines-none}
-use Rattle.chart.specs.Records.{answerTo, lineSize, lineAnswer, refusedLine, checkedLine, parsedLine}
-use Rattle.chart.specs.Charts.{readLines, readChart, orNoLine, noEntries, withEntry, refusedChart, isUsable, allBelow, entryFits, entryAt}
+use Rattle.text.specs.Text.{Line, lines, indexOf, whole, lineSize}
+use Rattle.text.proofs.Laws.{first-whole, first-broken, index-le, lines-none, size-found, size-none}
+use Rattle.chart.specs.Records.{answerTo, lineAnswer, refusedLine}
+use Rattle.chart.specs.Charts.{readLines, addLine, takenChart, readChart, orNoLine, noEntries, withEntry, refusedChart, isUsable, allBelow, entryFits, entryAt}
 use Rattle.chart.specs.declared.Chart.{Chart}
+use Rattle.chart.specs.declared.record.LineAnswer.{LineAnswer}
 use Rattle.chart.proofs.Below.{not-all}
-use Rattle.chart.proofs.Records.{size-found, size-none}
 
 -- the first line of a text as the code finds it
 pub record First (n : ℕ) (s : List ℕ) : Type 0 where
@@ -113,14 +113,56 @@ pub record Taken (n : ℕ) (s : List ℕ) : Type 0 where
 pub taken : (n : ℕ) (s : List ℕ) → (lineAnswer n (lineSize s) s) .refusal ≡ 0 → Taken n s
 taken n s e = let t = taken-sized n (lineSize s) s e in record { room = t .0; some = t .1 }
 
-pub size-le : (s : List ℕ) → lineSize s ≤ length s
-size-le s = go (ltb (indexOf 10 (take 64 s)) (length (take 64 s))) refl
+-- one more line: where the chart is full, where the line is refused and where it is taken
+module _ (c : Chart) (s : List ℕ) where
+  pub add-full : 32 ≤ c .count → addLine c s ≡ refusedChart 2 33
+  unfolding addLine
+  add-full h = simp (le-leb _ _ h)
+
+  pub add-refused : c .count < 32 → ((answerTo (c .count) (whole s)) .refusal ≡ 0 → ⊥) → addLine c s ≡ refusedChart ((answerTo (c .count) (whole s)) .refusal) (c .count + 1)
+  unfolding addLine readLines
+  add-refused h z = simp (lt-leb _ _ h, ne-eqb _ _ z)
+
+  pub add-taken : c .count < 32 → (answerTo (c .count) (whole s)) .refusal ≡ 0 → addLine c s ≡ takenChart (withEntry c ((answerTo (c .count) (whole s)) .entry))
+  unfolding addLine readLines
+  add-taken h z = simp (lt-leb _ _ h, eq-eqb _ _ z)
+
+  -- a line that is taken makes the chart one entry longer
+  pub add-line-taken : (addLine c s) .refusal ≡ 0 → ((addLine c s) .chart) .count ≡ c .count + 1
+  unfolding addLine readLines refusedChart withEntry
+  add-line-taken z = go (leb 32 (c .count)) (eqb (a .refusal) 0) refl z
+    where
+      a : LineAnswer
+      a = answerTo (c .count) (whole s)
+
+      go : (t u : Bool) → eqb (a .refusal) 0 ≡ u → (cond t (refusedChart 2 33) (cond u (takenChart (withEntry c (a .entry))) (refusedChart (a .refusal) (c .count + 1)))) .refusal ≡ 0 → ((cond t (refusedChart 2 33) (cond u (takenChart (withEntry c (a .entry))) (refusedChart (a .refusal) (c .count + 1)))) .chart) .count ≡ c .count + 1
+      go true u e y = absurd (omega arith)
+      go false true e y = refl
+      go false false e y = absurd (eqb-false (a .refusal) 0 e y)
+
+-- the reader's answer to a list of lines, one line at a time
+full-answer : (l : Line) → answerTo 32 l ≡ refusedLine 2
+unfolding answerTo
+full-answer l = refl
+
+pub lines-by-one : (c : Chart) (s : List ℕ) (ls : List Line) → c .count ≤ 32 → readLines c (whole s ∷ ls) ≡ cond (eqb ((addLine c s) .refusal) 0) (readLines ((addLine c s) .chart) ls) (addLine c s)
+unfolding readLines refusedChart
+lines-by-one c s ls h = go (leb 32 (c .count)) refl (eqb (a .refusal) 0) refl
   where
-    go : (t : Bool) → ltb (indexOf 10 (take 64 s)) (length (take 64 s)) ≡ t → lineSize s ≤ length s
-    go true e =
-        let h = ltb-true (indexOf 10 (take 64 s)) (length (take 64 s)) e in
-        omega (arith, size-found s h, length-take 64 s)
-    go false e = omega (arith, size-none s (ltb-false (indexOf 10 (take 64 s)) (length (take 64 s)) e))
+    a : LineAnswer
+    a = answerTo (c .count) (whole s)
+
+    go : (t : Bool) → leb 32 (c .count) ≡ t → (u : Bool) → eqb (a .refusal) 0 ≡ u → readLines c (whole s ∷ ls) ≡ cond (eqb ((addLine c s) .refusal) 0) (readLines ((addLine c s) .chart) ls) (addLine c s)
+    go true e u f =
+        let k = leb-true 32 (c .count) e in
+        let n : c .count ≡ 32 = omega arith in
+        rw (add-full c s k, n, full-answer (whole s))
+    go false e true f =
+        let z = eqb-true (a .refusal) 0 f in
+        simp (add-taken c s (leb-false 32 (c .count) e) z, f)
+    go false e false f =
+        let z = eqb-false (a .refusal) 0 f in
+        simp (add-refused c s (leb-false 32 (c .count) e) z, f)
 
 -- the check behind refusal 14
 and-false : (a b : Bool) → b ≡ false → (a && b) ≡ false

@@ -1,14 +1,13 @@
 -- A line's definition, cut at its first tab: what each part of the reader leaves to the next.
-use Prim.Native.Nat.{ℕ, suc, _+_, _≤_, _<_, _^_, min}
+use Prim.Native.Nat.{ℕ, _+_, _≤_, _<_, _^_}
 use native.Mathlib.Omega.{arith}
 use native.Mathlib.Numerals.{add-one}
-use mathlib.Core.Path.{_≡_, refl, sym, ap, _∙_}
+use mathlib.Core.Path.{_≡_, refl}
 use mathlib.Core.Bool.{Bool, true, false, cond, _&&_}
 use mathlib.Core.List.{List, [], _∷_}
-use borrow.Author.Tests.{leb-true, leb-false, ltb-true, eqb-true, lt-ltb, le-ltb}
+use borrow.Author.Tests.{leb-true, ltb-true, eqb-true}
 use lib.Dec.{eqb, leb, ltb}
 use lib.ListN.{length, take, drop}
-use lib.Seq.{take-all}
 use Rattle.interval.specs.Instants.{isLength}
 use Rattle.interval.proofs.Signed.{never, and-first, and-second}
 use Rattle.decimal.specs.Spelling.{numberOf}
@@ -18,7 +17,7 @@ use Rattle.text.proofs.Laws.{split-cut, split-none, split-some, index-le}
 use Rattle.chart.specs.Operators.{operatorOf, inRange, areLower}
 use Rattle.chart.specs.declared.operator.Kind.{Kind}
 use Rattle.chart.specs.declared.operator.Kind.the-variants.{Event, Or, Pair, Absence, Length, Unknown}
-use Rattle.chart.specs.Records.{parsedLine, numbered, operatorLine, byOperator, eventLine, withCode, operandsLine, secondOperand, withOperands, lineSize}
+use Rattle.chart.specs.Records.{parsedLine, numbered, operatorLine, byOperator, eventLine, withCode, operandsLine, secondOperand, withOperands}
 use Rattle.chart.specs.declared.record.Parsed.{Parsed}
 
 -- a text with no tab is one field; with one, its first field and the rest
@@ -115,25 +114,3 @@ small (Length t) n a b h r l =
     let q = leb-true b 2000000000 r in
     record { first = omega arith; second = omega arith }
 small Unknown n a b h r l = never r
-
--- the first line's size, where its byte 10 is among the first 64 bytes and where not
-pub size-found : (s : List ℕ) → indexOf 10 (take 64 s) < length (take 64 s) → lineSize s ≡ indexOf 10 (take 64 s) + 1
-unfolding lineSize
-size-found s h = simp (lt-ltb _ _ h)
-
-pub size-none : (s : List ℕ) → length (take 64 s) ≤ indexOf 10 (take 64 s) → lineSize s ≡ 0
-unfolding lineSize
-size-none s h = simp (le-ltb _ _ h)
-
--- the window of at most 64 bytes
-pub window-is : (s : List ℕ) → take (min 64 (length s)) s ≡ take 64 s
-window-is s = go (leb 64 (length s)) refl
-  where
-    go : (t : Bool) → leb 64 (length s) ≡ t → take (min 64 (length s)) s ≡ take 64 s
-    go true e =
-        let h = leb-true 64 (length s) e in
-        let m : min 64 (length s) ≡ 64 = omega arith in
-        ap (λ n. take n s) m
-    go false e =
-        let h = leb-false 64 (length s) e in
-        take-all (min 64 (length s)) s (omega arith) ∙ sym (take-all 64 s (omega arith))

@@ -1,32 +1,33 @@
--- A chart that was read is one a watch may use: `read-usable`.
+-- A chart that was read is one a watch may use: `read-usable`, and line by line `good-none`, `good-added`, `good-usable`.
 use Prim.Native.Nat.{ℕ, _+_, _≤_, _<_}
 use native.Mathlib.Omega.{arith}
-use mathlib.Core.Path.{_≡_, refl, sym, ap, _∙_}
+use mathlib.Core.Path.{_≡_, refl, ap, _∙_}
 use mathlib.Core.Bool.{Bool, true, false, cond, _&&_}
 use mathlib.Core.List.{List, [], _∷_}
 use mathlib.Core.Logic.{_⊎_, inl, inr}
-use borrow.Author.Tests.{eqb-true, eqb-false}
-use lib.Dec.{eqb}
+use borrow.Author.Tests.{eqb-true, eqb-false, leb-true}
+use lib.Dec.{eqb, leb}
 use lib.ListN.{length, getD, set, length-set, length-replicate}
 use lib.Seq.{getD-set-same, getD-set-other}
-use Rattle.text.specs.Text.{Line, lines, isRecord, fields}
+use Rattle.interval.proofs.Signed.{and-first, and-second}
+use Rattle.text.specs.Text.{Line, lines, whole, isRecord, fields}
 use Rattle.chart.specs.Operators.{kindOf, inRange, areLower}
 use Rattle.chart.specs.Records.{entry, answerTo, refusedLine, takenLine, checkedEntry, checkedLine, parsedLine}
-use Rattle.chart.specs.Charts.{readLines, readChart, orNoLine, noEntries, withEntry, refusedChart, isUsable, allBelow, entryFits, entryAt}
+use Rattle.chart.specs.Charts.{readLines, addLine, takenChart, readChart, orNoLine, noEntries, withEntry, refusedChart, isUsable, allBelow, entryFits, entryAt}
 use Rattle.chart.specs.declared.Entry.{Entry}
 use Rattle.chart.specs.declared.Chart.{Chart}
 use Rattle.chart.specs.declared.record.Parsed.{Parsed}
 use Rattle.chart.specs.declared.record.LineAnswer.{LineAnswer}
-use Rattle.chart.proofs.Below.{none-below, one-more, same-below}
+use Rattle.chart.proofs.Below.{none-below, one-more, same-below, at-place}
 use Rattle.chart.proofs.Charts.{usable}
 
 -- a chart so far: at most 32 entries, all of which fit.
-record Good (c : Chart) : Type 0 where
-  size : length (c .entries) ≡ 32
-  few : c .count ≤ 32
-  fits : allBelow (c .count) (λ n. entryFits n (entryAt c n)) ≡ true
+pub record Good (c : Chart) : Type 0 where
+  pub size : length (c .entries) ≡ 32
+  pub few : c .count ≤ 32
+  pub fits : allBelow (c .count) (λ n. entryFits n (entryAt c n)) ≡ true
 
-good-none : Good noEntries
+pub good-none : Good noEntries
 unfolding noEntries
 good-none = record { size = length-replicate 32 (entry 0 0 0); few = omega arith; fits = none-below _ }
 
@@ -46,7 +47,7 @@ unfolding checkedLine
 line-fits n Parsed.Malformed z = absurd (omega arith)
 line-fits n (Parsed.Line e op a b) z = entry-fits n e op a b z
 
-answer-fits : (n : ℕ) (l : Line) → (answerTo n l) .refusal ≡ 0 → (n ≡ 32 → ⊥) × (entryFits n ((answerTo n l) .entry) ≡ true)
+pub answer-fits : (n : ℕ) (l : Line) → (answerTo n l) .refusal ≡ 0 → (n ≡ 32 → ⊥) × (entryFits n ((answerTo n l) .entry) ≡ true)
 unfolding answerTo
 answer-fits n l z = go (eqb n 32) refl (isRecord l) z
   where
@@ -58,7 +59,7 @@ answer-fits n l z = go (eqb n 32) refl (isRecord l) z
     go false e true y = (eqb-false n 32 e, line-fits n p y)
     go false e false y = absurd (omega arith)
 
-good-more : (c : Chart) (e : Entry) → Good c → (c .count ≡ 32 → ⊥) → entryFits (c .count) e ≡ true → Good (withEntry c e)
+pub good-more : (c : Chart) (e : Entry) → Good c → (c .count ≡ 32 → ⊥) → entryFits (c .count) e ≡ true → Good (withEntry c e)
 unfolding withEntry
 good-more c e g d h = record {
   size = length-set (c .entries) (c .count) e ∙ g .size;
@@ -82,6 +83,24 @@ left-good c (l ∷ ls) g s z = go (eqb (a .refusal) 0) refl (λ d h y. left-good
         left (withEntry c (a .entry)) (good-more c (a .entry) g (f .0) (f .1)) (inl (omega arith)) y
     go false e left y = absurd (eqb-false (a .refusal) 0 e y)
 
+-- and so does one more line; with an entry, a good chart is one a watch may use
+pub good-added : (c : Chart) (s : List ℕ) → Good c → (addLine c s) .refusal ≡ 0 → Good ((addLine c s) .chart)
+unfolding addLine readLines refusedChart
+good-added c s g z = go (leb 32 (c .count)) (eqb (a .refusal) 0) refl z
+  where
+    a : LineAnswer
+    a = answerTo (c .count) (whole s)
+
+    go : (t u : Bool) → eqb (a .refusal) 0 ≡ u → (cond t (refusedChart 2 33) (cond u (takenChart (withEntry c (a .entry))) (refusedChart (a .refusal) (c .count + 1)))) .refusal ≡ 0 → Good ((cond t (refusedChart 2 33) (cond u (takenChart (withEntry c (a .entry))) (refusedChart (a .refusal) (c .count + 1)))) .chart)
+    go true u e y = absurd (omega arith)
+    go false true e y =
+        let f = answer-fits (c .count) (whole s) (eqb-true (a .refusal) 0 e) in
+        good-more c (a .entry) g (f .0) (f .1)
+    go false false e y = absurd (eqb-false (a .refusal) 0 e y)
+
+pub good-usable : (c : Chart) → Good c → 1 ≤ c .count → isUsable c ≡ true
+good-usable c g h = usable c h (g .few) (g .fits)
+
 -- the reader's charts are those a watch may use
 pub read-usable : (s : List ℕ) → (readChart s) .refusal ≡ 0 → isUsable ((readChart s) .chart) ≡ true
 unfolding readChart orNoLine refusedChart
@@ -90,3 +109,16 @@ read-usable s z = go (lines s) z
     go : (ls : List Line) → (orNoLine ls) .refusal ≡ 0 → isUsable ((orNoLine ls) .chart) ≡ true
     go [] y = absurd (omega arith)
     go (l ∷ ls) y = left-good noEntries (l ∷ ls) good-none (inr (omega arith)) y
+
+-- a chart that a watch may use has at most 32 entries, all of which fit
+module _ (c : Chart) (u : isUsable c ≡ true) where
+  abbrev fitting : Bool
+  fitting = allBelow (c .count) (λ n. entryFits n (entryAt c n))
+
+  pub usable-few : c .count ≤ 32
+  unfolding isUsable
+  usable-few = leb-true (c .count) 32 (and-first (leb (c .count) 32) fitting (and-second (leb 1 (c .count)) (leb (c .count) 32 && fitting) u))
+
+  pub usable-fits : (i : ℕ) → i < c .count → entryFits i (entryAt c i) ≡ true
+  unfolding isUsable
+  usable-fits i h = at-place (c .count) (λ n. entryFits n (entryAt c n)) (and-second (leb (c .count) 32) fitting (and-second (leb 1 (c .count)) (leb (c .count) 32 && fitting) u)) i h

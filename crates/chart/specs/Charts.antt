@@ -4,14 +4,13 @@ use mathlib.Core.Bool.{Bool, true, cond, _&&_}
 use mathlib.Core.List.{List, [], _∷_}
 use lib.Dec.{eqb, leb}
 use lib.ListN.{getD, set, replicate}
-use Rattle.text.specs.Text.{Line, lines}
+use Rattle.text.specs.Text.{Line, lines, whole}
 use Rattle.chart.specs.Operators.{kindOf, inRange, areLower}
 use Rattle.chart.specs.Records.{entry, answerTo}
 use Rattle.chart.specs.declared.Entry.{Entry}
 use Rattle.chart.specs.declared.Chart.{Chart}
 use Rattle.chart.specs.declared.ChartAnswer.{ChartAnswer}
 use Rattle.chart.specs.declared.Verdict.{Verdict}
-use Rattle.chart.specs.declared.record.LineAnswer.{LineAnswer}
 
 -- a chart of no entries
 unfoldable pub noEntries : Chart
@@ -34,6 +33,10 @@ readLines c (l ∷ ls) =
     cond (eqb ((answerTo (c .count) l) .refusal) 0)
     (readLines (withEntry c ((answerTo (c .count) l) .entry)) ls)
     (refusedChart ((answerTo (c .count) l) .refusal) (c .count + 1))
+
+-- the chart with the entry of one more line, which has its byte 10; a chart of 32 or more takes none: "2 a 33rd line"
+unfoldable pub addLine : Chart → List ℕ → ChartAnswer
+addLine c s = cond (leb 32 (c .count)) (refusedChart 2 33) (readLines c (whole s ∷ []))
 
 -- "1 no line"
 unfoldable pub orNoLine : List Line → ChartAnswer

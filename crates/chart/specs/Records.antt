@@ -1,12 +1,12 @@
 -- A line of a chart. Document 01, "Chart and log on paper": "Chart line: entry number, operator word, operands."
-use Prim.Native.Nat.{ℕ, _+_, _-_}
-use mathlib.Core.Bool.{Bool, true, false, cond}
+use Prim.Native.Nat.{ℕ, _-_}
+use mathlib.Core.Bool.{cond}
 use mathlib.Core.List.{List, [], _∷_}
-use lib.Dec.{eqb, ltb}
-use lib.ListN.{length, take}
+use lib.Dec.{eqb}
+use lib.ListN.{take}
 use Rattle.decimal.specs.Spelling.{numberOf}
 use Rattle.decimal.specs.declared.Number.{Number}
-use Rattle.text.specs.Text.{Line, isRecord, fields, indexOf}
+use Rattle.text.specs.Text.{Line, isRecord, fields}
 use Rattle.chart.specs.Operators.{operatorOf, kindOf, inRange, areLower}
 use Rattle.chart.specs.declared.Entry.{Entry}
 use Rattle.chart.specs.declared.record.Parsed.{Parsed}
@@ -79,9 +79,6 @@ checkedLine n (Parsed.Line e op a b) = checkedEntry n e op a b
 unfoldable pub answerTo : ℕ → Line → LineAnswer
 answerTo n l = cond (eqb n 32) (refusedLine 2) (cond (isRecord l) (checkedLine n (parsedLine (fields (l .bytes)))) (refusedLine 3))
 
--- The same as the code finds it: how many bytes the first line has with its byte 10, 0 where it is no whole one, and its answer
-unfoldable pub lineSize : List ℕ → ℕ
-lineSize s = cond (ltb (indexOf 10 (take 64 s)) (length (take 64 s))) (indexOf 10 (take 64 s) + 1) 0
-
+-- The same as the code finds it, from the size of the first line
 unfoldable pub lineAnswer : ℕ → ℕ → List ℕ → LineAnswer
 lineAnswer n size s = cond (eqb n 32) (refusedLine 2) (cond (eqb size 0) (refusedLine 3) (checkedLine n (parsedLine (fields (take (size - 1) s)))))

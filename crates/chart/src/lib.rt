@@ -1,12 +1,13 @@
 // Charts: the chart value, the reader of a chart on paper with its C entry, and the check behind refusal 14.
 ghost use mathlib.Core.Path.{_≡_};
 ghost use Prim.Native.Nat.{_<_};
-ghost use Rattle.chart.specs.Charts.{noEntries, withEntry, readChart, refusedChart, verdictOf, entryFits, isUsable};
+ghost use Rattle.chart.specs.Charts.{noEntries, withEntry, readChart, addLine, refusedChart, verdictOf, entryFits, isUsable};
 
 pub mod operator;
 pub mod record;
 
 // An entry of a chart: its operator's code and its operands a and b. An event's a is its code and its b is 0; a length test's b is its length.
+#[repr(C)]
 pub struct Entry {
     pub op: u8,
     pub a: u32,
@@ -14,12 +15,14 @@ pub struct Entry {
 }
 
 // The entries 0 to count - 1 are the chart's; the others are blank in a chart that was read.
+#[repr(C)]
 pub struct Chart {
     pub count: usize,
     pub entries: [Entry; 32],
 }
 
 // A refusal 1 to 6 with its line, counted from 1, and a chart of no entries; or 0, 0 and the chart.
+#[repr(C)]
 pub struct ChartAnswer {
     pub refusal: u32,
     pub line: u32,
@@ -76,7 +79,7 @@ pub fn read(s: &[u8]) -> ChartAnswer
     let mut at: usize = 0;
     while at < s.len() {
         let n = chart.count;
-        let size = record::line_size(&s[at..]);
+        let size = text::line_size(&s[at..]);
         let a = record::read_line(&s[at..], size, n);
         let refusal = a.refusal;
         if refusal != 0 {
@@ -102,6 +105,29 @@ pub extern "C" fn chronicle_check_chart(bytes: &[u8]) -> Verdict
     Verdict {
         refusal: a.refusal,
         line: a.line,
+    }
+}
+
+// Adds the entry of one more line, s without its byte 10, to the chart. Each byte of a line of at most 63 is looked at twice at most;
+// a longer line is refused unread. The rest of the cost is constant.
+pub fn add_line(chart: Chart, s: &[u8]) -> ChartAnswer
+    ensures { λ r. ⌜ r ≡ addLine chart (now (s .entry)) ⌝ }
+{
+    let n = chart.count;
+    if 32 <= n {
+        return refused(2, 33);
+    }
+    let a = record::read_whole(s, n);
+    let refusal = a.refusal;
+    if refusal != 0 {
+        return refused(refusal, (n + 1) as u32);
+    }
+    let e = a.entry;
+    let longer = with_entry(chart, e);
+    ChartAnswer {
+        refusal: 0,
+        line: 0,
+        chart: longer,
     }
 }
 

@@ -2,8 +2,8 @@
 ghost use mathlib.Core.Path.{_≡_};
 ghost use Prim.Native.Nat.{_≤_, _<_, min};
 ghost use lib.ListN.{length};
-ghost use Rattle.text.specs.Text.{fields};
-ghost use Rattle.chart.specs.Records.{parsedLine, numbered, operatorLine, eventLine, withCode, operandsLine, secondOperand, withOperands, refusedLine, checkedEntry, checkedLine, lineSize, lineAnswer};
+ghost use Rattle.text.specs.Text.{fields, whole};
+ghost use Rattle.chart.specs.Records.{parsedLine, numbered, operatorLine, eventLine, withCode, operandsLine, secondOperand, withOperands, refusedLine, checkedEntry, checkedLine, lineAnswer, answerTo};
 use crate::Entry;
 use crate::operator::are_lower;
 use crate::operator::in_range;
@@ -149,23 +149,7 @@ fn check_entry(n: u64, entry: u64, op: u8, a: u64, b: u64) -> LineAnswer
     }
 }
 
-// How many bytes the first line has with its byte 10, or 0 where that is not among the first 64 bytes.
-pub(crate) fn line_size(s: &[u8]) -> usize
-    ensures { λ r. ⌜ r ≡ lineSize (now (s .entry)) ⌝ }
-{
-    let w = window(s.len());
-    let end = text::find(&s[..w], 10);
-    if end < w { end + 1 } else { 0 }
-}
-
-// A line has at most 64 bytes with its byte 10.
-fn window(n: usize) -> usize
-    ensures { λ r. ⌜ r ≡ min 64 n ⌝ }
-{
-    if n < 64 { n } else { 64 }
-}
-
-// The first line of s, whose size is line_size(s), where n entries stand before it.
+// The first line of s, whose size is text::line_size(s), where n entries stand before it.
 pub(crate) fn read_line(s: &[u8], size: usize, n: usize) -> LineAnswer
     requires { ⌜ (size ≤ length (now s)) × (n ≤ 32) ⌝ }
     ensures { λ r. ⌜ r ≡ lineAnswer n size (now (s .entry)) ⌝ }
@@ -177,6 +161,18 @@ pub(crate) fn read_line(s: &[u8], size: usize, n: usize) -> LineAnswer
         return refused_line(3);
     }
     let p = read_fields(&s[..size - 1]);
+    check_line(n as u64, p)
+}
+
+// A line that has its byte 10 and stands in s without it, where n entries stand before it. A line of 64 bytes or more is refused unread.
+pub(crate) fn read_whole(s: &[u8], n: usize) -> LineAnswer
+    requires { ⌜ n < 32 ⌝ }
+    ensures { λ r. ⌜ r ≡ answerTo n (whole (now (s .entry))) ⌝ }
+{
+    if 64 <= s.len() {
+        return refused_line(3);
+    }
+    let p = read_fields(s);
     check_line(n as u64, p)
 }
 

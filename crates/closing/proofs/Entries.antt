@@ -14,7 +14,7 @@ use lib.ListN.{length, take, drop, replicate, length-append, take-append-drop, d
 use lib.Seq.{drop-at, take-at, take-take, length-take-le, slice, length-slice}
 use Rattle.interval.specs.Instants.{eqZ}
 use Rattle.interval.proofs.Signed.{never, and-first, and-second, eq-true}
-use Rattle.chart.specs.Charts.{entryAt, entryFits, isUsable}
+use Rattle.chart.specs.Charts.{entryAt, entryFits}
 use Rattle.chart.specs.Operators.{kindOf, inRange, areLower}
 use Rattle.chart.specs.declared.Chart.{Chart}
 use Rattle.chart.specs.declared.Entry.{Entry}
@@ -25,7 +25,6 @@ use Rattle.interval.specs.declared.Edges.{Edges}
 use Rattle.interval.specs.declared.LengthTest.{LengthTest}
 use mir.Syntax.{w32}
 use mir.Val.{SFits}
-use Rattle.chart.proofs.Below.{at-place}
 use Rattle.model.specs.Lists.{every}
 use Rattle.model.specs.Recognitions.{Event}
 use Rattle.model.specs.Order.{Row}
@@ -37,21 +36,13 @@ use Rattle.table.specs.Operators.{operatorsOf, entryOperator}
 use Rattle.table.specs.Ready.{Ready}
 use Rattle.table.proofs.Rows.{length-rows, rows-puts, length-flat, puts-flat}
 use Rattle.table.proofs.Fill.{fill-fits, fill-full}
-use Rattle.closing.specs.Added.{span, addedRows}
+use Rattle.closing.specs.Added.{Appended, span, addedRows}
 use Rattle.closing.specs.Closed.{rowsClosed, closedCount, closedTable}
-use Rattle.closing.proofs.Filling.{Filling, Done, next, full}
+use Rattle.closing.proofs.Filling.{Filling, next, full}
 use Rattle.closing.proofs.Derived.{Grown, derived-is}
 use Rattle.closing.proofs.Growth.{grown-more, added-ending}
 
 -- a chart that a watch may use: its size, and each entry
-pub usable-few : (chart : Chart) → isUsable chart ≡ true → chart .count ≤ 32
-unfolding isUsable
-usable-few chart u = leb-true (chart .count) 32 (and-first (leb (chart .count) 32) _ (and-second (leb 1 (chart .count)) _ u))
-
-pub usable-fits : (chart : Chart) → isUsable chart ≡ true → (i : ℕ) → i < chart .count → entryFits i (entryAt chart i) ≡ true
-unfolding isUsable
-usable-fits chart u i h = at-place (chart .count) (λ n. entryFits n (entryAt chart n)) (and-second (leb (chart .count) 32) _ (and-second (leb 1 (chart .count)) _ u)) i h
-
 -- an entry's operands, by its operator
 lower : (n : ℕ) (e : Entry) (k : Kind) → entryFits n e ≡ true → kindOf (e .op) ≡ k → areLower k n (e .a) (e .b) ≡ true
 unfolding entryFits
@@ -93,7 +84,7 @@ extend-more es (j ∷ js) rs =
     (derivedRows j es rs ++ p .0, p .1 ∙ append-assoc rs (derivedRows j es rs) (p .0))
 
 -- all were appended
-pub fits-told : (room n : ℕ) (rs : List Row) (t : List ℤ) (k : ℕ) (u : List ℤ) → Done room n rs t k u → n ≤ room → k ≤ room → (n + length rs ≤ room) × (k ≡ n + length rs) × (u ≡ putRows n rs t)
+pub fits-told : (room n : ℕ) (rs : List Row) (t : List ℤ) (k : ℕ) (u : List ℤ) → Appended room n rs t k u → n ≤ room → k ≤ room → (n + length rs ≤ room) × (k ≡ n + length rs) × (u ≡ putRows n rs t)
 fits-told room n rs t k u d l h = go (leb (n + length rs) room) refl
   where
     go : (b : Bool) → leb (n + length rs) room ≡ b → (n + length rs ≤ room) × (k ≡ n + length rs) × (u ≡ putRows n rs t)
@@ -106,7 +97,7 @@ fits-told room n rs t k u d l h = go (leb (n + length rs) room) refl
         let c : k ≡ suc room = d .0 ∙ ap (λ x. x .count) f in
         absurd (omega arith)
 
-pub full-told : (room n : ℕ) (rs : List Row) (t : List ℤ) (k : ℕ) (u : List ℤ) → Done room n rs t k u → n ≤ room → room < k → (room < n + length rs) × (k ≡ suc room) × (u ≡ putRows n (take (room - n) rs) t)
+pub full-told : (room n : ℕ) (rs : List Row) (t : List ℤ) (k : ℕ) (u : List ℤ) → Appended room n rs t k u → n ≤ room → room < k → (room < n + length rs) × (k ≡ suc room) × (u ≡ putRows n (take (room - n) rs) t)
 full-told room n rs t k u d l h = go (leb (n + length rs) room) refl
   where
     go : (b : Bool) → leb (n + length rs) room ≡ b → (room < n + length rs) × (k ≡ suc room) × (u ≡ putRows n (take (room - n) rs) t)
@@ -161,9 +152,9 @@ module _ (chart : Chart) (o : ℤ) (first pending : ℕ) (codes : List ℕ) (few
       let rest : drop (n + length added) later ≡ p .0 = ap (drop (n + length added)) (p .1) ∙ drop-at (rowsIn n t ++ added) (p .0) (n + length added) size in
       ap (drop n) (first-rule ∙ p .1 ∙ append-assoc (rowsIn n t) added (p .0)) ∙ drop-at (rowsIn n t) (added ++ p .0) n (length-rows n t) ∙ ap (λ l. added ++ l) (sym rest)
 
-  module _ {room n₀ : ℕ} {all : List Row} {t₀ : List ℤ} {k : ℕ} {u : List ℤ} (f : Filling room n₀ all t₀ n (leftRows chart o events i n t) t) (d : Done room n added t k u) where
+  module _ {room n₀ : ℕ} {all : List Row} {t₀ : List ℤ} {k : ℕ} {u : List ℤ} (f : Filling room n₀ all t₀ n (leftRows chart o events i n t) t) (d : Appended room n added t k u) where
     -- the entry's rows did not fit
-    pub entry-full : room < k → Done room n₀ all t₀ k u
+    pub entry-full : room < k → Appended room n₀ all t₀ k u
     entry-full = full f added (drop (n + length added) later) k u left-cut d
 
     -- they did
@@ -214,7 +205,7 @@ module _ (chart : Chart) (o : ℤ) (first : ℕ) (codes : List ℕ) (n : ℕ) (t
   abbrev closed : List Row
   closed = rowsClosed chart o first codes n t
 
-  module _ (d : Done room n (drop n closed) t k u) where
+  module _ (d : Appended room n (drop n closed) t k u) where
     -- all fit
     pub closed-fits : k ≤ room → (k ≡ closedCount room closed) × (u ≡ closedTable n closed t)
     unfolding closedCount closedTable

@@ -12,7 +12,7 @@ use Rattle.model.specs.Order.{Row}
 use Rattle.table.specs.Table.{cell, Filled, filled, fill, putRow}
 use Rattle.table.proofs.Rows.{length-put, cell-other}
 use Rattle.table.proofs.Fill.{fill-none, fill-count-least, fill-append, fill-append-full}
-use Rattle.closing.specs.Added.{Appendable, span}
+use Rattle.closing.specs.Added.{Appendable, Appended, span}
 use Rattle.closing.proofs.Spans.{each-on, each-none}
 
 -- the first n rows of t are those of u
@@ -38,10 +38,6 @@ fill-length room n (r ∷ rs) t = go (ltb n room) (fill-length room (suc n) rs (
     go true e = e ∙ length-put n r t
     go false e = refl
 
--- what a function that appends rs to the n rows of t hands back: the count k and the table u
-abbrev pub Done : ℕ → ℕ → List Row → List ℤ → ℕ → List ℤ → Type 0
-Done room n rs t k u = (k ≡ (fill room n rs t) .count) × (u ≡ (fill room n rs t) .table)
-
 -- n rows in the table t and `rest` left to append, where `all` was to be appended to the n₀ rows of t₀
 pub record Filling (room n₀ : ℕ) (all : List Row) (t₀ : List ℤ) (n : ℕ) (rest : List Row) (t : List ℤ) : Type 0 where
   pub least : n₀ ≤ n
@@ -55,7 +51,7 @@ begin room n all t h = record { least = omega arith; most = h; size = refl; kept
 
 module _ {room n₀ : ℕ} {all : List Row} {t₀ : List ℤ} {n : ℕ} {rest : List Row} {t : List ℤ} (f : Filling room n₀ all t₀ n rest t) where
   -- some were appended, and there was room for them
-  pub next : (rs qs : List Row) (k : ℕ) (u : List ℤ) → rest ≡ rs ++ qs → Done room n rs t k u → k ≤ room → Filling room n₀ all t₀ k qs u
+  pub next : (rs qs : List Row) (k : ℕ) (u : List ℤ) → rest ≡ rs ++ qs → Appended room n rs t k u → k ≤ room → Filling room n₀ all t₀ k qs u
   next rs qs k u e d h =
       let c : k ≡ (fill room n rs t) .count = d .0 in
       let l : n ≤ (fill room n rs t) .count = fill-count-least room n rs t (f .most) in
@@ -69,7 +65,7 @@ module _ {room n₀ : ℕ} {all : List Row} {t₀ : List ℤ} {n : ℕ} {rest : 
       }
 
   -- there was no room
-  pub full : (rs qs : List Row) (k : ℕ) (u : List ℤ) → rest ≡ rs ++ qs → Done room n rs t k u → room < k → Done room n₀ all t₀ k u
+  pub full : (rs qs : List Row) (k : ℕ) (u : List ℤ) → rest ≡ rs ++ qs → Appended room n rs t k u → room < k → Appended room n₀ all t₀ k u
   full rs qs k u e d h =
       let c : k ≡ (fill room n rs t) .count = d .0 in
       let w : room < (fill room n rs t) .count = omega arith in
@@ -77,22 +73,22 @@ module _ {room n₀ : ℕ} {all : List Row} {t₀ : List ℤ} {n : ℕ} {rest : 
       (d .0 ∙ ap (λ (x : Filled). x .count) z, d .1 ∙ ap (λ (x : Filled). x .table) z)
 
   -- all that was left was appended
-  pub last : {k : ℕ} {u : List ℤ} → Done room n rest t k u → Done room n₀ all t₀ k u
+  pub last : {k : ℕ} {u : List ℤ} → Appended room n rest t k u → Appended room n₀ all t₀ k u
   last d = (d .0 ∙ ap (λ (x : Filled). x .count) (f .on), d .1 ∙ ap (λ (x : Filled). x .table) (f .on))
 
   -- nothing is left
-  pub ended : rest ≡ [] → Done room n₀ all t₀ n t
+  pub ended : rest ≡ [] → Appended room n₀ all t₀ n t
   ended e =
       let z : filled n t ≡ fill room n₀ all t₀ = sym (fill-none room n t) ∙ ap (λ l. fill room n l t) (sym e) ∙ f .on in
       (ap (λ (x : Filled). x .count) z, ap (λ (x : Filled). x .table) z)
 
 -- a loop that appends h i at each number i from one on to before e
 module _ {room n₀ : ℕ} {all : List Row} {t₀ : List ℤ} {n : ℕ} {t : List ℤ} (h : ℕ → List Row) (i e : ℕ) (f : Filling room n₀ all t₀ n (each h (span i e)) t) where
-  module _ {rs : List Row} {k : ℕ} {u : List ℤ} (l : i < e) (same : rs ≡ h i) (d : Done room n rs t k u) where
+  module _ {rs : List Row} {k : ℕ} {u : List ℤ} (l : i < e) (same : rs ≡ h i) (d : Appended room n rs t k u) where
     pub turn : k ≤ room → Filling room n₀ all t₀ k (each h (span (i + 1) e)) u
     turn = next f rs (each h (span (i + 1) e)) k u (each-on h i e l ∙ ap (λ x. x ++ each h (span (i + 1) e)) (sym same)) d
 
-    pub stop : room < k → Done room n₀ all t₀ k u
+    pub stop : room < k → Appended room n₀ all t₀ k u
     stop = full f rs (each h (span (i + 1) e)) k u (each-on h i e l ∙ ap (λ x. x ++ each h (span (i + 1) e)) (sym same)) d
 
   -- a number at which nothing is to be appended
@@ -105,7 +101,7 @@ module _ {room n₀ : ℕ} {all : List Row} {t₀ : List ℤ} {n : ℕ} {t : Lis
     on = ap (λ x. fill room n x t) (sym (each-on h i e l ∙ ap (λ x. x ++ each h (span (i + 1) e)) z)) ∙ f .on;
   }
 
-  pub over : e ≤ i → Done room n₀ all t₀ n t
+  pub over : e ≤ i → Appended room n₀ all t₀ n t
   over l = ended f (each-none h i e l)
 
 -- what a function that appends asks, in the middle of a loop

@@ -2,6 +2,7 @@
 -- closing, n that of all rows, a and b are operands. Nothing here has to be believed: the theorems of proofs/Derived.antt say that
 -- these are the rows of the reference model's step.
 use Prim.Native.Nat.{ℕ, zero, suc, _+_, _*_, _-_, _≤_, _<_}
+use mathlib.Core.Path.{_≡_}
 use mathlib.Core.Bool.{Bool, true, false, cond, not, _&&_, _||_}
 use mathlib.Core.List.{List, [], _∷_, _++_}
 use lib.Dec.{eqb, leb}
@@ -17,7 +18,7 @@ use Rattle.interval.specs.declared.LengthTest.{LengthTest}
 use Rattle.model.specs.Lists.{some, each, numbers}
 use Rattle.model.specs.Recognitions.{Operator, event, related, or, absence, lasting, Arm, left, right}
 use Rattle.model.specs.Order.{Row, row, none, leftOf, rightOf}
-use Rattle.table.specs.Table.{cell}
+use Rattle.table.specs.Table.{cell, fill}
 
 -- n rows in a table with room for so many, and an entry's number: what a function that appends rows asks
 pub record Appendable (n room entry : ℕ) (t : List ℤ) : Type 0 where
@@ -25,6 +26,10 @@ pub record Appendable (n room entry : ℕ) (t : List ℤ) : Type 0 where
   pub most : room ≤ 65535
   pub held : room * 5 ≤ length t
   pub low : entry < 32
+
+-- the rows rs were appended to the n rows of the table t, as far as there was room: the count k and the table u after it
+abbrev pub Appended : ℕ → ℕ → List Row → List ℤ → ℕ → List ℤ → Type 0
+Appended room n rs t k u = (k ≡ (fill room n rs t) .count) × (u ≡ (fill room n rs t) .table)
 
 -- the numbers from a to before e
 abbrev pub span : ℕ → ℕ → List ℕ

@@ -1,20 +1,19 @@
 // Closing one instant of the watch: entry by entry, the rows that end at it are appended to the table. Of the rows, the first m stand
 // from before this closing and end before the instant; those from m on end at it. A new row refers to one that is new, so the
-// searches begin at m wherever the operator lets them.
+// searches begin at m wherever the operator lets them. What appends or reads one row takes constant time; each other function says what
+// it looks at.
 ghost use mathlib.Core.Path.{_≡_};
 ghost use mathlib.Core.List.{[], _∷_};
 ghost use Prim.Native.Nat.{_+_, _*_, _≤_, _<_};
 ghost use lib.ListN.{length, take, drop};
-ghost use lib.Signed.{ltZ};
 ghost use mathlib.Core.Bool.{true};
 ghost use Rattle.interval.specs.Instants.{eqZ};
 ghost use Rattle.chart.specs.Charts.{entryFits};
 ghost use Rattle.model.specs.Capacity.{capacity};
-ghost use Rattle.model.specs.Recognitions.{left, right};
-ghost use Rattle.table.specs.Table.{cell, fill};
+ghost use Rattle.table.specs.Table.{cell};
 ghost use Rattle.table.specs.Ready.{Ready, EndBefore};
 ghost use Rattle.table.specs.Operators.{entryOperator};
-ghost use Rattle.closing.specs.Added.{Appendable, eventRow, eventRows, partRow, armOf, armRow, armRows, orRows, lengthRow, lengthRows, forbids, isWithin, absenceRows, leftMayBeOld, rightMayBeOld, pairRow, rightFrom, pairsWith, hasRow, leftFrom, pairRows, addedRows};
+ghost use Rattle.closing.specs.Added.{Appendable, Appended, eventRow, eventRows, partRow, armOf, armRow, armRows, orRows, lengthRow, lengthRows, forbids, isWithin, absenceRows, leftMayBeOld, rightMayBeOld, pairRow, rightFrom, pairsWith, hasRow, leftFrom, pairRows, addedRows};
 ghost use Rattle.closing.specs.Closed.{rowsClosed, closedCount, closedTable};
 use chart::Chart;
 use chart::Entry;
@@ -59,7 +58,7 @@ fn push_event(
     serial: usize,
 ) -> usize
     requires { ⌜ (Appendable n room entry (now t)) × (serial ≤ 1000000) ⌝ }
-    ensures { λ r. ⌜ (r ≡ fill room n (eventRow entry k instant code serial) (now (t .entry)) .count) × (now (t .exit) ≡ fill room n (eventRow entry k instant code serial) (now (t .entry)) .table) ⌝ }
+    ensures { λ r. ⌜ Appended room n (eventRow entry k instant code serial) (now (t .entry)) r (now (t .exit)) ⌝ }
 {
     if code as u32 == k {
         return table::push_row(t, n, room, entry, serial as i32, -1, instant, instant);
@@ -80,7 +79,7 @@ fn event_rows(
     codes: [u8; 64],
 ) -> usize
     requires { ⌜ (Appendable n room entry (now t)) × (pending ≤ 64) × (first + pending ≤ 1000001) ⌝ }
-    ensures { λ r. ⌜ (r ≡ fill room n (eventRows entry k instant first pending codes) (now (t .entry)) .count) × (now (t .exit) ≡ fill room n (eventRows entry k instant first pending codes) (now (t .entry)) .table) ⌝ }
+    ensures { λ r. ⌜ Appended room n (eventRows entry k instant first pending codes) (now (t .entry)) r (now (t .exit)) ⌝ }
 {
     let mut count = n;
     let mut j: usize = 0;
@@ -98,7 +97,7 @@ fn event_rows(
 // A row that refers to row i alone, as its second operand or as its first.
 fn push_part(t: &mut [i32], n: usize, room: usize, entry: usize, i: usize, second: bool) -> usize
     requires { ⌜ (Appendable n room entry (now t)) × (i < n) ⌝ }
-    ensures { λ r. ⌜ (r ≡ fill room n (partRow (armOf second) entry (now (t .entry)) i ∷ []) (now (t .entry)) .count) × (now (t .exit) ≡ fill room n (partRow (armOf second) entry (now (t .entry)) i ∷ []) (now (t .entry)) .table) ⌝ }
+    ensures { λ r. ⌜ Appended room n (partRow (armOf second) entry (now (t .entry)) i ∷ []) (now (t .entry)) r (now (t .exit)) ⌝ }
 {
     let start = start_of(t, i);
     let end = end_of(t, i);
@@ -119,7 +118,7 @@ fn push_arm(
     i: usize,
 ) -> usize
     requires { ⌜ (Appendable n room entry (now t)) × (i < n) ⌝ }
-    ensures { λ r. ⌜ (r ≡ fill room n (armRow (armOf second) entry a (now (t .entry)) i) (now (t .entry)) .count) × (now (t .exit) ≡ fill room n (armRow (armOf second) entry a (now (t .entry)) i) (now (t .entry)) .table) ⌝ }
+    ensures { λ r. ⌜ Appended room n (armRow (armOf second) entry a (now (t .entry)) i) (now (t .entry)) r (now (t .exit)) ⌝ }
 {
     if is_of(t, i, a) {
         return push_part(t, n, room, entry, i, second);
@@ -139,7 +138,7 @@ fn arm_rows(
     second: bool,
 ) -> usize
     requires { ⌜ (Appendable n room entry (now t)) × (m ≤ end) × (end ≤ n) ⌝ }
-    ensures { λ r. ⌜ (r ≡ fill room n (armRows (armOf second) entry a m end (now (t .entry))) (now (t .entry)) .count) × (now (t .exit) ≡ fill room n (armRows (armOf second) entry a m end (now (t .entry))) (now (t .entry)) .table) ⌝ }
+    ensures { λ r. ⌜ Appended room n (armRows (armOf second) entry a m end (now (t .entry))) (now (t .entry)) r (now (t .exit)) ⌝ }
 {
     let mut count = n;
     let mut i = m;
@@ -156,7 +155,7 @@ fn arm_rows(
 // or: the left arm first. Two looks at each new row.
 fn or_rows(t: &mut [i32], m: usize, n: usize, room: usize, entry: usize, a: i32, b: i32) -> usize
     requires { ⌜ (Appendable n room entry (now t)) × (m ≤ n) ⌝ }
-    ensures { λ r. ⌜ (r ≡ fill room n (orRows entry a b m n (now (t .entry))) (now (t .entry)) .count) × (now (t .exit) ≡ fill room n (orRows entry a b m n (now (t .entry))) (now (t .entry)) .table) ⌝ }
+    ensures { λ r. ⌜ Appended room n (orRows entry a b m n (now (t .entry))) (now (t .entry)) r (now (t .exit)) ⌝ }
 {
     let count = arm_rows(t, m, n, n, room, entry, a, false);
     if room < count {
@@ -177,7 +176,7 @@ fn push_lasting(
     i: usize,
 ) -> usize
     requires { ⌜ (Appendable n room entry (now t)) × (i < n) ⌝ }
-    ensures { λ r. ⌜ (r ≡ fill room n (lengthRow test d entry a (now (t .entry)) i) (now (t .entry)) .count) × (now (t .exit) ≡ fill room n (lengthRow test d entry a (now (t .entry)) i) (now (t .entry)) .table) ⌝ }
+    ensures { λ r. ⌜ Appended room n (lengthRow test d entry a (now (t .entry)) i) (now (t .entry)) r (now (t .exit)) ⌝ }
 {
     if is_of(t, i, a) {
         let start = start_of(t, i);
@@ -201,7 +200,7 @@ fn length_rows(
     d: u32,
 ) -> usize
     requires { ⌜ (Appendable n room entry (now t)) × (m ≤ n) ⌝ }
-    ensures { λ r. ⌜ (r ≡ fill room n (lengthRows test d entry a m n (now (t .entry))) (now (t .entry)) .count) × (now (t .exit) ≡ fill room n (lengthRows test d entry a m n (now (t .entry))) (now (t .entry)) .table) ⌝ }
+    ensures { λ r. ⌜ Appended room n (lengthRows test d entry a m n (now (t .entry))) (now (t .entry)) r (now (t .exit)) ⌝ }
 {
     let mut count = n;
     let mut i = m;
@@ -250,7 +249,7 @@ fn absence_rows(
     b: i32,
 ) -> usize
     requires { ⌜ (Appendable n room entry (now t)) × (m ≤ n) ⌝ }
-    ensures { λ r. ⌜ (r ≡ fill room n (absenceRows edges entry a b m n (now (t .entry))) (now (t .entry)) .count) × (now (t .exit) ≡ fill room n (absenceRows edges entry a b m n (now (t .entry))) (now (t .entry)) .table) ⌝ }
+    ensures { λ r. ⌜ Appended room n (absenceRows edges entry a b m n (now (t .entry))) (now (t .entry)) r (now (t .exit)) ⌝ }
 {
     let mut count = n;
     let mut i = m;
@@ -322,7 +321,7 @@ fn push_pair(
     s: usize,
 ) -> usize
     requires { ⌜ (Appendable n room entry (now t)) × (r < n) × (s < n) ⌝ }
-    ensures { λ k. ⌜ (k ≡ fill room n (pairRow c entry b r start end (now (t .entry)) s) (now (t .entry)) .count) × (now (t .exit) ≡ fill room n (pairRow c entry b r start end (now (t .entry)) s) (now (t .entry)) .table) ⌝ }
+    ensures { λ k. ⌜ Appended room n (pairRow c entry b r start end (now (t .entry)) s) (now (t .entry)) k (now (t .exit)) ⌝ }
 {
     if is_of(t, s, b) {
         let from = start_of(t, s);
@@ -348,7 +347,7 @@ fn right_from(c: Relation, m: usize, r: usize) -> usize
     m
 }
 
-// The pairs of row r, if it is one of a. One look at each new row, and at all rows only where both operands may be old and r is new.
+// The pairs of row r, if it is one of a. One look at each new row; at all rows where s may be old and r is new.
 fn pairs_with(
     t: &mut [i32],
     m: usize,
@@ -362,7 +361,7 @@ fn pairs_with(
     r: usize,
 ) -> usize
     requires { ⌜ (Appendable n room entry (now t)) × (r < end) × (end ≤ n) ⌝ }
-    ensures { λ k. ⌜ (k ≡ fill room n (pairsWith c entry a b m end (now (t .entry)) r) (now (t .entry)) .count) × (now (t .exit) ≡ fill room n (pairsWith c entry a b m end (now (t .entry)) r) (now (t .entry)) .table) ⌝ }
+    ensures { λ k. ⌜ Appended room n (pairsWith c entry a b m end (now (t .entry)) r) (now (t .entry)) k (now (t .exit)) ⌝ }
 {
     if !is_of(t, r, a) {
         return n;
@@ -381,7 +380,7 @@ fn pairs_with(
     count
 }
 
-// Whether one of the rows from m to before n is one of entry b.
+// Whether one of the rows from m to before n is one of entry b. One look at each of these rows, up to the first.
 fn has_row(t: &[i32], m: usize, n: usize, b: i32) -> bool
     requires { ⌜ (n ≤ 65535) × (n * 5 ≤ length (now t)) ⌝ }
     ensures { λ r. ⌜ r ≡ hasRow b m n (now (t .entry)) ⌝ }
@@ -396,7 +395,7 @@ fn has_row(t: &[i32], m: usize, n: usize, b: i32) -> bool
     false
 }
 
-// Where the search for r begins: nowhere if there is no new s and one is needed.
+// Where the search for r begins: nowhere if there is no new s and one is needed. One look at each new row.
 fn left_from(t: &[i32], m: usize, n: usize, c: Relation, b: i32) -> usize
     requires { ⌜ (n ≤ 65535) × (n * 5 ≤ length (now t)) ⌝ }
     ensures { λ r. ⌜ r ≡ leftFrom c b m n (now (t .entry)) ⌝ }
@@ -413,9 +412,9 @@ fn left_from(t: &[i32], m: usize, n: usize, c: Relation, b: i32) -> usize
     n
 }
 
-// seq, and, meets, overlaps, starts, during, finishes, equals: the pairs of which one row or both are new. One look at each row of a, and
-// for it at each new row; finishes and equals look at new rows only, and `and` also at all rows for each new row of a. Where no row of
-// b is new, only `and` looks further than at the new rows once.
+// seq, and, meets, overlaps, starts, during, finishes, equals: the pairs of which one row or both are new. One look at each row, and for
+// each that is one of a, one at each new row; finishes and equals look at new rows only; `and` looks at all rows for each new row of a.
+// Where no row of b is new, one look at each new row and no more, but for `and`.
 fn pair_rows(
     t: &mut [i32],
     m: usize,
@@ -427,7 +426,7 @@ fn pair_rows(
     b: i32,
 ) -> usize
     requires { ⌜ (Appendable n room entry (now t)) × (m ≤ n) ⌝ }
-    ensures { λ r. ⌜ (r ≡ fill room n (pairRows c entry a b m n (now (t .entry))) (now (t .entry)) .count) × (now (t .exit) ≡ fill room n (pairRows c entry a b m n (now (t .entry))) (now (t .entry)) .table) ⌝ }
+    ensures { λ r. ⌜ Appended room n (pairRows c entry a b m n (now (t .entry))) (now (t .entry)) r (now (t .exit)) ⌝ }
 {
     let mut count = n;
     let mut r = left_from(t, m, n, c, b);
@@ -441,7 +440,7 @@ fn pair_rows(
     count
 }
 
-// The rows of one entry, by its operator.
+// The rows of one entry, by its operator. Costs what that operator's function costs.
 fn entry_rows(
     t: &mut [i32],
     m: usize,
@@ -455,7 +454,7 @@ fn entry_rows(
     codes: [u8; 64],
 ) -> usize
     requires { ⌜ (Appendable n room entry (now t)) × (m ≤ n) × (pending ≤ 64) × (first + pending ≤ 1000001) × (entryFits entry e ≡ true) ⌝ }
-    ensures { λ r. ⌜ (r ≡ fill room n (addedRows (entryOperator e) entry instant first pending codes m n (now (t .entry))) (now (t .entry)) .count) × (now (t .exit) ≡ fill room n (addedRows (entryOperator e) entry instant first pending codes m n (now (t .entry))) (now (t .entry)) .table) ⌝ }
+    ensures { λ r. ⌜ Appended room n (addedRows (entryOperator e) entry instant first pending codes m n (now (t .entry))) (now (t .entry)) r (now (t .exit)) ⌝ }
 {
     let a = e.a;
     let b = e.b;
@@ -470,7 +469,7 @@ fn entry_rows(
     }
 }
 
-// The rows of all entries, in their order.
+// The rows of all entries, in their order. Costs what the entries' functions cost.
 fn all_rows(
     chart: Chart,
     t: &mut [i32],
@@ -482,7 +481,7 @@ fn all_rows(
     codes: [u8; 64],
 ) -> usize
     requires { ⌜ (Ready chart rows (now t)) × (EndBefore instant rows (now t)) × (room ≡ capacity (length (now t))) × (pending ≤ 64) × (first + pending ≤ 1000001) ⌝ }
-    ensures { λ r. ⌜ (r ≡ fill room rows (drop rows (rowsClosed chart instant first (take pending codes) rows (now (t .entry)))) (now (t .entry)) .count) × (now (t .exit) ≡ fill room rows (drop rows (rowsClosed chart instant first (take pending codes) rows (now (t .entry)))) (now (t .entry)) .table) ⌝ }
+    ensures { λ r. ⌜ Appended room rows (drop rows (rowsClosed chart instant first (take pending codes) rows (now (t .entry)))) (now (t .entry)) r (now (t .exit)) ⌝ }
 {
     let count = chart.count;
     let mut n = rows;
@@ -500,7 +499,8 @@ fn all_rows(
 
 // Appends, entry by entry, the rows that end at the open instant, of which these are the pending events, the first of them with serial
 // `first`; hands back how many rows there are then, or one more than the table holds where they do not fit, and then the table is as it
-// was. Costs what the entries' functions cost; nothing but the entries is looked at where no event is pending.
+// was. Costs what the entries' functions cost, and where the rows do not fit, one store for each number behind the old rows. Where no
+// event is pending, no row is looked at.
 pub fn close(
     chart: Chart,
     table: &mut [i32],

@@ -140,9 +140,6 @@ length-least (suc k) n h =
     let l : 10 ≤ n = omega (arith, pow-suc 10 k, one-le-pow k 10 (omega arith)) in
     omega (arith, length-large n l, length-least k (n / 10) (omega (arith, pow-suc 10 k)))
 
-pub length-is : (k n : ℕ) → 10 ^ k ≤ n → n < 10 ^ suc k → suc k ≡ length (spelledNumber n)
-length-is k n h l = omega (arith, length-least k n h, length-most k n l)
-
 -- Digits keep a value below the power of ten of their number.
 pub digit-below : (i m d : ℕ) → m < 10 ^ i → d < 10 → m * 10 + d < 10 ^ suc i
 digit-below i m d h k = omega (arith, pow-suc 10 i)

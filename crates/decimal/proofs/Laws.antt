@@ -126,6 +126,16 @@ unfolding spelled
 spelled-minus (pos n) e = absurd (omega (arith, leb-false 0 n e))
 spelled-minus (negsuc n) e = refl
 
+-- The spelling of a number: at least one byte, at most k + 1 below the (k + 1)th power of ten, and so at most 20 for what a u64 holds.
+pub number-digits-least : (n : ℕ) → 1 ≤ length (spelledNumber n)
+number-digits-least n = spelled-nonempty n
+
+pub number-digits-most : (k n : ℕ) → n < 10 ^ suc k → length (spelledNumber n) ≤ suc k
+number-digits-most k n h = length-most k n h
+
+pub wide-digits-most : (n : ℕ) → n < 2 ^ 64 → length (spelledNumber n) ≤ 20
+wide-digits-most n h = length-most 19 n (omega arith)
+
 -- What an i32 holds has at most ten digits.
 pub fits-below : (z : ℤ) → SFits w32 z → natAbs z < 10 ^ 10
 fits-below z f = omega (arith, natAbs-le z (f .sfits))

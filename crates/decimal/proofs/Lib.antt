@@ -1,4 +1,5 @@
 pub mod Laws
+pub mod Written
 mod Digits
 mod Parts
 mod Signs

@@ -79,6 +79,38 @@ pub fn write_integer(x: i32, out: &mut [u8]) -> usize
     n + 1
 }
 
+// Writes m in decimal at the front of the output and returns the number of bytes. Where the output is too short it writes nothing
+// and returns 0. Each byte is written once, from the last digit to the first, with one division by 10 for each but the first.
+pub fn write_number(m: u64, out: &mut [u8]) -> usize
+    ensures { λ r. ⌜ (r ≡ writtenLength (spelledNumber m) (now (out .entry))) × (now (out .exit) ≡ writtenOutput (spelledNumber m) (now (out .entry))) ⌝ }
+{
+    let n = digit_count(m);
+    if out.len() < n {
+        return 0;
+    }
+    let mut rest = m;
+    let mut k = n;
+    while 10 <= rest {
+        k -= 1;
+        out[k] = b'0' + (rest % 10) as u8;
+        rest = rest / 10;
+    }
+    out[0] = b'0' + rest as u8;
+    n
+}
+
+// The number of bytes of x in decimal, minus included. One multiplication for each digit but the first.
+pub fn integer_length(x: i32) -> usize
+    ensures { λ r. ⌜ r ≡ length (spelled x) ⌝ }
+{
+    let m = magnitude(x);
+    let digits = digit_count(m);
+    if 0 <= x {
+        return digits;
+    }
+    digits + 1
+}
+
 // The number that the digits spell, leading zeros or not, or Malformed. At most 10 digits, so that no value wraps. One pass.
 fn read_digits(s: &[u8]) -> Number
     requires { ⌜ length (now s) ≤ 10 ⌝ }
@@ -117,50 +149,28 @@ fn wide(x: u8) -> u64
     x as u64
 }
 
-// Writes m at the front of the output, from its last digit to its first, or nothing where the output is too short. One pass.
-fn write_number(m: u32, out: &mut [u8]) -> usize
-    ensures { λ r. ⌜ (r ≡ writtenLength (spelledNumber m) (now (out .entry))) × (now (out .exit) ≡ writtenOutput (spelledNumber m) (now (out .entry))) ⌝ }
-{
-    let n = digit_count(m);
-    if out.len() < n {
-        return 0;
-    }
-    let mut rest = m;
-    let mut k = n;
-    while 10 <= rest {
-        k -= 1;
-        out[k] = b'0' + (rest % 10) as u8;
-        rest = rest / 10;
-    }
-    out[0] = b'0' + rest as u8;
-    n
-}
-
-// How many digits m has. At most five comparisons.
-fn digit_count(m: u32) -> usize
+// How many digits m has: one more than the powers of ten from 10 on that are at most m. The power is compared with the tens of m, so
+// that ten times it does not wrap. One division, and one multiplication for each digit but the first.
+fn digit_count(m: u64) -> usize
     ensures { λ r. ⌜ r ≡ length (spelledNumber m) ⌝ }
 {
-    match m {
-        0..=9 => 1,
-        10..=99 => 2,
-        100..=999 => 3,
-        1000..=9999 => 4,
-        10000..=99999 => 5,
-        100000..=999999 => 6,
-        1000000..=9999999 => 7,
-        10000000..=99999999 => 8,
-        100000000..=999999999 => 9,
-        _ => 10,
+    let tens = m / 10;
+    let mut power: u64 = 1;
+    let mut k: usize = 0;
+    while power <= tens {
+        power = power * 10;
+        k += 1;
     }
+    k + 1
 }
 
 // The absolute value, found in 64 bits since the least i32 has no opposite. Constant time.
-fn magnitude(x: i32) -> u32
+fn magnitude(x: i32) -> u64
     ensures { λ r. ⌜ r ≡ natAbs x ⌝ }
 {
     if x < 0 {
-        (0 - (x as i64)) as u32
+        (0 - (x as i64)) as u64
     } else {
-        x as u32
+        x as u64
     }
 }

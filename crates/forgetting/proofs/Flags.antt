@@ -4,26 +4,17 @@ use native.Mathlib.Omega.{arith}
 use native.Mathlib.Nat.{zero-add}
 use native.Mathlib.Decide.{ℕ-discrete, decLt}
 use mathlib.Core.Path.{_≡_, refl, sym, ap, _∙_}
-use mathlib.Core.Bool.{Bool, true, false, _&&_}
+use mathlib.Core.Bool.{Bool, false}
 use mathlib.Core.List.{List, map}
-use borrow.Author.Tests.{leb-true}
-use lib.Dec.{leb}
 use lib.ListN.{length, set, replicate, length-set, length-replicate, getD-replicate, List·getD-eq-default}
 use lib.Seq.{getD-set-same, getD-set-other}
-use Rattle.interval.proofs.Signed.{and-first, and-second}
-use Rattle.chart.specs.Charts.{isUsable, entryAt, allBelow, entryFits}
+use Rattle.chart.specs.Charts.{entryAt}
 use Rattle.chart.specs.declared.Chart.{Chart}
 use Rattle.model.specs.Lists.{numbers}
 use Rattle.model.specs.Recognitions.{Operator}
 use Rattle.model.specs.RowSteps.{isEvent, isEventAt}
 use Rattle.table.specs.Operators.{operatorsOf, entryOperator}
 use Rattle.forgetting.specs.Walk.{eventIn, FlagsOf}
-
-pub usable-few : (chart : Chart) → isUsable chart ≡ true → chart .count ≤ 32
-unfolding isUsable
-usable-few c u =
-    let fits = allBelow (c .count) (λ n. entryFits n (entryAt c n)) in
-    leb-true (c .count) 32 (and-first (leb (c .count) 32) fits (and-second (leb 1 (c .count)) (leb (c .count) 32 && fits) u))
 
 -- entry k of operators that are made from the numbers a on
 event-made : (f : ℕ → Operator) (a n k : ℕ) → k < n → isEventAt (map f (numbers a n)) k ≡ isEvent (f (a + k))

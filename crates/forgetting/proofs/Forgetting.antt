@@ -15,7 +15,7 @@ use Rattle.table.specs.Ready.{Ready}
 use Rattle.table.proofs.Rows.{length-rows}
 use Rattle.forgetting.specs.Forgetting.{keptRows, forgottenTable}
 use Rattle.forgetting.specs.Walk.{eventIn, FlagsOf, withReferences, keptBy, RowsReady}
-use Rattle.forgetting.proofs.Flags.{usable-few}
+use Rattle.chart.proofs.Usable.{usable-few}
 use Rattle.forgetting.proofs.Places.{keep-le}
 
 module _ (chart : Chart) (f : ℤ) (rows : ℕ) (t : List ℤ) (events : List Bool) (flags : FlagsOf chart events) where

@@ -5,20 +5,20 @@ use native.Mathlib.Nat.{add-zero, zero-add}
 use mathlib.Core.Path.{_≡_, refl, sym, ap, ap₂, _∙_}
 use mathlib.Core.Bool.{Bool, true, false, cond, _&&_, _||_}
 use mathlib.Core.List.{List, map}
-use borrow.Author.Tests.{ltb-true, leb-true}
+use borrow.Author.Tests.{ltb-true}
 use lib.Dec.{eqb, ltb, leb}
 use lib.IntN.{ℤ, pos, negsuc, natAbs}
 use lib.Signed.{ltZ, leZ}
 use Rattle.interval.specs.Instants.{eqZ}
 use Rattle.interval.specs.Conditions.{hasLength}
 use Rattle.interval.specs.declared.LengthTest.{LengthTest}
-use Rattle.interval.proofs.Signed.{never, and-first, and-second, eq-true}
+use Rattle.interval.proofs.Signed.{never, and-first, eq-true}
 use Rattle.chart.specs.Operators.{kindOf, inRange, areLower}
-use Rattle.chart.specs.Charts.{isUsable, allBelow, entryFits, entryAt}
+use Rattle.chart.specs.Charts.{isUsable, entryFits, entryAt}
 use Rattle.chart.specs.declared.Chart.{Chart}
 use Rattle.chart.specs.declared.operator.Kind.{Kind}
 use Rattle.chart.specs.declared.operator.Kind.the-variants.{Event, Or, Pair, Absence, Length, Unknown}
-use Rattle.chart.proofs.Below.{at-place}
+use Rattle.chart.proofs.Usable.{usable-fits}
 use Rattle.model.specs.Lists.{numbers}
 use Rattle.model.specs.Order.{Row, row, none}
 use Rattle.model.specs.Recognitions.{Operator}
@@ -145,19 +145,9 @@ module _ (chart : Chart) where
 
 -- a chart that a watch may use
 module _ (chart : Chart) (usable : isUsable chart ≡ true) where
-  pub usable-few : chart .count ≤ 32
-  unfolding isUsable
-  usable-few =
-      let fits = allBelow (chart .count) (λ n. entryFits n (entryAt chart n)) in
-      leb-true (chart .count) 32 (and-first (leb (chart .count) 32) fits (and-second (leb 1 (chart .count)) (leb (chart .count) 32 && fits) usable))
-
   usable-entry : (n : ℕ) → n < chart .count → let e = entryAt chart n in inRange (kindOf (e .op)) (e .a) (e .b) ≡ true
-  unfolding isUsable entryFits
-  usable-entry n h =
-      let p : ℕ → Bool = λ m. entryFits m (entryAt chart m) in
-      let e = entryAt chart n in
-      let fits = and-second (leb (chart .count) 32) (allBelow (chart .count) p) (and-second (leb 1 (chart .count)) (leb (chart .count) 32 && allBelow (chart .count) p) usable) in
-      and-first (inRange (kindOf (e .op)) (e .a) (e .b)) (areLower (kindOf (e .op)) n (e .a) (e .b)) (at-place (chart .count) p fits n h)
+  unfolding entryFits
+  usable-entry n h = let e = entryAt chart n in and-first (inRange (kindOf (e .op)) (e .a) (e .b)) (areLower (kindOf (e .op)) n (e .a) (e .b)) (usable-fits chart usable n h)
 
 -- the rows of a table
 module _ (rows : ℕ) (t : List ℤ) where

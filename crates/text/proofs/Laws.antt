@@ -3,14 +3,14 @@ use Prim.Native.Nat.{ℕ, zero, suc, _+_, _-_, _≤_, _<_, min}
 use native.Mathlib.Omega.{arith}
 use native.Mathlib.Nat.{le-of-eq}
 use native.Mathlib.Numerals.{add-one}
-use mathlib.Core.Path.{_≡_, refl, sym, ap, _∙_}
-use mathlib.Core.Bool.{Bool, true, false, cond, _&&_}
+use mathlib.Core.Path.{_≡_, refl, sym, ap, ap₂, _∙_}
+use mathlib.Core.Bool.{Bool, true, false, cond}
 use mathlib.Core.List.{List, [], _∷_}
-use borrow.Author.Tests.{eq-eqb, ne-eqb, le-ltb, ltb-true, ltb-false}
-use lib.Dec.{eqb, ltb}
+use borrow.Author.Tests.{eq-eqb, ne-eqb, lt-ltb, le-ltb, ltb-true, ltb-false, leb-true, leb-false}
+use lib.Dec.{eqb, leb, ltb}
 use lib.ListN.{length, take, drop, getD, drop-of-length-le, length-take, length-drop}
 use lib.Seq.{drop-cons, take-all, length-take-le}
-use Rattle.text.specs.Text.{indexOf, split, inFront, Line, whole, broken, ended, lines, isRecord}
+use Rattle.text.specs.Text.{indexOf, split, inFront, Line, whole, broken, ended, lines, isRecord, lineSize}
 
 -- the search goes on from place i
 pub index-hit : (x : ℕ) (s : List ℕ) (i : ℕ) → i < length s → getD s i 0 ≡ x → indexOf x (drop i s) ≡ 0
@@ -130,3 +130,68 @@ first-broken (b ∷ s) h e = go (ltb m (suc (length s))) refl
 -- the part of a slice from k on, as code lends it
 pub part-from : (k : ℕ) (s : List ℕ) → take (length s - k) (drop k s) ≡ drop k s
 part-from k s = take-all (length s - k) (drop k s) (le-of-eq (length-drop k s))
+
+-- the first line's size, where its byte 10 is among the first 64 bytes and where not
+pub size-found : (s : List ℕ) → indexOf 10 (take 64 s) < length (take 64 s) → lineSize s ≡ indexOf 10 (take 64 s) + 1
+unfolding lineSize
+size-found s h = simp (lt-ltb _ _ h)
+
+pub size-none : (s : List ℕ) → length (take 64 s) ≤ indexOf 10 (take 64 s) → lineSize s ≡ 0
+unfolding lineSize
+size-none s h = simp (le-ltb _ _ h)
+
+-- the window of at most 64 bytes
+pub window-is : (s : List ℕ) → take (min 64 (length s)) s ≡ take 64 s
+window-is s = go (leb 64 (length s)) refl
+  where
+    go : (t : Bool) → leb 64 (length s) ≡ t → take (min 64 (length s)) s ≡ take 64 s
+    go true e =
+        let h = leb-true 64 (length s) e in
+        let m : min 64 (length s) ≡ 64 = omega arith in
+        ap (λ n. take n s) m
+    go false e =
+        let h = leb-false 64 (length s) e in
+        take-all (min 64 (length s)) s (omega arith) ∙ sym (take-all 64 s (omega arith))
+
+pub size-le : (s : List ℕ) → lineSize s ≤ length s
+size-le s = go (ltb (indexOf 10 (take 64 s)) (length (take 64 s))) refl
+  where
+    go : (t : Bool) → ltb (indexOf 10 (take 64 s)) (length (take 64 s)) ≡ t → lineSize s ≤ length s
+    go true e =
+        let h = ltb-true (indexOf 10 (take 64 s)) (length (take 64 s)) e in
+        omega (arith, size-found s h, length-take 64 s)
+    go false e = omega (arith, size-none s (ltb-false (indexOf 10 (take 64 s)) (length (take 64 s)) e))
+
+-- a first line of at most 64 bytes cuts off the first part
+pub record FirstPart (s : List ℕ) : Type 0 where
+  pub some : 0 < lineSize s
+  pub short : lineSize s ≤ 64
+  pub parts : split 10 s ≡ take (lineSize s - 1) s ∷ split 10 (drop (lineSize s) s)
+
+pub first-part : (s : List ℕ) → (lineSize s ≡ 0 → ⊥) → FirstPart s
+first-part s h = go (ltb (indexOf 10 (take 64 s)) (length (take 64 s))) refl
+  where
+    i : ℕ
+    i = indexOf 10 (take 64 s)
+
+    go : (b : Bool) → ltb i (length (take 64 s)) ≡ b → FirstPart s
+    go true e =
+        let small : i < length (take 64 s) = ltb-true i (length (take 64 s)) e in
+        let k : lineSize s ≡ i + 1 = size-found s small in
+        let f : indexOf 10 s ≡ i = index-front 10 64 s small in
+        let x : indexOf 10 s ≡ lineSize s - 1 = omega (arith, f, k) in
+        let y : suc (indexOf 10 s) ≡ lineSize s = omega (arith, f, k) in
+        record {
+          some = omega (arith, k);
+          short = omega (arith, k, small, length-take 64 s);
+          parts = split-cut 10 s (omega (arith, f, small, length-take 64 s)) ∙ ap₂ (λ m n. take m s ∷ split 10 (drop n s)) x y;
+        }
+    go false e = absurd (h (size-none s (ltb-false i (length (take 64 s)) e)))
+
+-- without one the first byte 10, if there is any, comes after the first 64 bytes
+pub none-early : (s : List ℕ) → lineSize s ≡ 0 → length (take 64 s) ≤ indexOf 10 s
+none-early s z = go (ltb (indexOf 10 (take 64 s)) (length (take 64 s))) refl
+  where
+    go : (b : Bool) → ltb (indexOf 10 (take 64 s)) (length (take 64 s)) ≡ b → length (take 64 s) ≤ indexOf 10 s
+    go true e = absurd (omega (arith, size-found s (ltb-true (indexOf 10 (take 64 s)) (length (take 64 s)) e), z))
+    go false e = index-past 10 64 s (omega (arith, ltb-false (indexOf 10 (take 64 s)) (length (take 64 s)) e, index-le 10 (take 64 s)))

@@ -1,10 +1,10 @@
 -- Lines and fields. Document 01, "Chart and log on paper": "One record a line, fields parted by one tab, each line ended by byte 10
 -- and at most 64 bytes with it."
-use Prim.Native.Nat.{ℕ, suc}
+use Prim.Native.Nat.{ℕ, suc, _+_}
 use mathlib.Core.Bool.{Bool, true, false, cond, _&&_}
 use mathlib.Core.List.{List, [], _∷_}
 use lib.Dec.{eqb, ltb}
-use lib.ListN.{length}
+use lib.ListN.{length, take}
 
 -- the place of the first x, or the length where there is none
 unfoldable pub indexOf : ℕ → List ℕ → ℕ
@@ -49,3 +49,7 @@ lines s = ended (split 10 s)
 -- "ended by byte 10 and at most 64 bytes with it"
 abbrev pub isRecord : Line → Bool
 isRecord l = l .ended && ltb (length (l .bytes)) 64
+
+-- how many bytes the first line has with its byte 10, or 0 where that is not among the first 64 bytes
+unfoldable pub lineSize : List ℕ → ℕ
+lineSize s = cond (ltb (indexOf 10 (take 64 s)) (length (take 64 s))) (indexOf 10 (take 64 s) + 1) 0

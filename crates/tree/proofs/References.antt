@@ -6,16 +6,15 @@ use mathlib.Core.Path.{_≡_, refl, sym, ap, _∙_}
 use mathlib.Core.Bool.{true, false}
 use mathlib.Core.Logic.{inl, inr}
 use mathlib.Core.List.{List, [], _∷_, map}
-use lib.Dec.{leb}
 use lib.IntN.{ℤ, pos, negsuc, natAbs}
 use lib.ListN.{length, getD}
 use lib.Signed.{leZ, ltZ}
 use mir.Syntax.{w32}
 use mir.Val.{SFits, toZ, ofZ}
-use borrow.Author.Tests.{leb-true, le-leb}
-use Rattle.interval.proofs.Signed.{never, and-first, and-second, signed}
+use borrow.Author.Tests.{le-leb}
+use Rattle.interval.proofs.Signed.{never, signed}
 use Rattle.interval.proofs.Machine.{same32, pos-of}
-use Rattle.chart.specs.Charts.{isUsable, entryAt}
+use Rattle.chart.specs.Charts.{entryAt}
 use Rattle.chart.specs.declared.Chart.{Chart}
 use Rattle.model.specs.Lists.{numbers}
 use Rattle.model.specs.Recognitions.{Operator, event, related, or, absence, lasting}
@@ -27,13 +26,10 @@ use Rattle.table.specs.Ready.{Ready, Refers}
 use Rattle.tree.specs.declared.Form.{Form}
 use Rattle.tree.specs.declared.Form.the-variants.{Event, One, Two}
 use Rattle.tree.specs.declared.Node.{Node}
+use Rattle.chart.proofs.Usable.{usable-few}
 use Rattle.tree.specs.Tree.{formOf, formAt, nodeAt, rowBytes, referenceBytes, treeWithin, treeBytes}
 
 -- the chart
-count-most : (chart : Chart) → isUsable chart ≡ true → chart .count ≤ 32
-unfolding isUsable
-count-most chart e = leb-true (chart .count) 32 (and-first _ _ (and-second (leb 1 (chart .count)) _ e))
-
 operator-at : (f : ℕ → Operator) (d : Operator) (a n k : ℕ) → k < n → getD (map f (numbers a n)) k d ≡ f (a + k)
 operator-at f d a zero k h = absurd (omega arith)
 operator-at f d a (suc n) zero h = let e : a ≡ a + 0 = omega arith in ap f e
@@ -107,7 +103,7 @@ module _ (chart : Chart) (rows : ℕ) (t : List ℤ) (ready : Ready chart rows t
   ops = operatorsOf chart
 
   pub entry-low : (i : ℕ) → i < rows → natAbs (cell t i 0) < 32
-  entry-low i h = omega (arith, ready .entryBelow i h, count-most chart (ready .usable))
+  entry-low i h = omega (arith, ready .entryBelow i h, usable-few chart (ready .usable))
 
   pub row-in : (i : ℕ) → i < rows → i * 5 + 5 ≤ length t
   row-in i h = omega (arith, ready .fit, capacity-fits (length t))

@@ -132,13 +132,11 @@ fn write_reference(
     }
 }
 
-// The number of bytes of an event, or 0 where they are more than the limit. Writes the serial into some bytes of its own: at most
-// 11, each once.
+// The number of bytes of an event, or 0 where they are more than the limit. One multiplication for each digit of the serial.
 fn event_length(serial: i32, limit: usize) -> usize
     ensures { λ r. ⌜ r ≡ lengthWithin limit (101 ∷ spelled serial) ⌝ }
 {
-    let mut digits = [0u8; 11];
-    let n = decimal::write_integer(serial, &mut digits);
+    let n = decimal::integer_length(serial);
     if n < limit { n + 1 } else { 0 }
 }
 

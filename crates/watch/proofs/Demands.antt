@@ -1,41 +1,49 @@
 -- The demands of specs/Demands.antt.
-use Prim.Native.Nat.{ℕ, zero, suc, _+_, _*_, _-_, _≤_}
+use Prim.Native.Nat.{ℕ, suc, _+_, _*_, _-_, _≤_, _<_}
 use native.Mathlib.Omega.{arith}
 use native.Mathlib.Nat.{sub-self}
-use mathlib.Core.Path.{_≡_, refl, sym, ap, ap₂, _∙_, subst}
+use mathlib.Core.Path.{_≡_, refl, sym, ap, _∙_, subst}
 use mathlib.Core.Bool.{Bool, true, false, cond, not, _||_, _&&_}
-use mathlib.Core.List.{List, [], _∷_, _++_, map}
+use mathlib.Core.List.{List, [], _∷_, _++_, map, List·Memᴰ, List·Memᴰ·head, Memᴰ·append-right}
 use lib.Dec.{T, leb, ltb, eqb}
 use lib.IntN.{ℤ, pos}
-use lib.ListN.{length, take, drop, replicate, length-map}
+use lib.ListN.{length, take, drop, replicate, length-map, length-append}
 use lib.Seq.{take-at}
 use lib.Signed.{ltZ, leZ}
 use Rattle.interval.specs.Instants.{isInstant}
 use Rattle.interval.proofs.Signed.{holds→, never, and-first, and-second}
 use Rattle.chart.specs.Charts.{isUsable}
 use Rattle.chart.specs.declared.Chart.{Chart}
-use Rattle.model.specs.Capacity.{capacity}
 use Rattle.model.specs.Lists.{keep}
-use Rattle.model.specs.Order.{Row, listing, asRows}
+use Rattle.model.specs.Order.{Row, listing, asRow, asRows}
 use Rattle.model.specs.Recognitions.{Operator, Recognition, startOf, endOf}
 use Rattle.model.specs.Reference as ref
 use Rattle.model.specs.Reference.{Call, rowsOf, isAt, firstFloor}
-use Rattle.model.specs.RowSteps as rows
 use Rattle.model.specs.RowSteps.{shown}
 use Rattle.model.specs.Joint.{isInJoint}
-use Rattle.model.specs.Statements.{Reads}
+use Rattle.model.specs.Statements.{Reads, IsRecognition}
 use Rattle.model.proofs.Theorems as model
 use Rattle.model.proofs.Range.{starts-in-range}
 use Rattle.table.specs.Operators.{operatorsOf}
 use Rattle.table.specs.Table.{rowsIn, flat, areZeros, putRows, zeroed}
 use Rattle.table.proofs.Rows.{length-flat}
-use Rattle.watch.specs.Steps.{Step, emptyWatch, openingStep, refusedStep, takenStep, roomIn, isWatchInJoint, checked, answered, eventOwn, eventStep, withEvent, clockOwn, clockStep, closedRows, marked, forgetOwn, forgetStep, keptRows, raised}
+use Rattle.tree.specs.Tree.{recognitionBytes, treeBytes}
+use Rattle.tree.proofs.Meaning.{tree-holds}
+use Rattle.watch.specs.Steps.{Step, emptyWatch, openingStep, refusedStep, takenStep, roomIn, isWatchInJoint, checked, answered, eventOwn, eventStep, withEvent, clockOwn, clockStep, closedRows, marked, forgetOwn, forgetStep, keptRows, raised, checkNumber, TreeStep, refusedTree, takenTree, treeOwn, treeStep}
 use Rattle.watch.specs.Histories.{State, state, call, after, answers, opened}
 use Rattle.watch.specs.declared.Watch.{Watch}
-use Rattle.watch.specs.Demands.{history, book, FollowsBook, isForget, nothingForgotten, HoldsRecognitions, Demand1, Demand2, Demand3}
-use Rattle.watch.proofs.Shown.{tableOf, watchOf, stateOf, rows-flat, zeros-behind, drop-table}
-use Rattle.watch.proofs.History.{bounds, history-shown}
+use Rattle.watch.specs.Demands.{history, book, FollowsBook, isForget, nothingForgotten, HoldsRecognitions, EndPartHolds, Demand1, Demand2, Demand3}
+use Rattle.watch.proofs.Shown.{stateOf, rows-flat, zeros-behind, drop-table}
+use Rattle.watch.proofs.History.{bounds, history-shown, history-in-joint}
 use Rattle.watch.proofs.Lower.{usable-lower}
+use Rattle.watch.proofs.Calls.{told}
+use Rattle.watch.proofs.Ends.{end-part}
+use Rattle.watch.proofs.Reading.{rows-fit, part-read, part-refused, rows-refused, tree-taken, tree-passed}
+
+-- what holds of both holds of either
+cond-holds : {A : Type 0} (P : A → Type 0) (b : Bool) (x y : A) → P x → P y → P (cond b x y)
+cond-holds P true x y p q = p
+cond-holds P false x y p q = q
 
 -- a step that is refused, or taken with number 0
 Given : State → Step → Type 0
@@ -49,17 +57,13 @@ given-taken : (s : State) (w : Watch) (u : List ℤ) → Given s (takenStep w u)
 unfolding Given
 given-taken s w u d = absurd (d refl)
 
-given-cond : (s : State) (b : Bool) (x y : Step) → Given s x → Given s y → Given s (cond b x y)
-given-cond s true x y p q = p
-given-cond s false x y p q = q
-
 given-checked : (chart : Chart) (s : State) (own : Step) → Given s own → Given s (checked chart (s .watch) (s .table) own)
 unfolding checked
 given-checked chart s own g =
     let w = s .watch in
     let t = s .table in
     let joint = isWatchInJoint chart w t in
-    given-cond s (isUsable chart) (cond joint own (refusedStep 13 w t)) (refusedStep 14 w t) (given-cond s joint own (refusedStep 13 w t) g (given-refused s 13)) (given-refused s 14)
+    cond-holds (Given s) (isUsable chart) (cond joint own (refusedStep 13 w t)) (refusedStep 14 w t) (cond-holds (Given s) joint own (refusedStep 13 w t) g (given-refused s 13)) (given-refused s 14)
 
 given-event : (s : State) (k : ℕ) → Given s (record { answer = eventOwn (s .watch) k; table = s .table })
 unfolding eventOwn Given
@@ -78,8 +82,8 @@ given-clock chart s x =
     let rs = closedRows chart w t in
     let full = ltb (roomIn t) (length rs) in
     let taken = takenStep (marked w x (length rs)) (putRows (w .rows) (drop (w .rows) rs) t) in
-    given-cond s (not (isInstant x) || leZ x (w .instant)) (refusedStep 8 w t) (cond full (refusedStep 12 w t) taken) (given-refused s 8)
-    (given-cond s full (refusedStep 12 w t) taken (given-refused s 12) (given-taken s (marked w x (length rs)) (putRows (w .rows) (drop (w .rows) rs) t)))
+    cond-holds (Given s) (not (isInstant x) || leZ x (w .instant)) (refusedStep 8 w t) (cond full (refusedStep 12 w t) taken) (given-refused s 8)
+    (cond-holds (Given s) full (refusedStep 12 w t) taken (given-refused s 12) (given-taken s (marked w x (length rs)) (putRows (w .rows) (drop (w .rows) rs) t)))
 
 given-forget : (chart : Chart) (s : State) (f : ℤ) → Given s (forgetOwn chart (s .watch) (s .table) f)
 unfolding forgetOwn
@@ -88,7 +92,7 @@ given-forget chart s f =
     let t = s .table in
     let n = length (keptRows chart w t f) in
     let u = zeroed (n * 5) (w .rows * 5) (putRows 0 (keptRows chart w t f) t) in
-    given-cond s (ltZ f (w .floor) || (ltZ (w .instant) f || not (isInstant f))) (refusedStep 11 w t) (takenStep (raised w f n) u) (given-refused s 11) (given-taken s (raised w f n) u)
+    cond-holds (Given s) (ltZ f (w .floor) || (ltZ (w .instant) f || not (isInstant f))) (refusedStep 11 w t) (takenStep (raised w f n) u) (given-refused s 11) (given-taken s (raised w f n) u)
 
 given-call : (chart : Chart) (s : State) (c : Call) → Given s (call chart s c)
 unfolding call eventStep clockStep forgetStep
@@ -96,18 +100,66 @@ given-call chart s (ref.event k) = given-checked chart s (record { answer = even
 given-call chart s (ref.clock x) = given-checked chart s (clockOwn chart (s .watch) (s .table) x) (given-clock chart s x)
 given-call chart s (ref.forget f) = given-checked chart s (forgetOwn chart (s .watch) (s .table) f) (given-forget chart s f)
 
-pub demand-1 : Demand1
+-- a refused call hands back what it got
+refused-call : (chart : Chart) (s : State) (c : Call) → ((call chart s c) .answer .refusal ≡ 0 → ⊥) → state (call chart s c) ≡ s
 unfolding Given
-demand-1 chart s c = given-call chart s c
+refused-call chart s c = given-call chart s c
+
+-- a refused opening hands back the empty watch
+refused-opening : (chart : Chart) (t : List ℤ) (o : ℤ) → ((openingStep chart t o) .answer .refusal ≡ 0 → ⊥) → ((openingStep chart t o) .answer .watch ≡ emptyWatch (pos 0)) × ((openingStep chart t o) .table ≡ t)
+unfolding openingStep
+refused-opening chart t o =
+    let w = emptyWatch (pos 0) in
+    let kept : Step → Type 0 = λ x. (x .answer .refusal ≡ 0 → ⊥) → (x .answer .watch ≡ w) × (x .table ≡ t) in
+    let taken = takenStep (emptyWatch o) (zeroed 0 (roomIn t * 5) t) in
+    cond-holds kept (isUsable chart) (cond (isInstant o) taken (refusedStep 8 w t)) (refusedStep 14 w t) (cond-holds kept (isInstant o) taken (refusedStep 8 w t) (λ d. absurd (d refl)) (λ d. (refl, refl))) (λ d. (refl, refl))
+
+-- a tree that is refused leaves the output, or it is taken with number 0
+OutputKept : List ℕ → TreeStep → Type 0
+OutputKept out x = (x .answer .refusal ≡ 0 → ⊥) → (x .answer .length ≡ 0) × (x .out ≡ out)
+
+kept-refused : (n : ℕ) (out : List ℕ) → OutputKept out (refusedTree n out)
+unfolding OutputKept
+kept-refused n out d = (refl, refl)
+
+kept-taken : (s out : List ℕ) → OutputKept out (takenTree s out)
+unfolding OutputKept
+kept-taken s out d = absurd (d refl)
+
+kept-tree : (chart : Chart) (w : Watch) (t : List ℤ) (i : ℕ) (out : List ℕ) → OutputKept out (treeStep chart w t i out)
+unfolding treeStep treeOwn
+kept-tree chart w t i out =
+    let s = treeBytes (operatorsOf chart) t i in
+    let long = ltb (length out) (length s) in
+    let own = cond long (refusedTree 16 out) (takenTree s out) in
+    let n = checkNumber chart w t in
+    cond-holds (OutputKept out) (eqb n 0) (cond (leb (w .rows) i) (refusedTree 15 out) own) (refusedTree n out)
+    (cond-holds (OutputKept out) (leb (w .rows) i) (refusedTree 15 out) own (kept-refused 15 out) (cond-holds (OutputKept out) long (refusedTree 16 out) (takenTree s out) (kept-refused 16 out) (kept-taken s out)))
+    (kept-refused n out)
+
+pub demand-1 : Demand1
+unfolding OutputKept
+demand-1 = record {
+  calls = refused-call;
+  openings = refused-opening;
+  reads = λ chart w t e d. (part-refused chart w t e d, rows-refused chart w t e d);
+  trees = kept-tree;
+}
+
+pub end-part-holds : EndPartHolds
+end-part-holds chart w t e z =
+    let r = (told chart w t z) .ready in
+    part-read chart w t e z ∙ end-part e (w .rows) t (rows-fit chart w t z) (r .ordered) (r .entryAbove)
 
 -- the floor is kept by all calls but an accepted forget
-cond-floor : (b : Bool) (x y : Step) (f : ℤ) → x .answer .watch .floor ≡ f → y .answer .watch .floor ≡ f → (cond b x y) .answer .watch .floor ≡ f
-cond-floor true x y f p q = p
-cond-floor false x y f p q = q
-
 floor-checked : (chart : Chart) (s : State) (own : Step) → own .answer .watch .floor ≡ s .watch .floor → (checked chart (s .watch) (s .table) own) .answer .watch .floor ≡ s .watch .floor
 unfolding checked
-floor-checked chart s own p = cond-floor (isUsable chart) (cond (isWatchInJoint chart (s .watch) (s .table)) own (refusedStep 13 (s .watch) (s .table))) (refusedStep 14 (s .watch) (s .table)) (s .watch .floor) (cond-floor (isWatchInJoint chart (s .watch) (s .table)) own (refusedStep 13 (s .watch) (s .table)) (s .watch .floor) p refl) refl
+floor-checked chart s own p =
+    let w = s .watch in
+    let t = s .table in
+    let joint = isWatchInJoint chart w t in
+    let same : Step → Type 0 = λ x. x .answer .watch .floor ≡ w .floor in
+    cond-holds same (isUsable chart) (cond joint own (refusedStep 13 w t)) (refusedStep 14 w t) (cond-holds same joint own (refusedStep 13 w t) p refl) refl
 
 floor-event : (w : Watch) (k : ℕ) → (eventOwn w k) .watch .floor ≡ w .floor
 unfolding eventOwn withEvent
@@ -134,7 +186,7 @@ floor-call : (chart : Chart) (s : State) (c : Call) → not (isForget c && eqb (
 unfolding call eventStep clockStep
 floor-call chart s (ref.event k) e = floor-checked chart s (record { answer = eventOwn (s .watch) k; table = s .table }) (floor-event (s .watch) k)
 floor-call chart s (ref.clock x) e = floor-checked chart s (clockOwn chart (s .watch) (s .table) x) (floor-clock chart (s .watch) (s .table) x)
-floor-call chart s (ref.forget f) e = ap (λ z. z .watch .floor) (demand-1 chart s (ref.forget f) (not-both ((call chart s (ref.forget f)) .answer .refusal) e))
+floor-call chart s (ref.forget f) e = ap (λ z. z .watch .floor) (refused-call chart s (ref.forget f) (not-both ((call chart s (ref.forget f)) .answer .refusal) e))
 
 floor-kept : (chart : Chart) (s : State) (calls : List Call) → nothingForgotten chart s calls ≡ true → (after chart s calls) .watch .floor ≡ s .watch .floor
 unfolding after nothingForgotten
@@ -166,13 +218,41 @@ module _ (chart : Chart) (usable : isUsable chart ≡ true) (t : List ℤ) (o : 
   abbrev tail : List ℤ
   tail = drop (roomIn t * 5) t
 
+  abbrev ts : List Recognition
+  ts = listing ops (b .events) (b .floor) (b .openInstant)
+
+  abbrev s : State
+  s = history chart t o calls
+
   -- the state shows the reference model
-  is-shown : history chart t o calls ≡ stateOf (roomIn t) tail (shown ops b)
+  is-shown : s ≡ stateOf (roomIn t) tail (shown ops b)
   is-shown = (history-shown chart usable t o inRange calls) .0 ∙ ap (stateOf (roomIn t) tail) ((model.history ops (usable-lower chart usable) (roomIn t) o calls) .state)
 
   few : length rs ≤ roomIn t
   unfolding shown
   few = (bounds ops (roomIn t) (shown ops b) (holds→ _ (subst (λ w. T (isInJoint ops (roomIn t) w)) ((model.history ops (usable-lower chart usable) (roomIn t) o calls) .state) (model.in-joint ops (usable-lower chart usable) (roomIn t) o calls)))) .few
+
+  -- the row of a recognition u: it is in use, reads u, and its tree is written as u is
+  module _ (us vs : List Recognition) (u : Recognition) (e : ts ≡ us ++ u ∷ vs) where
+    in-use : length us < s .watch .rows
+    unfolding shown
+    in-use =
+        let p : length (asRows ts) ≡ length us + suc (length vs) = length-map ts (asRow ts) ∙ ap length e ∙ length-append us (u ∷ vs) in
+        omega (arith, ap (λ x. x .watch .rows) is-shown, p)
+
+    is-recognition : IsRecognition ops (b .events) u
+    is-recognition = ((model.listing-is ops (usable-lower chart usable) (b .events) (b .floor) (b .openInstant)) .members u .0 (subst (List·Memᴰ u) (sym e) (Memᴰ·append-right us (List·Memᴰ·head refl)))) .0
+
+    reads-it : Reads (rowsIn (s .watch .rows) (s .table)) (length us) u
+    unfolding shown
+    reads-it = subst (λ l. Reads l (length us) u) (sym (ap (λ x. rowsIn (x .watch .rows) (x .table)) is-shown ∙ rows-flat rs _)) (model.references ops (usable-lower chart usable) (b .events) (b .floor) (b .openInstant) us vs u e)
+
+    tree-written : (out : List ℕ) → length (recognitionBytes u) ≤ length out → treeStep chart (s .watch) (s .table) (length us) out ≡ takenTree (recognitionBytes u) out
+    tree-written out h =
+        let q = tree-holds ops (b .events) (s .watch .rows) (s .table) (length us) u in-use is-recognition reads-it in
+        tree-passed chart (s .watch) (s .table) (length us) out (history-in-joint chart usable t o inRange calls)
+        ∙ tree-taken chart (s .watch) (s .table) (length us) out in-use (rw q h)
+        ∙ ap (λ l. takenTree l out) q
 
   follows : FollowsBook chart t o calls
   unfolding shown
@@ -186,7 +266,8 @@ module _ (chart : Chart) (usable : isUsable chart ≡ true) (t : List ℤ) (o : 
     inUse = ap (λ s. take (s .watch .rows * 5) (s .table)) is-shown ∙ take-at (flat rs) _ (length rs * 5) (length-flat rs);
     unused = ap (λ s. areZeros (s .watch .rows * 5) (roomIn t * 5) (s .table)) is-shown ∙ zeros-behind (roomIn t) tail rs few;
     beyond = ap (λ s. drop (roomIn t * 5) (s .table)) is-shown ∙ drop-table (roomIn t) tail rs (roomIn t) few (omega arith) ∙ ap (λ n. replicate (n * 5) (pos 0) ++ tail) (sub-self (roomIn t));
-    trees = λ us vs u e. subst (λ l. Reads l (length us) u) (sym (ap (λ s. rowsIn (s .watch .rows) (s .table)) is-shown ∙ rows-flat rs _)) (model.references ops (usable-lower chart usable) (b .events) (b .floor) (b .openInstant) us vs u e);
+    trees = reads-it;
+    bytes = λ us vs u out e h. tree-written us vs u e out h;
     numbers = (history-shown chart usable t o inRange calls) .1 ∙ (model.history ops (usable-lower chart usable) (roomIn t) o calls) .answers;
   }
     where
@@ -200,7 +281,7 @@ module _ (chart : Chart) (usable : isUsable chart ≡ true) (t : List ℤ) (o : 
       let low : b .floor ≡ firstFloor = sym (f .floor) ∙ floor-kept chart (opened chart t o) calls none ∙ floor-opened chart t o in
       let l = model.listing-is ops (usable-lower chart usable) (b .events) (b .floor) (b .openInstant) in
       record {
-        ts = listing ops (b .events) (b .floor) (b .openInstant);
+        ts = ts;
         inUse = f .inUse;
         increasing = l .increasing;
         members = λ u. (λ i. let m = l .members u .0 i in (m .0, subst (λ z. T (ltZ (endOf u) z)) (sym (f .instant)) (m .2)), λ i. l .members u .1 (i .0, subst (λ z. T (leZ z (startOf u))) (sym low) (starts-in-range ops (usable-lower chart usable) (roomIn t) o inRange calls u (i .0)), subst (λ z. T (ltZ (endOf u) z)) (f .instant) (i .1)));

@@ -1,17 +1,16 @@
 -- The history theorem on watch and table: after every list of calls they show the watch on rows, and so the reference model.
-use Prim.Native.Nat.{ℕ, zero, suc, _+_, _*_, _-_, _≤_, _<_}
+use Prim.Native.Nat.{ℕ, _+_, _*_, _-_, _≤_}
 use native.Mathlib.Omega.{arith}
 use mathlib.Core.Path.{_≡_, refl, sym, ap, ap₂, _∙_, subst}
-use mathlib.Core.Bool.{Bool, true, false, _&&_}
-use mathlib.Core.List.{List, [], _∷_, _++_, map, append-assoc}
+use mathlib.Core.Bool.{true, _&&_}
+use mathlib.Core.List.{List, [], _∷_, _++_}
 use borrow.Author.Tests.{leb-true}
 use lib.Dec.{T, leb}
 use lib.IntN.{ℤ, pos}
-use lib.ListN.{length, take, drop, replicate, length-drop, length-map}
-use lib.Seq.{take-at, drop-at}
+use lib.ListN.{length, drop, replicate, length-drop}
 use lib.Signed.{leZ}
 use Rattle.interval.specs.Instants.{isInstant}
-use Rattle.interval.proofs.Signed.{holds→, →holds, and-first, and-second}
+use Rattle.interval.proofs.Signed.{holds→, and-first, and-second}
 use Rattle.chart.specs.Charts.{isUsable}
 use Rattle.chart.specs.declared.Chart.{Chart}
 use Rattle.model.specs.Capacity.{capacity}
@@ -25,11 +24,12 @@ use Rattle.model.proofs.Theorems as model
 use Rattle.table.specs.Operators.{operatorsOf}
 use Rattle.table.specs.Table.{areZeros, zeroed, flat}
 use Rattle.joint.proofs.Theorems.{model-in-joint}
-use Rattle.watch.specs.Steps.{Step, takenStep, emptyWatch, roomIn, isWatchInJoint, openingStep}
-use Rattle.watch.specs.Histories.{State, state, call, after, answers, opened}
+use Rattle.watch.specs.Steps.{emptyWatch, roomIn, isWatchInJoint, checkNumber, openingStep}
+use Rattle.watch.specs.Histories.{state, call, after, answers, opened}
 use Rattle.watch.proofs.Shown.{tableOf, watchOf, stateOf, rows-flat, entry-flat, length-table, zeros-behind}
 use Rattle.watch.proofs.Stepping.{stepOf, call-shown}
 use Rattle.watch.proofs.Lower.{usable-lower}
+use Rattle.watch.proofs.Calls.{check-0}
 
 -- what in joint tells of the numbers of rows and of pending events
 pub record Bounds (room : ℕ) (m : rows.Watch) : Type 0 where
@@ -105,3 +105,10 @@ module _ (chart : Chart) (usable : isUsable chart ≡ true) (t : List ℤ) (o : 
   history-shown calls =
       let g = goes-on calls [] in
       (ap (λ s. after chart s calls) opening-shown ∙ g .0, ap (λ s. answers chart s calls) opening-shown ∙ g .1)
+
+  -- so no call after it is refused by the check
+  pub history-in-joint : (calls : List Call) → let s = after chart (opened chart t o) calls in checkNumber chart (s .watch) (s .table) ≡ 0
+  history-in-joint calls =
+      let m = reached calls in
+      let j = in-joint-shown chart room tail fits m (model.in-joint (operatorsOf chart) (usable-lower chart usable) room o calls) in
+      ap (λ s. checkNumber chart (s .watch) (s .table)) ((history-shown calls) .0) ∙ check-0 chart (watchOf m) (tableOf room tail (m .rows)) usable j

@@ -4,3 +4,5 @@ pub mod Lower
 pub mod History
 pub mod Demands
 pub mod Calls
+pub mod Ends
+pub mod Reading

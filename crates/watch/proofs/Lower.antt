@@ -2,15 +2,14 @@
 use Prim.Native.Nat.{ℕ, zero, suc, _+_, _<_}
 use native.Mathlib.Omega.{arith}
 use native.Mathlib.Nat.{add-zero, zero-add}
-use mathlib.Core.Path.{_≡_, refl, sym, ap, _∙_, subst}
-use mathlib.Core.Bool.{Bool, true, false, _&&_}
-use mathlib.Core.List.{List, [], _∷_, map}
-use lib.Dec.{T, ltb, leb}
-use Rattle.interval.proofs.Signed.{never, →holds, and-first, and-second}
+use mathlib.Core.Path.{_≡_, refl, sym, ap, _∙_}
+use mathlib.Core.Bool.{true, _&&_}
+use mathlib.Core.List.{map}
+use lib.Dec.{T, leb}
+use Rattle.interval.proofs.Signed.{never, →holds, and-second}
 use Rattle.chart.specs.Operators.{kindOf, inRange, areLower}
 use Rattle.chart.specs.Charts.{allBelow, entryAt, entryFits, isUsable}
 use Rattle.chart.specs.declared.Chart.{Chart}
-use Rattle.chart.specs.declared.Entry.{Entry}
 use Rattle.chart.specs.declared.operator.Kind.{Kind}
 use Rattle.chart.specs.declared.operator.Kind.the-variants.{Event, Or, Pair, Absence, Length, Unknown}
 use Rattle.chart.proofs.Below.{at-place}

@@ -3,15 +3,15 @@ use Prim.Native.Nat.{ℕ, zero, suc, _+_, _*_, _-_, _≤_, _<_}
 use native.Mathlib.Omega.{arith}
 use native.Mathlib.Nat.{zero-add}
 use mathlib.Core.Path.{_≡_, refl, sym, ap, ap₂, _∙_}
-use mathlib.Core.Bool.{Bool, true, false}
-use mathlib.Core.List.{List, [], _∷_, _++_, append-assoc, append-nil}
+use mathlib.Core.Bool.{true}
+use mathlib.Core.List.{List, [], _∷_, _++_, append-assoc}
 use lib.IntN.{ℤ, pos}
-use lib.ListN.{length, getD, take, drop, set, replicate, length-append, length-replicate, replicate-append-replicate}
+use lib.ListN.{length, take, drop, set, replicate, length-append, length-replicate, replicate-append-replicate}
 use lib.Seq.{slice, take-at, drop-at, drop-drop, drop-append-add, set-at}
 use lib.Signed.{leZ}
 use borrow.Author.Tests.{le-leb}
 use Rattle.interval.specs.Instants.{eqZ}
-use Rattle.model.specs.Lists.{every, each}
+use Rattle.model.specs.Lists.{every}
 use Rattle.model.specs.Order.{Row}
 use Rattle.model.specs.RowSteps as rows
 use Rattle.table.specs.Table.{cell, rowsIn, cellsOf, flat, putRows, areZeros, zeroed}

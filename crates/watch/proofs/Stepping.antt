@@ -1,14 +1,13 @@
 -- One call on a watch and table that show a watch on rows gives those that show its next state, with the same number.
-use Prim.Native.Nat.{ℕ, zero, suc, _+_, _*_, _-_, _≤_, _<_}
-use native.Mathlib.Omega.{arith}
+use Prim.Native.Nat.{ℕ, suc, _+_, _*_, _-_, _≤_, _<_}
 use native.Mathlib.Numerals.{add-one}
 use mathlib.Core.Path.{_≡_, refl, sym, ap, ap₂, _∙_}
 use mathlib.Core.Bool.{Bool, true, false, cond, not, _||_}
-use mathlib.Core.List.{List, [], _∷_, _++_, map, append-assoc, append-nil}
-use borrow.Author.Tests.{leb-true, leb-false, ltb-true, ltb-false}
+use mathlib.Core.List.{List, [], _∷_, _++_, append-assoc, append-nil}
+use borrow.Author.Tests.{leb-false, ltb-false}
 use lib.Dec.{leb, ltb}
-use lib.IntN.{ℤ, pos}
-use lib.ListN.{length, take, drop, set, replicate, length-append, length-map}
+use lib.IntN.{ℤ}
+use lib.ListN.{length, drop, replicate, length-append, length-map}
 use lib.Seq.{take-at, drop-at}
 use lib.Signed.{ltZ, leZ}
 use Rattle.interval.specs.Instants.{isInstant}
@@ -23,10 +22,10 @@ use Rattle.model.specs.Reference.{Call}
 use Rattle.model.specs.RowSteps as rows
 use Rattle.model.specs.RowSteps.{Rule, rules, endsAt, derivedRows, extendRows, closeRows, forgetRows, isLate, renumbered, numbered}
 use Rattle.model.proofs.History.{keep-length}
-use Rattle.table.specs.Table.{rowsIn, putRows, zeroed}
+use Rattle.table.specs.Table.{putRows, zeroed}
 use Rattle.table.specs.Operators.{operatorsOf}
 use Rattle.watch.specs.Steps.{Step, refusedStep, takenStep, answered, roomIn, isWatchInJoint, checked, eventOwn, eventStep, withEvent, closedRows, marked, clockOwn, clockStep, keptRows, raised, forgetOwn, forgetStep}
-use Rattle.watch.specs.Histories.{State, call}
+use Rattle.watch.specs.Histories.{call}
 use Rattle.watch.specs.declared.Watch.{Watch}
 use Rattle.watch.specs.declared.Answer.{Answer}
 use Rattle.watch.proofs.Shown.{tableOf, watchOf, stateOf, rows-flat, length-table, table-more, table-less, codes-more}

@@ -1,27 +1,29 @@
 -- The three demands of the request, said of the step definitions; no proof stands here. proofs/Demands.antt proves each.
 -- The step definitions are what the contracts of the calls cite, so that what is said here holds of the code.
-use Prim.Native.Nat.{ℕ, _*_}
+use Prim.Native.Nat.{ℕ, _*_, _≤_}
 use mathlib.Core.Path.{_≡_}
 use mathlib.Core.Bool.{Bool, true, false, not, _&&_}
 use mathlib.Core.Logic.{_↔_}
 use mathlib.Core.List.{List, [], _∷_, _++_, map}
 use lib.Dec.{T, eqb}
-use lib.IntN.{ℤ}
+use lib.IntN.{ℤ, pos}
 use lib.ListN.{length, take, drop}
 use lib.Signed.{ltZ}
-use Rattle.interval.specs.Instants.{isInstant}
+use Rattle.interval.specs.Instants.{isInstant, eqZ}
 use Rattle.chart.specs.Charts.{isUsable}
 use Rattle.chart.specs.declared.Chart.{Chart}
 use Rattle.model.specs.Lists.{keep}
 use Rattle.model.specs.Recognitions.{Recognition, endOf}
 use Rattle.model.specs.Order.{before, listing, asRows}
-use Rattle.model.specs.Reference.{Model, Call, opening, step, run, numbersOf, rowsOf, isAt, firstFloor}
+use Rattle.model.specs.Reference.{Model, Call, opening, step, run, numbersOf, rowsOf, isAt}
 use Rattle.model.specs.Statements.{_∈_, Sorted, IsRecognition, Reads}
 use Rattle.model.specs.Reference as ref
 use Rattle.table.specs.Table.{rowsIn, flat, areZeros}
 use Rattle.table.specs.Operators.{operatorsOf}
-use Rattle.watch.specs.Steps.{roomIn}
+use Rattle.tree.specs.Tree.{recognitionBytes}
+use Rattle.watch.specs.Steps.{roomIn, emptyWatch, openingStep, checkNumber, endPart, endRows, rowPart, takenTree, treeStep}
 use Rattle.watch.specs.Histories.{State, state, call, after, answers, opened}
+use Rattle.watch.specs.declared.Watch.{Watch}
 
 -- A history: an opening of this chart, table and instant, and then these calls. The watch and table after it; and the reference model, which is fed
 -- the chart, the calls and the number of rows the table can hold.
@@ -34,7 +36,8 @@ book chart t o calls = run (step (operatorsOf chart) (roomIn t)) ((opening o) .s
 -- "After every such list, the empty one too, the watch has the book's open instant, floor, count of events, number of rows and events of the open
 -- instant in their order. The rows in use are the book's, number for number; the others are zeros; the numbers after the last row the table can
 -- hold are those from before the opening. A row's references, followed down, give its recognition's own tree. Each call was accepted, or refused
--- with a number, as in the book."
+-- with a number, as in the book." And a call for the tree of a row writes that recognition's bytes, where the output lent is long enough:
+-- "Its length is handed back and the output past it stays."
 pub record FollowsBook (chart : Chart) (t : List ℤ) (o : ℤ) (calls : List Call) : Type 0 where
   pub instant : (history chart t o calls) .watch .instant ≡ (book chart t o calls) .openInstant
   pub floor : (history chart t o calls) .watch .floor ≡ (book chart t o calls) .floor
@@ -46,15 +49,29 @@ pub record FollowsBook (chart : Chart) (t : List ℤ) (o : ℤ) (calls : List Ca
   pub unused : areZeros ((history chart t o calls) .watch .rows * 5) (roomIn t * 5) ((history chart t o calls) .table) ≡ true
   pub beyond : drop (roomIn t * 5) ((history chart t o calls) .table) ≡ drop (roomIn t * 5) t
   pub trees : (us vs : List Recognition) (u : Recognition) → listing (operatorsOf chart) ((book chart t o calls) .events) ((book chart t o calls) .floor) ((book chart t o calls) .openInstant) ≡ us ++ u ∷ vs → Reads (rowsIn ((history chart t o calls) .watch .rows) ((history chart t o calls) .table)) (length us) u
+  pub bytes : (us vs : List Recognition) (u : Recognition) (out : List ℕ) → listing (operatorsOf chart) ((book chart t o calls) .events) ((book chart t o calls) .floor) ((book chart t o calls) .openInstant) ≡ us ++ u ∷ vs → length (recognitionBytes u) ≤ length out → treeStep chart ((history chart t o calls) .watch) ((history chart t o calls) .table) (length us) out ≡ takenTree (recognitionBytes u) out
   pub numbers : answers chart (opened chart t o) calls ≡ numbersOf (step (operatorsOf chart) (roomIn t)) ((opening o) .state) calls
 
 -- Demand 3, for every chart that 14 lets through, every table, every opening instant in range and every list of calls
 abbrev pub Demand3 : Type 0
 Demand3 = (chart : Chart) → isUsable chart ≡ true → (t : List ℤ) (o : ℤ) → isInstant o ≡ true → (calls : List Call) → FollowsBook chart t o calls
 
--- Demand 1: "a refused event, mark or forget hands back the watch it got, and no refusal alters a lent byte"
-abbrev pub Demand1 : Type 0
-Demand1 = (chart : Chart) (s : State) (c : Call) → ((call chart s c) .answer .refusal ≡ 0 → ⊥) → state (call chart s c) ≡ s
+-- Demand 1: "a refused event, mark or forget hands back the watch it got, and no refusal alters a lent byte". A read cannot alter the table
+-- it is lent.
+pub record Demand1 : Type 0 where
+  -- "Every other refusal from 8 on returns the watch given. After a refusal all lent memory holds what it held before."
+  pub calls : (chart : Chart) (s : State) (c : Call) → ((call chart s c) .answer .refusal ≡ 0 → ⊥) → state (call chart s c) ≡ s
+  -- "A refused opening (14, then 8) returns an empty watch at instant 0"
+  pub openings : (chart : Chart) (t : List ℤ) (o : ℤ) → ((openingStep chart t o) .answer .refusal ≡ 0 → ⊥) → ((openingStep chart t o) .answer .watch ≡ emptyWatch (pos 0)) × ((openingStep chart t o) .table ≡ t)
+  -- "A refused read returns an empty part, and a check call beside it gives the number"
+  pub reads : (chart : Chart) (w : Watch) (t : List ℤ) (e : ℤ) → (checkNumber chart w t ≡ 0 → ⊥) → (endPart chart w t e ≡ []) × (endRows chart w t e ≡ rowPart 0 0)
+  -- "a refused tree returns the number and length 0"
+  pub trees : (chart : Chart) (w : Watch) (t : List ℤ) (i : ℕ) (out : List ℕ) → ((treeStep chart w t i out) .answer .refusal ≡ 0 → ⊥) → ((treeStep chart w t i out) .answer .length ≡ 0) × ((treeStep chart w t i out) .out ≡ out)
+
+-- "The rows with a given end are handed back as that part of the caller's table": where the read is not refused the part has each row with that
+-- end, none besides, in their order.
+abbrev pub EndPartHolds : Type 0
+EndPartHolds = (chart : Chart) (w : Watch) (t : List ℤ) (e : ℤ) → checkNumber chart w t ≡ 0 → endPart chart w t e ≡ flat (keep (λ r. eqZ (r .end) e) (rowsIn (w .rows) t))
 
 -- nothing has been forgotten: no forget of the list was accepted
 abbrev pub isForget : Call → Bool

@@ -1,9 +1,9 @@
--- What each call on a watch answers, and what the lent table holds after it, for every watch, chart, table and argument. Document 01,
--- "Instants, events, rows" and "Who can be turned back, and with which number".
+-- What each call on a watch answers, and what the lent memory holds after it, for every watch, chart, table and argument. Document 01,
+-- "Instants, events, rows", "Who can be turned back, and with which number" and "Reading".
 use Prim.Native.Nat.{ℕ, suc, _+_, _*_, _-_}
 use mathlib.Core.Bool.{Bool, cond, not, _||_}
-use mathlib.Core.List.{List, [], _∷_}
-use lib.Dec.{ltb, leb}
+use mathlib.Core.List.{List, [], _++_}
+use lib.Dec.{ltb, leb, eqb}
 use lib.IntN.{ℤ, pos}
 use lib.ListN.{length, take, drop, set, replicate}
 use lib.Signed.{ltZ, leZ}
@@ -14,11 +14,15 @@ use Rattle.model.specs.Capacity.{capacity}
 use Rattle.model.specs.Order.{Row}
 use Rattle.model.specs.Reference.{firstFloor}
 use Rattle.model.specs.RowSteps.{numbered, closeRows, forgetRows}
-use Rattle.table.specs.Table.{rowsIn, putRows, zeroed}
+use Rattle.table.specs.Table.{rowsIn, putRows, zeroed, part}
 use Rattle.table.specs.Operators.{operatorsOf}
 use Rattle.joint.specs.Joint.{inJoint}
+use Rattle.forgetting.specs.Ends.{endingBefore, endingBy}
+use Rattle.tree.specs.Tree.{treeBytes}
 use Rattle.watch.specs.declared.Watch.{Watch}
 use Rattle.watch.specs.declared.Answer.{Answer}
+use Rattle.watch.specs.declared.Part.{Part}
+use Rattle.watch.specs.declared.TreeAnswer.{TreeAnswer}
 
 -- the answer of a call and the table after it
 pub record Step : Type 0 where
@@ -110,3 +114,38 @@ forgetOwn chart w t f =
 
 unfoldable pub forgetStep : Chart → Watch → List ℤ → ℤ → Step
 forgetStep chart w t f = checked chart w t (forgetOwn chart w t f)
+
+-- "The rows with a given end are handed back as that part of the caller's table; it may be empty." "A refused read returns an empty part, and
+-- a check call beside it gives the number". Rows stand by end, so that they are the ones from the first that does not end before e.
+unfoldable pub endPart : Chart → Watch → List ℤ → ℤ → List ℤ
+endPart chart w t e = cond (eqb (checkNumber chart w t) 0) (part (endingBefore (w .rows) e t * 5) (endingBy (w .rows) e t * 5) t) []
+
+-- the same as row numbers: the first row of the part and how many it has
+abbrev pub rowPart : ℕ → ℕ → Part
+rowPart first count = record { first = first; count = count }
+
+unfoldable pub endRows : Chart → Watch → List ℤ → ℤ → Part
+endRows chart w t e = cond (eqb (checkNumber chart w t) 0) (rowPart (endingBefore (w .rows) e t) (endingBy (w .rows) e t - endingBefore (w .rows) e t)) (rowPart 0 0)
+
+-- what a call for a tree answers and the output after it
+pub record TreeStep : Type 0 where
+  pub answer : TreeAnswer
+  pub out : List ℕ
+
+-- "a refused tree returns the number and length 0"; "After a refusal all lent memory holds what it held before."
+abbrev pub refusedTree : ℕ → List ℕ → TreeStep
+refusedTree n out = record { answer = record { refusal = n; length = 0 }; out = out }
+
+-- "Its length is handed back and the output past it stays."
+abbrev pub takenTree : List ℕ → List ℕ → TreeStep
+takenTree bytes out = record { answer = record { refusal = 0; length = length bytes }; out = bytes ++ drop (length bytes) out }
+
+-- "15 row number not in use; 16 tree longer than the output lent"; "15 before 16"
+unfoldable pub treeOwn : Chart → Watch → List ℤ → ℕ → List ℕ → TreeStep
+treeOwn chart w t i out =
+    cond (leb (w .rows) i) (refusedTree 15 out)
+    (cond (ltb (length out) (length (treeBytes (operatorsOf chart) t i))) (refusedTree 16 out)
+    (takenTree (treeBytes (operatorsOf chart) t i) out))
+
+unfoldable pub treeStep : Chart → Watch → List ℤ → ℕ → List ℕ → TreeStep
+treeStep chart w t i out = cond (eqb (checkNumber chart w t) 0) (treeOwn chart w t i out) (refusedTree (checkNumber chart w t) out)

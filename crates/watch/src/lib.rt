@@ -4,11 +4,12 @@ ghost use mathlib.Core.Bool.{not, _||_};
 ghost use lib.Signed.{ltZ, leZ};
 ghost use Rattle.interval.specs.Instants.{isInstant};
 ghost use Prim.Native.Nat.{_<_};
-ghost use Rattle.watch.specs.Steps.{emptyWatch, openingStep, checkNumber, withEvent, eventOwn, eventStep, closedNumber, closedTable, marked, clockOwn, clockStep, raised, forgetOwn, forgetStep};
+ghost use Rattle.watch.specs.Steps.{emptyWatch, openingStep, checkNumber, withEvent, eventOwn, eventStep, closedNumber, closedTable, marked, clockOwn, clockStep, raised, forgetOwn, forgetStep, endRows, endPart, treeOwn, treeStep};
 use chart::Chart;
 
 // A watch: open instant, floor, count of events, count of rows, and the events of the open instant: how many, and their codes in
 // their order with zeros behind them.
+#[repr(C)]
 pub struct Watch {
     pub instant: i32,
     pub floor: i32,
@@ -19,9 +20,24 @@ pub struct Watch {
 }
 
 // What a call answers: the refusal's number, 0 for none, and the new watch.
+#[repr(C)]
 pub struct Answer {
     pub refusal: u32,
     pub watch: Watch,
+}
+
+// Consecutive rows of a table: the number of the first and how many there are. In C's layout, for a host in C.
+#[repr(C)]
+pub struct Part {
+    pub first: usize,
+    pub count: usize,
+}
+
+// What a call for a tree answers: the refusal's number, 0 for none, and the tree's number of bytes. In C's layout.
+#[repr(C)]
+pub struct TreeAnswer {
+    pub refusal: u32,
+    pub length: usize,
 }
 
 fn empty_watch(instant: i32) -> Watch
@@ -238,6 +254,73 @@ impl Watch {
             refusal: 0,
             watch: self.raised(f, n),
         }
+    }
+
+    // The rows that end at `end`, by their numbers, which a host in C can take; refused (14, 13): no row, both numbers 0. A check, then
+    // two binary searches.
+    pub fn rows_ending_at(self, chart: Chart, table: &[i32], end: i32) -> Part
+        ensures { λ r. ⌜ r ≡ endRows chart self (now (table .entry)) end ⌝ }
+    {
+        let n = self.check(chart, table);
+        if n != 0 {
+            return Part { first: 0, count: 0 };
+        }
+        let rows = self.rows;
+        let first = forgetting::ending_before(table, rows, end);
+        let past = forgetting::ending_by(table, rows, end);
+        Part {
+            first,
+            count: past - first,
+        }
+    }
+
+    // The rows that end at `end`, as that part of the lent table; refused (14, 13): an empty part. A check, then two binary searches.
+    pub fn rows_ending<'a>(self, chart: Chart, table: &'a [i32], end: i32) -> &'a [i32]
+        ensures { λ r. ⌜ now r ≡ endPart chart self (now (table .entry)) end ⌝ }
+    {
+        let part = self.rows_ending_at(chart, table, end);
+        let from = part.first * 5;
+        let to = from + part.count * 5;
+        &table[from..to]
+    }
+
+    // Writes the tree of row i at the front of the output: 14, 13, 15, 16. A check; then the tree's bytes are counted, with at most one
+    // reference followed for each byte of the output and one more; then each byte is written once.
+    pub fn tree(self, chart: Chart, table: &[i32], i: usize, out: &mut [u8]) -> TreeAnswer
+        ensures { λ r. ⌜ (r ≡ (treeStep chart self (now (table .entry)) i (now (out .entry))) .answer) × (now (out .exit) ≡ (treeStep chart self (now (table .entry)) i (now (out .entry))) .out) ⌝ }
+    {
+        let n = self.check(chart, table);
+        if n != 0 {
+            return TreeAnswer {
+                refusal: n,
+                length: 0,
+            };
+        }
+        self.tree_in_joint(chart, table, i, out)
+    }
+
+    // The same without the check, on a watch that is known to be in joint. The bytes are counted first, so that a refusal leaves the output
+    // as it was.
+    fn tree_in_joint(self, chart: Chart, table: &[i32], i: usize, out: &mut [u8]) -> TreeAnswer
+        requires { ⌜ checkNumber chart self (now table) ≡ 0 ⌝ }
+        ensures { λ r. ⌜ (r ≡ (treeOwn chart self (now (table .entry)) i (now (out .entry))) .answer) × (now (out .exit) ≡ (treeOwn chart self (now (table .entry)) i (now (out .entry))) .out) ⌝ }
+    {
+        let rows = self.rows;
+        if rows <= i {
+            return TreeAnswer {
+                refusal: 15,
+                length: 0,
+            };
+        }
+        let n = tree::tree_length(chart, table, rows, i, out.len());
+        if n == 0 {
+            return TreeAnswer {
+                refusal: 16,
+                length: 0,
+            };
+        }
+        let length = tree::write_tree(chart, table, rows, i, out);
+        TreeAnswer { refusal: 0, length }
     }
 }
 

@@ -5,11 +5,11 @@ use native.Mathlib.Omega.{arith}
 use borrow.Author.Needs.{needs}
 use lib.ListN.{length, drop, length-drop, drop-of-length-le}
 use lib.Seq.{drop-drop}
-use Rattle.text.specs.Text.{lines}
-use Rattle.text.proofs.Laws.{part-from}
-use Rattle.chart.specs.Records.{lineSize, lineAnswer}
-use Rattle.chart.specs.Charts.{noEntries, withEntry, readLines, readChart, refusedChart}
-use Rattle.chart.proofs.Charts.{Taken, step-taken, step-refused, no-line, no-line-left, some-line, taken, size-le}
+use Rattle.text.specs.Text.{lines, lineSize}
+use Rattle.text.proofs.Laws.{part-from, size-le}
+use Rattle.chart.specs.Records.{lineAnswer}
+use Rattle.chart.specs.Charts.{noEntries, withEntry, readLines, readChart}
+use Rattle.chart.proofs.Charts.{Taken, step-taken, step-refused, no-line, no-line-left, some-line, taken}
 use Rattle.chart.proofs.read.Statement.{statement}
 use Rattle.chart.proofs.read.Tie as tie
 

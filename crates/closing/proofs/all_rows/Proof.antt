@@ -13,7 +13,8 @@ use Rattle.closing.specs.Closed.{rowsClosed}
 use Rattle.closing.proofs.Filling.{Filling, begin, ended}
 use Rattle.closing.proofs.Derived.{Grown}
 use Rattle.closing.proofs.Growth.{grown-none}
-use Rattle.closing.proofs.Entries.{usable-few, usable-fits, leftRows, left-first, left-last, entry-full, entry-next}
+use Rattle.chart.proofs.Usable.{usable-few, usable-fits}
+use Rattle.closing.proofs.Entries.{leftRows, left-first, left-last, entry-full, entry-next}
 use Rattle.closing.proofs.all_rows.Statement.{statement}
 use Rattle.closing.proofs.all_rows.Tie as tie
 

@@ -1,52 +1,60 @@
--- `decimal::digit_count` meets its contract: each range of the match is a power of ten, which gives the number of digits.
-use mathlib.Core.Path.{sym, ap}
+-- `decimal::digit_count` meets its contract. The loop's invariant: the power is the kth of ten, and the number has more than k digits.
+use mathlib.Core.Path.{_≡_, refl}
+use Prim.Native.Nat.{ℕ, suc, _+_, _*_, _-_, _/_, _^_, _≤_, _<_}
 use native.Mathlib.Omega.{arith}
+use native.Mathlib.Nat.{pow-suc}
+use native.Mathlib.Numerals.{add-one}
 use lib.ListN.{length}
-use Rattle.decimal.proofs.Digits.{spelled-small, length-is}
+use Rattle.decimal.specs.Spelling.{spelledNumber}
+use Rattle.decimal.proofs.Digits.{spelled-nonempty, length-most, length-least}
 use Rattle.decimal.proofs.digit_count.Statement.{statement}
 use Rattle.decimal.proofs.digit_count.Tie as tie
 
-returns : tie.Need-returns
-returns c = sym (ap length (spelled-small _ (c .if2 .taken)))
+-- a power of ten that is at most a tenth of the number: there is one digit more, of at most twenty
+more : (m k : ℕ) → 10 ^ k ≤ m / 10 → suc k < length (spelledNumber m)
+more m k h = length-least (suc k) m (omega (arith, pow-suc 10 k))
 
-returns-2 : tie.Need-returns-2
-returns-2 c = length-is 1 _ (omega arith) (omega arith)
+next : (k power : ℕ) → power ≡ 10 ^ k → power * 10 ≡ 10 ^ (k + 1)
+next k power e = rw (add-one k, e) (omega (arith, pow-suc 10 k))
 
-returns-3 : tie.Need-returns-3
-returns-3 c = length-is 2 _ (omega arith) (omega arith)
+few : (m k : ℕ) → m < 2 ^ 64 → k < length (spelledNumber m) → k < 20
+few m k h l = omega (arith, length-most 19 m (omega arith))
 
-returns-4 : tie.Need-returns-4
-returns-4 c = length-is 3 _ (omega arith) (omega arith)
+done : (m k : ℕ) → m / 10 < 10 ^ k → k < length (spelledNumber m) → k + 1 ≡ length (spelledNumber m)
+done m k h l = omega (arith, length-most k m (omega (arith, pow-suc 10 k)))
 
-returns-5 : tie.Need-returns-5
-returns-5 c = length-is 4 _ (omega arith) (omega arith)
+abbrev Inv-loop : tie.InvT-loop
+Inv-loop m tens power₀ k₀ power k = (power ≡ 10 ^ k) × (k < length (spelledNumber m))
 
-returns-6 : tie.Need-returns-6
-returns-6 c = length-is 5 _ (omega arith) (omega arith)
+abbrev μ-loop : tie.MeasureT-loop
+μ-loop m tens power₀ k₀ power k = length (spelledNumber m) - k
 
-returns-7 : tie.Need-returns-7
-returns-7 c = length-is 6 _ (omega arith) (omega arith)
+loop-holds : tie.Need-loop-holds Inv-loop μ-loop
+loop-holds c = (refl, spelled-nonempty (c .args .m))
 
-returns-8 : tie.Need-returns-8
-returns-8 c = length-is 7 _ (omega arith) (omega arith)
+mul-power : tie.Need-mul-power Inv-loop μ-loop
+mul-power c = omega arith
 
-returns-9 : tie.Need-returns-9
-returns-9 c = length-is 8 _ (omega arith) (omega arith)
+add-k : tie.Need-add-k Inv-loop μ-loop
+add-k c = let s = c .before .before in omega (arith, few (s .args .m) (c .before .loop .k) (s .fits .m .fits) (c .before .loop .inv .1))
 
-returns-10 : tie.Need-returns-10
-returns-10 c = length-is 9 _ (omega arith) (omega arith)
+loop-less : tie.Need-loop-less Inv-loop μ-loop
+loop-less c = omega arith
+
+loop-again : tie.Need-loop-again Inv-loop μ-loop
+loop-again c =
+    let l = c .before .loop in
+    (next (l .k) (l .power) (l .inv .0), omega (arith, more (c .before .before .args .m) (l .k) (rw (← l .inv .0) (c .loop-test .taken))))
+
+add-result : tie.Need-add-result Inv-loop μ-loop
+add-result c = let s = c .before .before in omega (arith, few (s .args .m) (c .before .loop .k) (s .fits .m .fits) (c .before .loop .inv .1))
+
+returns : tie.Need-returns Inv-loop μ-loop
+returns c =
+    let l = c .before .loop in
+    done (c .before .before .args .m) (l .k) (rw (← l .inv .0) (c .loop-test .left)) (l .inv .1)
 
 pub digit-count-spec : {M : Type 1} → statement M
 digit-count-spec =
     tie.close
-    (tie.spec
-    returns
-    returns-2
-    returns-3
-    returns-4
-    returns-5
-    returns-6
-    returns-7
-    returns-8
-    returns-9
-    returns-10)
+    (tie.spec Inv-loop μ-loop loop-holds mul-power add-k loop-less loop-again add-result returns)

@@ -35,12 +35,12 @@ cast-result-2 c =
     let x = c .before .args .x in
     let f = c .before .fits .x in
     simp (same32, f, same64, widened x f, opposite, wide-opposite c, opposite-abs)
-    (opposite-sign x (negative c), record { fits = abs-fits x f })
+    (opposite-sign x (negative c), record { fits = omega (arith, abs-fits x f) })
 
 cast-result-3 : tie.Need-cast-result-3
 cast-result-3 c =
     let f = c .before .fits .x in
-    simp (same32, f) (sign (c .before .args .x) (natural c), record { fits = abs-fits (c .before .args .x) f })
+    simp (same32, f) (sign (c .before .args .x) (natural c), record { fits = omega (arith, abs-fits (c .before .args .x) f) })
 
 returns : tie.Need-returns
 returns c =

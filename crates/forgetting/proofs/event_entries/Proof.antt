@@ -3,7 +3,8 @@ use Prim.Native.Nat.{_-_, _≤_}
 use mathlib.Core.Path.{_≡_, refl}
 use native.Mathlib.Omega.{arith}
 use borrow.Author.Needs.{needs}
-use Rattle.forgetting.proofs.Flags.{usable-few, Flagged, flags-none, flags-more, flags-all}
+use Rattle.chart.proofs.Usable.{usable-few}
+use Rattle.forgetting.proofs.Flags.{Flagged, flags-none, flags-more, flags-all}
 use Rattle.forgetting.proofs.event_entries.Statement.{statement}
 use Rattle.forgetting.proofs.event_entries.Tie as tie
 

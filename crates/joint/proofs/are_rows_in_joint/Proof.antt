@@ -17,7 +17,8 @@ use Rattle.model.proofs.Capacity.{capacity-fits}
 use Rattle.table.specs.Table.{cell}
 use Rattle.joint.specs.Joint.{isTableRowInJoint}
 use Rattle.joint.proofs.Tests.{not-below, entry-cell}
-use Rattle.joint.proofs.Rows.{usable-few, row-above, row-negative, row-unknown, row-is}
+use Rattle.chart.proofs.Usable.{usable-few}
+use Rattle.joint.proofs.Rows.{row-above, row-negative, row-unknown, row-is}
 use Rattle.joint.proofs.are_rows_in_joint.Statement.{statement}
 use Rattle.joint.proofs.are_rows_in_joint.Tie as tie
 

@@ -1,6 +1,5 @@
 -- `is_floor` meets its contract: the three tests are those of the definition.
-use mathlib.Core.Path.{_≡_, sym, ap, _∙_}
-use mathlib.Core.Bool.{true, false}
+use mathlib.Core.Path.{sym, ap, _∙_}
 use borrow.Author.Needs.{needs}
 use Rattle.interval.proofs.Machine.{same32}
 use Rattle.interval.specs.Instants.{isInstant}

@@ -1,6 +1,5 @@
 -- `is_later` meets its contract: the two tests are those of the definition.
 use mathlib.Core.Path.{_≡_, sym, ap, _∙_}
-use mathlib.Core.Bool.{true, false}
 use borrow.Author.Needs.{needs}
 use borrow.Author.Tests.{not-true, not-false}
 use Rattle.interval.proofs.Machine.{same32}

@@ -1,6 +1,6 @@
 -- `clock_in_joint` meets its contract: 8, then 12, in the definition's order.
 use mathlib.Core.Path.{_≡_, sym, ap, ap₂, _∙_}
-use mathlib.Core.Bool.{true, false, not, _||_}
+use mathlib.Core.Bool.{false, not, _||_}
 use Prim.Native.Nat.{_≤_, _<_}
 use borrow.Author.Needs.{needs}
 use native.Mathlib.Omega.{arith}
@@ -10,7 +10,7 @@ use lib.Signed.{leZ}
 use borrow.Author.Tests.{not-true, not-false}
 use Rattle.interval.specs.Instants.{isInstant}
 use Rattle.interval.proofs.Machine.{same32}
-use Rattle.watch.specs.Steps.{answered, roomIn, closedNumber, closedTable, marked, clockOwn}
+use Rattle.watch.specs.Steps.{answered, roomIn, closedNumber, marked}
 use Rattle.watch.proofs.Calls.{clock-8, clock-12, clock-taken}
 use Rattle.watch.proofs.Watch.clock_in_joint.Statement.{statement}
 use Rattle.watch.proofs.Watch.clock_in_joint.Tie as tie

@@ -1,5 +1,4 @@
 -- `closed` meets its contract: closing takes what the check told.
-use mathlib.Core.Path.{_≡_, sym, ap, _∙_}
 use borrow.Author.Needs.{needs}
 use native.Mathlib.Omega.{arith}
 use mir.Syntax.{w32}

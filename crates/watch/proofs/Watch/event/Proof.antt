@@ -1,5 +1,5 @@
 -- `event` meets its contract: the check, then the event.
-use mathlib.Core.Path.{_≡_, sym, ap, _∙_}
+use mathlib.Core.Path.{sym, ap, _∙_}
 use borrow.Author.Needs.{needs}
 use Rattle.watch.specs.Steps.{answered, eventStep}
 use Rattle.watch.proofs.Calls.{check-passed, check-refused}

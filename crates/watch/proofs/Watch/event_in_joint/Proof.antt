@@ -1,6 +1,5 @@
 -- `event_in_joint` meets its contract: 10, then 9, in the definition's order.
 use borrow.Author.Needs.{needs}
-use native.Mathlib.Omega.{arith}
 use borrow.Author.Tests.{le-leb, lt-leb}
 use Rattle.watch.specs.Steps.{eventOwn}
 use Rattle.watch.proofs.Watch.event_in_joint.Statement.{statement}

@@ -1,5 +1,5 @@
 -- `forget` meets its contract: the check, then the call's own part.
-use mathlib.Core.Path.{_≡_, sym, ap, _∙_}
+use mathlib.Core.Path.{sym, ap, _∙_}
 use borrow.Author.Needs.{needs}
 use Rattle.interval.proofs.Machine.{same32}
 use Rattle.watch.specs.Steps.{answered, forgetOwn, forgetStep}

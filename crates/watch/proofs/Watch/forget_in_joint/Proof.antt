@@ -1,8 +1,7 @@
 -- `forget_in_joint` meets its contract: 11, then forgetting.
 use mathlib.Core.Path.{_≡_, sym, ap, ap₂, _∙_}
-use mathlib.Core.Bool.{true, false, not, _||_}
+use mathlib.Core.Bool.{not, _||_}
 use borrow.Author.Needs.{needs}
-use native.Mathlib.Omega.{arith}
 use mir.Syntax.{w32}
 use mir.Val.{SFits}
 use lib.ListN.{length}
@@ -11,7 +10,7 @@ use borrow.Author.Tests.{not-true, not-false}
 use Rattle.interval.specs.Instants.{isInstant}
 use Rattle.interval.proofs.Machine.{same32}
 use Rattle.forgetting.specs.Forgetting as forgetting
-use Rattle.watch.specs.Steps.{answered, keptRows, raised, forgetOwn}
+use Rattle.watch.specs.Steps.{answered, keptRows, raised}
 use Rattle.watch.proofs.Calls.{told, forget-11, forget-taken}
 use Rattle.watch.proofs.Watch.forget_in_joint.Statement.{statement}
 use Rattle.watch.proofs.Watch.forget_in_joint.Tie as tie

@@ -1,5 +1,4 @@
 -- `marked` meets its contract: it is the definition.
-use borrow.Author.Needs.{needs}
 use mir.Syntax.{w32}
 use mir.Val.{SFits}
 use Rattle.interval.proofs.Machine.{same32}

@@ -1,17 +1,15 @@
 -- `opening` meets its contract: 14, then 8, in the definition's order; then all rows are zeros.
-use mathlib.Core.Path.{_≡_, refl, sym, ap, _∙_}
-use mathlib.Core.Bool.{true, false}
+use mathlib.Core.Path.{_≡_, sym, ap, _∙_}
 use borrow.Author.Needs.{needs}
 use native.Mathlib.Omega.{arith}
 use borrow.Author.Tests.{not-true, not-false}
 use Rattle.interval.specs.Instants.{isInstant}
-use Rattle.chart.specs.Charts.{isUsable}
 use Prim.Native.Nat.{_*_}
 use lib.ListN.{length}
 use Rattle.table.specs.Table.{zeroed}
 use Rattle.model.proofs.Capacity.{capacity-fits}
 use Rattle.interval.proofs.Machine.{same32}
-use Rattle.watch.specs.Steps.{answered, emptyWatch, openingStep}
+use Rattle.watch.specs.Steps.{answered, emptyWatch}
 use Rattle.watch.proofs.Calls.{opening-14, opening-8, opening-taken}
 use Rattle.watch.proofs.Watch.opening.Statement.{statement}
 use Rattle.watch.proofs.Watch.opening.Tie as tie

@@ -1,5 +1,4 @@
 -- `raised` meets its contract: it is the definition.
-use borrow.Author.Needs.{needs}
 use Rattle.interval.proofs.Machine.{same32}
 use Rattle.watch.specs.Steps.{raised}
 use Rattle.watch.proofs.Watch.raised.Statement.{statement}

@@ -1,15 +1,13 @@
 -- `line_size` meets its contract: the search in the window of at most 64 bytes is that of the definition.
-use Prim.Native.Nat.{_≤_, _<_, min}
 use mathlib.Core.Path.{_≡_, sym, ap, _∙_}
 use native.Mathlib.Omega.{arith}
 use borrow.Author.Needs.{needs}
 use lib.ListN.{length, take, length-take}
 use lib.Seq.{length-take-le}
 use Rattle.text.specs.Text.{indexOf}
-use Rattle.text.proofs.Laws.{index-le}
-use Rattle.chart.proofs.Records.{size-found, size-none, window-is}
-use Rattle.chart.proofs.record.line_size.Statement.{statement}
-use Rattle.chart.proofs.record.line_size.Tie as tie
+use Rattle.text.proofs.Laws.{size-found, size-none, window-is}
+use Rattle.text.proofs.line_size.Statement.{statement}
+use Rattle.text.proofs.line_size.Tie as tie
 
 found : (c : tie.After-find) → c .find .result ≡ indexOf 10 (take 64 (c .before .before .before .before .args .s .now))
 found c =

@@ -1,0 +1,37 @@
+-- `read_whole` meets its contract: the line is no 33rd; refusal 3 by its length, then the fields.
+use mathlib.Core.Path.{_≡_}
+use native.Mathlib.Omega.{arith}
+use borrow.Author.Needs.{needs}
+use borrow.Author.Tests.{ne-eqb, le-ltb, lt-ltb}
+use Rattle.chart.specs.Records.{answerTo}
+use Rattle.chart.proofs.record.read_whole.Statement.{statement}
+use Rattle.chart.proofs.record.read_whole.Tie as tie
+
+refused-line-requires : tie.Need-refused-line-requires
+refused-line-requires c κs = search needs
+
+returns : tie.Need-returns
+unfolding answerTo
+returns c =
+    let n = c .before .before .before .args .n in
+    let less : n ≡ 32 → ⊥ = λ e. omega arith in
+    simp (ne-eqb n 32 less, le-ltb _ _ (c .before .if1 .taken), c .refused-line .ensures)
+
+read-fields-requires : tie.Need-read-fields-requires
+read-fields-requires c κs = search needs
+
+check-line-requires : tie.Need-check-line-requires
+check-line-requires c κs = search needs
+
+returns-2 : tie.Need-returns-2
+unfolding answerTo
+returns-2 c =
+    let d = c .before .before in
+    let n = d .before .before .args .n in
+    let less : n ≡ 32 → ⊥ = λ e. omega arith in
+    simp (ne-eqb n 32 less, lt-ltb _ _ (d .if1 .left), ← c .before .read-fields .ensures) (c .check-line .ensures)
+
+pub read-whole-spec : {M : Type 1} → statement M
+read-whole-spec =
+    tie.close
+    (tie.spec refused-line-requires returns read-fields-requires check-line-requires returns-2)

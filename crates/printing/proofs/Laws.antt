@@ -1,0 +1,104 @@
+-- Laws of specs/Listing.antt: the listing of a table is the listing of its rows, what the printed text is at the front of the output, and
+-- what is left of a text after its first piece.
+use Prim.Native.Nat.{ℕ, suc, _+_, _*_, _-_, _≤_, _<_}
+use native.Mathlib.Omega.{arith}
+use native.Mathlib.Numerals.{add-one}
+use mathlib.Core.Path.{_≡_, refl, ap, _∙_}
+use mathlib.Core.Bool.{Bool, true, false}
+use mathlib.Core.List.{List, [], _∷_, _++_}
+use lib.IntN.{ℤ, pos}
+use lib.ListN.{length, getD, take, drop, length-append, drop-of-length-le}
+use lib.Seq.{drop-cons, drop-drop, take-append-seam}
+use borrow.Author.Tests.{le-leb, lt-leb}
+use Rattle.decimal.specs.Spelling.{spelled}
+use Rattle.model.specs.Order.{Row}
+use Rattle.table.specs.Table.{cellsOf, flat}
+use Rattle.printing.specs.Listing.{title, numbersText, rowText, rowTexts, listingText, tableRows, tableText, lengthWhere, outputWhere, listingFits, refusalFits}
+
+-- For callers. The rows of a table, and numbers behind them that are not printed.
+table-rows : (n : ℕ) (rs : List Row) (u : List ℤ) → tableRows n (length rs) (flat rs ++ u) ≡ rowTexts n rs
+unfolding tableRows rowTexts flat
+table-rows n [] u = refl
+table-rows n (r ∷ rs) u = ap (λ (l : List ℕ). rowText n (cellsOf r) ++ l) (table-rows (suc n) rs u)
+
+pub table-listing : (rs : List Row) (u : List ℤ) → tableText (length rs) (flat rs ++ u) ≡ listingText rs
+table-listing rs u = ap (λ (l : List ℕ). title ++ l) (table-rows _ rs u)
+
+-- A text that there is room for is the front of the output, of the length answered; where there is no room nothing is.
+module _ (room : Bool) (s out : List ℕ) where
+  pub length-room : room ≡ true → lengthWhere room s ≡ length s
+  unfolding lengthWhere
+  length-room e = rw e
+
+  pub output-room : room ≡ true → outputWhere room s out ≡ s ++ drop (length s) out
+  unfolding outputWhere
+  output-room e = rw e
+
+  pub front-is-text : room ≡ true → take (lengthWhere room s) (outputWhere room s out) ≡ s
+  front-is-text e = rw (length-room e, output-room e) (take-append-seam s (drop (length s) out))
+
+  pub length-no-room : room ≡ false → lengthWhere room s ≡ 0
+  unfolding lengthWhere
+  length-no-room e = rw e
+
+  pub output-no-room : room ≡ false → outputWhere room s out ≡ out
+  unfolding outputWhere
+  output-no-room e = rw e
+
+-- An output that keeps its length has room for what is answered.
+pub front-within : (room : Bool) (s out : List ℕ) → length (outputWhere room s out) ≡ length out → lengthWhere room s ≤ length out
+unfolding lengthWhere outputWhere
+front-within true s out e = omega (arith, e, length-append s (drop (length s) out))
+front-within false s out e = omega arith
+
+-- When there is room.
+module _ (rows : ℕ) (t : List ℤ) (out : List ℕ) where
+  pub listing-fits : rows * 5 ≤ length t → 31 + rows * 81 ≤ length out → listingFits rows t out ≡ true
+  unfolding listingFits
+  listing-fits h k = rw (le-leb (rows * 5) (length t) h, le-leb (31 + rows * 81) (length out) k)
+
+  pub listing-few-rows : length t < rows * 5 → listingFits rows t out ≡ false
+  unfolding listingFits
+  listing-few-rows h = rw (lt-leb (rows * 5) (length t) h)
+
+  pub listing-short : rows * 5 ≤ length t → length out < 31 + rows * 81 → listingFits rows t out ≡ false
+  unfolding listingFits
+  listing-short h k = rw (le-leb (rows * 5) (length t) h, lt-leb (31 + rows * 81) (length out) k)
+
+pub refusal-fits : (out : List ℕ) → 40 ≤ length out → refusalFits out ≡ true
+unfolding refusalFits
+refusal-fits out h = le-leb 40 (length out) h
+
+pub refusal-short : (out : List ℕ) → length out < 40 → refusalFits out ≡ false
+unfolding refusalFits
+refusal-short out h = lt-leb 40 (length out) h
+
+-- What is left of the numbers of a line, and of the rows of a table, from place i on.
+pub numbers-more : (xs : List ℤ) (i : ℕ) → i < length xs → numbersText (drop i xs) ≡ (9 ∷ spelled (getD xs i (pos 0))) ++ numbersText (drop (i + 1) xs)
+unfolding numbersText
+numbers-more xs i h = rw (add-one i, drop-cons xs i (pos 0) h)
+
+pub numbers-done : (xs : List ℤ) (i : ℕ) → length xs ≤ i → numbersText (drop i xs) ≡ 10 ∷ []
+unfolding numbersText
+numbers-done xs i h = rw (drop-of-length-le xs h)
+
+module _ (rows : ℕ) (t : List ℤ) (i : ℕ) where
+  -- the lines of the rows from row i on
+  abbrev pub rowsFrom : List ℕ
+  rowsFrom = tableRows i (rows - i) (drop (i * 5) t)
+
+rows-step : (n m k : ℕ) (t : List ℤ) (a : ℕ) → m ≡ suc k → tableRows n m (drop a t) ≡ rowText n (take 5 (drop a t)) ++ tableRows (suc n) k (drop (a + 5) t)
+unfolding tableRows
+rows-step n m k t a e = rw (e, ← drop-drop 5 a t)
+
+pub rows-more : (rows : ℕ) (t : List ℤ) (i : ℕ) → i < rows → rowsFrom rows t i ≡ rowText i (take 5 (drop (i * 5) t)) ++ rowsFrom rows t (i + 1)
+rows-more rows t i h =
+    let next : i * 5 + 5 ≡ suc i * 5 = omega arith in
+    rows-step i (rows - i) (rows - suc i) t (i * 5) (omega arith) ∙ rw (next, add-one i)
+
+rows-none : (n m : ℕ) (t : List ℤ) → m ≡ 0 → tableRows n m t ≡ []
+unfolding tableRows
+rows-none n m t e = rw e
+
+pub rows-done : (rows : ℕ) (t : List ℤ) (i : ℕ) → rows ≤ i → rowsFrom rows t i ≡ []
+rows-done rows t i h = rows-none i (rows - i) (drop (i * 5) t) (omega arith)

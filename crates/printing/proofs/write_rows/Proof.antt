@@ -1,0 +1,77 @@
+-- `write_rows` meets its contract: the rows from the ith on are left to write, and each took at most 81 bytes.
+use Prim.Native.Nat.{ℕ, _+_, _*_, _-_, _≤_}
+use native.Mathlib.Omega.{arith}
+use mathlib.Core.Path.{_≡_}
+use mathlib.Core.List.{List}
+use lib.IntN.{ℤ}
+use lib.ListN.{take, drop}
+use Rattle.decimal.proofs.Written.{Remaining, remaining-all, remaining-less, remaining-none}
+use Rattle.printing.specs.Listing.{rowText, tableRows}
+use Rattle.printing.proofs.Laws.{rowsFrom, rows-more, rows-done}
+use Rattle.printing.proofs.write_rows.Statement.{statement}
+use Rattle.printing.proofs.write_rows.Tie as tie
+
+-- at first all rows are left
+all-rows : (out : List ℕ) (at rows : ℕ) (t : List ℤ) → Remaining out at (tableRows 0 rows t) out at (rowsFrom rows t 0)
+all-rows out at rows t = let e : rows - 0 ≡ rows = omega arith in rw e (remaining-all out at (tableRows 0 rows t))
+
+abbrev Inv-loop : tie.InvT-loop
+Inv-loop table rows out₀ at place₀ i₀ out place i =
+    (i ≤ rows) × (place ≤ at + i * 81) × Remaining out₀ at (tableRows 0 rows table) out place (rowsFrom rows table i)
+
+abbrev μ-loop : tie.MeasureT-loop
+μ-loop table rows out₀ at place₀ i₀ out place i = rows - i
+
+loop-holds : tie.Need-loop-holds Inv-loop μ-loop
+loop-holds c =
+    let g = c .before .args in
+    (omega arith, omega arith, all-rows (g .out .now) (g .at) (g .rows) (g .table .now))
+
+write-row-requires : tie.Need-write-row-requires Inv-loop μ-loop
+write-row-requires c κs =
+    let l = c .before .before in
+    let s = l .before .before in
+    (omega (arith, s .pre .0), omega (arith, s .pre .1, l .loop .inv .2 .same))
+
+add-i : tie.Need-add-i Inv-loop μ-loop
+add-i c = let s = c .before .before .before .before .before .before .before in omega (arith, s .fits .rows .fits)
+
+loop-less : tie.Need-loop-less Inv-loop μ-loop
+loop-less c = omega arith
+
+loop-again : tie.Need-loop-again Inv-loop μ-loop
+loop-again c =
+    let w = c .before .before in
+    let t = w .before .before in
+    let l = t .before in
+    let g = l .before .before .args in
+    let i = l .loop .i in
+    let text = rowText i (take 5 (drop (i * 5) (g .table .now))) in (
+      omega arith,
+      omega (arith, w .write-row .ensures .2),
+      remaining-less (l .loop .inv .2) text (rowsFrom (g .rows) (g .table .now) (i + 1)) _ _ (rows-more (g .rows) (g .table .now) i (t .loop-test .taken)) (w .write-row .ensures .1) (w .write-row .ensures .0),
+    )
+
+same-length : tie.Need-same-length Inv-loop μ-loop
+same-length c = c .before .loop .inv .2 .same
+
+returns : tie.Need-returns Inv-loop μ-loop
+returns c =
+    let l = c .before in
+    let g = l .before .before .args in
+    let done = remaining-none (l .loop .inv .2) (rows-done (g .rows) (g .table .now) (l .loop .i) (c .loop-test .left)) in
+    (done .0, done .1, omega arith)
+
+pub write-rows-spec : {M : Type 1} → statement M
+write-rows-spec =
+    tie.close
+    (tie.spec
+    Inv-loop
+    μ-loop
+    loop-holds
+    write-row-requires
+    add-i
+    loop-less
+    loop-again
+    same-length
+    returns)

@@ -1,0 +1,134 @@
+// What the listing program prints: the listing of a table, or the line of a refusal. Both public functions accept every input. The
+// others ask for room at a place of the output, write a text there, and return the place behind it.
+ghost use mathlib.Core.Path.{_≡_};
+ghost use mathlib.Core.List.{_∷_};
+ghost use Prim.Native.Nat.{_+_, _*_, _≤_};
+ghost use lib.ListN.{length, take, drop};
+ghost use lib.Seq.{sets};
+ghost use Rattle.decimal.specs.Spelling.{spelledNumber, spelled};
+ghost use Rattle.printing.specs.Listing.{numbersText, rowText, tableRows, listingLength, listingOutput, refusalLength, refusalOutput};
+
+// The first line of a listing.
+const TITLE: [u8; 31] = *b"row\tentry\tleft\tright\tstart\tend\n";
+
+// The first word of a refusal.
+const REFUSED: [u8; 7] = *b"refused";
+
+// Writes the listing of the table's first rows at the front of the output and returns the number of bytes. Where the table has fewer
+// rows, or the output less than 31 bytes and 81 for each row, it writes nothing and returns 0. Each byte is written once, with one
+// division by 10 for each digit but the first of a number.
+pub fn write_listing(table: &[i32], rows: usize, out: &mut [u8]) -> usize
+    ensures { λ r. ⌜ (r ≡ listingLength rows (now (table .entry)) (now (out .entry))) × (now (out .exit) ≡ listingOutput rows (now (table .entry)) (now (out .entry))) ⌝ }
+{
+    if table.len() / 5 < rows {
+        return 0;
+    }
+    if out.len() < 31 {
+        return 0;
+    }
+    if (out.len() - 31) / 81 < rows {
+        return 0;
+    }
+    let title = TITLE;
+    let at = write_bytes(&title, out, 0);
+    write_rows(table, rows, out, at)
+}
+
+// Writes the line of a refusal at the front of the output and returns the number of bytes. Where the output has less than 40 bytes it
+// writes nothing and returns 0. Each byte is written once, with one division by 10 for each digit but the first of a number.
+pub fn write_refusal(number: u32, line: u64, out: &mut [u8]) -> usize
+    ensures { λ r. ⌜ (r ≡ refusalLength number line (now (out .entry))) × (now (out .exit) ≡ refusalOutput number line (now (out .entry))) ⌝ }
+{
+    if out.len() < 40 {
+        return 0;
+    }
+    let word = REFUSED;
+    let a = write_bytes(&word, out, 0);
+    let b = write_number_field(number as u64, out, a);
+    let c = write_number_field(line, out, b);
+    out[c] = b'\n';
+    c + 1
+}
+
+// Writes the lines of the first rows. Each byte is written once.
+fn write_rows(table: &[i32], rows: usize, out: &mut [u8], at: usize) -> usize
+    requires { ⌜ (rows * 5 ≤ length (now table)) × (at + rows * 81 ≤ length (now out)) ⌝ }
+    ensures { λ r. ⌜ (r ≡ at + length (tableRows 0 rows (now (table .entry)))) × (now (out .exit) ≡ sets (now (out .entry)) at (tableRows 0 rows (now (table .entry)))) × (r ≤ at + rows * 81) ⌝ }
+{
+    let mut place = at;
+    let mut i: usize = 0;
+    while i < rows {
+        place = write_row(table, i, out, place);
+        i += 1;
+    }
+    place
+}
+
+// Writes the line of row i: its number and its five numbers. Each byte is written once.
+fn write_row(table: &[i32], i: usize, out: &mut [u8], at: usize) -> usize
+    requires { ⌜ (i * 5 + 5 ≤ length (now table)) × (at + 81 ≤ length (now out)) ⌝ }
+    ensures { λ r. ⌜ (r ≡ at + length (rowText i (take 5 (drop (i * 5) (now (table .entry)))))) × (now (out .exit) ≡ sets (now (out .entry)) at (rowText i (take 5 (drop (i * 5) (now (table .entry)))))) × (r ≤ at + 81) ⌝ }
+{
+    let from = i * 5;
+    let end = from + 5;
+    let behind = write_number(i as u64, out, at);
+    write_numbers(&table[from..end], out, behind)
+}
+
+// Writes each number behind a tab, and then the end of the line. Each byte is written once.
+fn write_numbers(xs: &[i32], out: &mut [u8], at: usize) -> usize
+    requires { ⌜ at + length (now xs) * 12 + 1 ≤ length (now out) ⌝ }
+    ensures { λ r. ⌜ (r ≡ at + length (numbersText (now (xs .entry)))) × (now (out .exit) ≡ sets (now (out .entry)) at (numbersText (now (xs .entry)))) × (r ≤ at + length (now (xs .entry)) * 12 + 1) ⌝ }
+{
+    let mut place = at;
+    let mut i: usize = 0;
+    while i < xs.len() {
+        let x = xs[i];
+        place = write_integer_field(x, out, place);
+        i += 1;
+    }
+    out[place] = b'\n';
+    place + 1
+}
+
+// Writes a tab and x. Each byte is written once.
+fn write_integer_field(x: i32, out: &mut [u8], at: usize) -> usize
+    requires { ⌜ at + 12 ≤ length (now out) ⌝ }
+    ensures { λ r. ⌜ (r ≡ at + length (9 ∷ spelled x)) × (now (out .exit) ≡ sets (now (out .entry)) at (9 ∷ spelled x)) × (r ≤ at + 12) ⌝ }
+{
+    out[at] = b'\t';
+    let from = at + 1;
+    let n = decimal::write_integer(x, &mut out[from..]);
+    from + n
+}
+
+// Writes a tab and m. Each byte is written once.
+fn write_number_field(m: u64, out: &mut [u8], at: usize) -> usize
+    requires { ⌜ at + length (9 ∷ spelledNumber m) ≤ length (now out) ⌝ }
+    ensures { λ r. ⌜ (r ≡ at + length (9 ∷ spelledNumber m)) × (now (out .exit) ≡ sets (now (out .entry)) at (9 ∷ spelledNumber m)) ⌝ }
+{
+    out[at] = b'\t';
+    write_number(m, out, at + 1)
+}
+
+// Writes m. Each byte is written once.
+fn write_number(m: u64, out: &mut [u8], at: usize) -> usize
+    requires { ⌜ at + length (spelledNumber m) ≤ length (now out) ⌝ }
+    ensures { λ r. ⌜ (r ≡ at + length (spelledNumber m)) × (now (out .exit) ≡ sets (now (out .entry)) at (spelledNumber m)) ⌝ }
+{
+    let n = decimal::write_number(m, &mut out[at..]);
+    at + n
+}
+
+// Writes the bytes of s, each once.
+fn write_bytes(s: &[u8], out: &mut [u8], at: usize) -> usize
+    requires { ⌜ at + length (now s) ≤ length (now out) ⌝ }
+    ensures { λ r. ⌜ (r ≡ at + length (now (s .entry))) × (now (out .exit) ≡ sets (now (out .entry)) at (now (s .entry))) ⌝ }
+{
+    let mut i: usize = 0;
+    while i < s.len() {
+        out[at + i] = s[i];
+        i += 1;
+    }
+    at + i
+}

@@ -1,21 +1,30 @@
 /*
- * chronicle.h: checking the chart of a chronicle watch from C.
+ * chronicle.h: checking charts and running a chronicle watch from C.
  *
- * A chart says which patterns of timed events a watch looks for. The check
- * below reads a chart's text and answers whether a watch may use it; if not,
- * it says why and in which line. It is proved: the answer is the one that
- * this page describes for every text of every length.
+ * A chart says which patterns of timed events a watch looks for. A watch takes
+ * the events as they come and keeps every recognition of every pattern as a row
+ * of a table that the caller lends it. All of this is proved: each call answers,
+ * and leaves in lent memory, what this page says, for every input. Times and
+ * stack sizes are no part of the proof.
  *
- * Link with libchart.a, on x86-64 Linux:
- *     rt staticlib chart
- *     gcc -Iinclude program.c target/staticlib/libchart.a
+ * There are two archives, for x86-64 Linux:
  *
- * THE TEXT
+ *     target/staticlib/libchart.a  (rt staticlib chart)  chronicle_check_chart
+ *     target/staticlib/libhost.a   (rt staticlib host)   every other call below
  *
- * One entry a line, 1 to 32 lines. Fields are parted by one tab (byte 9).
- * Every line, the last one too, is ended by one byte 10 and has at most 64
- * bytes with it. There are no comments, no empty lines, no carriage returns
- * (byte 13) and no byte-order mark. A line has three or four fields:
+ *     gcc -Iinclude program.c target/staticlib/libhost.a
+ *
+ * A program that runs a watch needs libhost.a alone: chronicle_read_chart gives
+ * the numbers of chronicle_check_chart and the chart itself.
+ *
+ *
+ * CHARTS
+ *
+ * The text of a chart has one entry a line, 1 to 32 lines. Fields are parted by
+ * one tab (byte 9). Every line, the last one too, is ended by one byte 10 and
+ * has at most 64 bytes with it. There are no comments, no empty lines, no
+ * carriage returns (byte 13) and no byte-order mark. A line has three or four
+ * fields:
  *
  *     number  event  code      number: the entry's own, from 0 upwards
  *     number  PAIR   a  b      a, b:   numbers of earlier entries
@@ -30,8 +39,6 @@
  * the digit 0. The text is bytes: it needs no byte 0 at its end, and a byte 0
  * in it is a byte like any other, which no line of the form above has.
  *
- * THE VERDICT
- *
  *     refusal  line  meaning
  *     0        0     the chart is taken
  *     1        1     no line: length is 0
@@ -45,18 +52,113 @@
  * In a line the checks come in the order 2, 3, 4, 6, 5, and the first that
  * fails gives the number.
  *
+ *
+ * A WATCH
+ *
+ * An instant is -1000000000 to 1000000000, in milliseconds from the lamp
+ * trigger. A watch is always at one open instant. An event happens there and
+ * gets the next serial, 1 for the first. A clock mark closes the open instant,
+ * which writes the rows that end at it, and opens a later one. A forget raises
+ * the floor, which is -1000000000 at first, and drops every row that starts
+ * before it. Events of the open instant are not in the table before it closes.
+ *
+ *     struct chronicle_chart_answer read = chronicle_read_chart(text, length);
+ *     int32_t table[5 * 3000];
+ *     struct chronicle_answer now = chronicle_open(read.chart, table, 5 * 3000, -2);
+ *     now = chronicle_event(now.watch, read.chart, table, 5 * 3000, 1);
+ *     now = chronicle_clock(now.watch, read.chart, table, 5 * 3000, 0);
+ *
+ * (A program looks at read.refusal and now.refusal after each of these.)
+ * examples/bench_morning.c is a whole program.
+ *
+ * Watch and chart are values. A call gets copies and hands the new watch back;
+ * give it to the next call, with the same chart and the same table, of the same
+ * length and as the last call left it. Keeping an older watch is harmless, but
+ * it no longer fits a table that a mark or a forget has altered: such a call is
+ * most likely refused with 13.
+ *
+ *
+ * THE TABLE
+ *
+ * The table is `length` numbers of the caller's, in any state before the
+ * opening. It holds length / 5 rows, rounded down, and never more than 65535.
+ * Row r is the five numbers from table[5 * r] on:
+ *
+ *     entry  left  right  start  end
+ *
+ *     entry        the chart's entry that the row is a recognition of
+ *     left, right  of an event: its serial and -1. Of two operands: their rows.
+ *                  Of an absence or a length test: the row of a, and -1. Of or:
+ *                  a row and -1, or -1 and a row. Rows referred to are lower.
+ *     start, end   the least start and the greatest end of the rows referred
+ *                  to; an event's are its instant
+ *
+ * Rows stand by end, then by entry, then by left and right; of or, the left arm
+ * comes first. A row not in use is five zeros. Numbers after the last row that
+ * the table can hold are never altered. Only chronicle_open, chronicle_clock
+ * and chronicle_forget write to the table: an opening fills all rows with
+ * zeros, a mark writes new rows behind those in use, a forget moves rows down,
+ * renumbers their references and fills the freed rows with zeros. The caller
+ * may read rows at any time and must not write to them.
+ *
+ *
+ * REFUSALS
+ *
+ *     8   an opening instant out of range; a clock mark out of range or not
+ *         after the open instant
+ *     9   a 65th event in one instant
+ *     10  an event after serial 1000000
+ *     11  a forget below the floor, above the open instant or out of range
+ *     12  table full: the rows in use and the new ones exceed the rows that the
+ *         table can hold
+ *     13  watch or table out of joint: no history leaves them so (see below)
+ *     14  a chart of no entries, of over 32, or with an entry that breaks the
+ *         operator table; never a chart that chronicle_read_chart has taken
+ *     15  a row number not in use
+ *     16  a tree longer than the output
+ *
+ *     call                   checks, the first that fails gives the number
+ *     chronicle_open         14, 8
+ *     chronicle_event        14, 13, 10, 9
+ *     chronicle_clock        14, 13, 8, 12
+ *     chronicle_forget       14, 13, 11
+ *     chronicle_check        14, 13
+ *     chronicle_rows_ending  14, 13: no rows; chronicle_check says which it was
+ *     chronicle_tree         14, 13, 15, 16
+ *
+ * After a refusal all lent memory holds what it held before. A refused event,
+ * mark or forget returns the watch given, so the caller may go on: after 12,
+ * forget and mark again. A refused opening returns an empty watch at instant 0
+ * with the floor at -1000000000, a refused tree the length 0.
+ *
+ * Out of joint is a watch or table with: the open instant or the floor out of
+ * range, or the floor above the open instant; over 64 pending events, more of
+ * them than events counted, or over 1000000 events; more rows than fit; a row
+ * not in use that is not all zeros; or a row in use whose entry is not in the
+ * chart, whose start is below the floor, whose end is not before the open
+ * instant or is before the end of the row above it, whose references are not
+ * lower rows of the operands, with -1 just where it belongs, whose start, end or
+ * condition disagrees with them (an absence's condition is not looked at), or
+ * an event's whose serial is not 1 to the count or whose start is not its end.
+ * It is found before anything is done: no call goes wrong on damaged memory.
+ *
+ *
  * MEMORY, THREADS, TIME
  *
- * The bytes stay the caller's. The call reads only bytes[0] to
- * bytes[length - 1], writes nothing through the pointer, keeps no pointer and
- * allocates nothing; the verdict is returned by value, and there is nothing
- * to free. `bytes` must not be NULL, not even where length is 0: an empty
- * chart is any valid pointer with length 0.
+ * All memory stays the caller's. A call touches only the `length` numbers or
+ * bytes behind a pointer that it is given, keeps no pointer and allocates
+ * nothing; answers are values, and there is nothing to free. No pointer may be
+ * NULL, not even where its length is 0: pass any valid pointer then. A table
+ * must be aligned for int32_t, and an output must not overlap the table.
  *
- * There is no state between calls. Any number of threads may call it at once,
- * on the same bytes too, as long as no thread changes the bytes meanwhile. It
- * makes no system call, sets no errno, needs less than 4 kB of stack and
- * always returns, after a time at most proportional to length.
+ * There is no state between calls. Any number of threads may make calls at
+ * once; on one table they may only do so while none of them writes to it.
+ *
+ * No call makes a system call, sets errno, or runs on for ever. chronicle_forget
+ * needs less than 160 kB of stack, chronicle_tree less than 40 kB, every other
+ * call less than 4 kB. What a call costs stands above it. "A check" there is one
+ * look at each entry of the chart and one walk of the table: constant work for
+ * each row in use, and one look at every number of the other rows.
  */
 #ifndef CHRONICLE_H
 #define CHRONICLE_H
@@ -64,21 +166,146 @@
 #include <stddef.h>
 #include <stdint.h>
 
+#ifdef __GNUC__
+#define CHRONICLE_CALL __attribute__((nonnull, warn_unused_result))
+#else
+#define CHRONICLE_CALL
+#endif
+
 #ifdef __cplusplus
 extern "C" {
 #endif
 
-/* What a check answers: the refusal's number and the line, both 0 for a chart taken. */
+/* What a chart check answers: the refusal's number and the line, both 0 for a chart taken. */
 struct chronicle_verdict {
     uint32_t refusal;
     uint32_t line;
 };
 
-/* Checks the chart of `length` bytes at `bytes`. */
-#ifdef __GNUC__
-__attribute__((nonnull))
-#endif
+/*
+ * An entry of a chart. Operators by their code:
+ *     0 event   1 seq   2 or   3 and   4 -[]   5 -][   6 -[[   7 -]]
+ *     8 meets   9 overlaps   10 starts   11 during   12 finishes   13 equals
+ *     14 lasts   15 atmost   16 atleast
+ * An event has its code in a, and 0 in b; a length test has its length in b.
+ */
+struct chronicle_entry {
+    uint8_t op;
+    uint32_t a;
+    uint32_t b;
+};
+
+/* The entries 0 to count - 1; no call looks at those behind them. */
+struct chronicle_chart {
+    size_t count;
+    struct chronicle_entry entries[32];
+};
+
+/* A chart that was read; where it is refused, the number, the line and a chart of no entries. */
+struct chronicle_chart_answer {
+    uint32_t refusal;
+    uint32_t line;
+    struct chronicle_chart chart;
+};
+
+/*
+ * A watch: the open instant, the floor, how many events were accepted, how many rows are in use, and the events of the
+ * open instant: how many, and their codes in their order. The codes behind these are zeros in a watch that calls have
+ * made. No call looks at them; an event and a forget leave them as they are, and a mark sets all codes to 0.
+ */
+struct chronicle_watch {
+    int32_t instant;
+    int32_t floor;
+    size_t events;
+    size_t rows;
+    size_t pending;
+    uint8_t codes[64];
+};
+
+/* What a call on a watch answers: the refusal's number, 0 for none, and the new watch. */
+struct chronicle_answer {
+    uint32_t refusal;
+    struct chronicle_watch watch;
+};
+
+/*
+ * The rows first to first + count - 1. Where no row has the end asked for, count is 0 and first is how many rows end
+ * before it; of a refused call both are 0.
+ */
+struct chronicle_rows {
+    size_t first;
+    size_t count;
+};
+
+/* What writing a tree answers: the refusal's number, 0 for none, and how many bytes were written. */
+struct chronicle_tree_answer {
+    uint32_t refusal;
+    size_t length;
+};
+
+/* Checks a chart on paper (libchart.a). Time: proportional to the bytes of its first 33 lines. */
+CHRONICLE_CALL
 struct chronicle_verdict chronicle_check_chart(const uint8_t *bytes, size_t length);
+
+/* Reads a chart on paper; the entries behind its own are zeros. Time: as chronicle_check_chart. */
+CHRONICLE_CALL
+struct chronicle_chart_answer chronicle_read_chart(const uint8_t *bytes, size_t length);
+
+/* Opens a watch at an instant and fills all rows of the table with zeros. Time: one pass over the table. */
+CHRONICLE_CALL
+struct chronicle_answer chronicle_open(struct chronicle_chart chart, int32_t *table, size_t length, int32_t instant);
+
+/* Takes an event at the open instant, of a code that the chart may name or not. Time: a check. */
+CHRONICLE_CALL
+struct chronicle_answer chronicle_event(struct chronicle_watch watch, struct chronicle_chart chart,
+                                        const int32_t *table, size_t length, uint8_t code);
+
+/*
+ * A clock mark: closes the open instant and opens a later one. Time: a check and, where events are pending, a search
+ * for new rows, which are those that end at the instant closed. An entry looks
+ *
+ *     event                       at the pending events
+ *     or lasts atmost atleast     at the new rows
+ *     finishes equals             at the new rows and, for each of a, at the new rows
+ *     seq meets overlaps          where b has a new row, at all rows and, for each of a,
+ *     starts during               at the new rows
+ *     and                         likewise and, for each new row of a, at all rows
+ *     -[] -][ -[[ -]]             at the new rows and, for each of a, at the rows that end
+ *                                 no earlier than it starts, up to the first that forbids
+ */
+CHRONICLE_CALL
+struct chronicle_answer chronicle_clock(struct chronicle_watch watch, struct chronicle_chart chart, int32_t *table,
+                                        size_t length, int32_t instant);
+
+/* A forget: raises the floor and drops the rows that start before it. Time: a check and a second walk of the rows. */
+CHRONICLE_CALL
+struct chronicle_answer chronicle_forget(struct chronicle_watch watch, struct chronicle_chart chart, int32_t *table,
+                                         size_t length, int32_t floor);
+
+/* The number that every call on this watch, chart and table is refused with: 14, 13, or 0 for none. Time: a check. */
+CHRONICLE_CALL
+uint32_t chronicle_check(struct chronicle_watch watch, struct chronicle_chart chart, const int32_t *table,
+                         size_t length);
+
+/*
+ * The rows that end at an instant: none where there is no such row or the call is refused. The end asked for may be any
+ * number. Time: a check and two binary searches.
+ */
+CHRONICLE_CALL
+struct chronicle_rows chronicle_rows_ending(struct chronicle_watch watch, struct chronicle_chart chart,
+                                            const int32_t *table, size_t length, int32_t end);
+
+/*
+ * Writes the tree of a row into `out` and leaves the bytes past it: `e` and the serial for an event, <L,R> for two
+ * operands, <L,_> or <_,R> for or, <L> for an absence or a length test. No byte 0 follows. Time: a check and at most
+ * about two steps for each byte of the output, however long the tree would be.
+ */
+CHRONICLE_CALL
+struct chronicle_tree_answer chronicle_tree(struct chronicle_watch watch, struct chronicle_chart chart,
+                                            const int32_t *table, size_t length, size_t row, uint8_t *out,
+                                            size_t out_length);
+
+#undef CHRONICLE_CALL
 
 #ifdef __cplusplus
 }

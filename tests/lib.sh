@@ -1,7 +1,9 @@
 # shellcheck shell=bash disable=SC2034
-# What tests/run and bench/run share. They source it with the repository's root as the current folder.
+# What tests/run, bench/run and examples/run share. They source it with the repository's root as the current folder.
 # Everything built goes below target/, which git ignores and `rt ci` removes.
 built=target/tests
+archives=target/staticlib
+programs=target/bin
 
 heading() { printf '\n== %s\n' "$1"; }
 
@@ -10,16 +12,50 @@ fail() {
     exit 1
 }
 
-# The proved chart check as target/staticlib/libchart.a, for C and Rust to link. `rt ci` writes no archive, so
-# `rt staticlib chart` proves the crate and builds it here, once in a run.
-archive=
+# run_parts PARTS [PART...]: calls run_PART for each part asked for; without one, for all of PARTS, a list in one word.
+run_parts() {
+    local part all
+    read -ra all <<<"$1"
+    shift
+    [ $# -gt 0 ] || set -- "${all[@]}"
+    for part; do
+        [[ " ${all[*]} " == *" $part "* ]] || fail "$0: no part '$part'; the parts are ${all[*]}"
+        "run_$part"
+    done
+}
+
+# is_first NAME: whether this is the first time in a run that it is asked for. What is built, is built once.
+declare -A asked=()
+is_first() {
+    local before=${asked[$1]-}
+    asked[$1]=yes
+    [ -z "$before" ]
+}
+
+# make_archive CRATE: the proved crate as target/staticlib/libCRATE.a, for C and Rust to link. `rt ci` writes no
+# archive, so `rt staticlib CRATE` proves the crate and builds it here.
 make_archive() {
-    if [ -n "$archive" ]; then return; fi
-    heading 'proved archive'
+    is_first "archive $1" || return 0
+    heading "proved archive of $1"
     mkdir -p target
-    rt staticlib chart >target/staticlib.log 2>&1 || { cat target/staticlib.log >&2; fail 'rt staticlib chart failed'; }
-    archive=target/staticlib/libchart.a
+    rt staticlib "$1" >target/staticlib.log 2>&1 || { cat target/staticlib.log >&2; fail "rt staticlib $1 failed"; }
     tail -n 1 target/staticlib.log
+}
+
+# make_program CRATE: the proved program as target/bin/CRATE.
+make_program() {
+    is_first "program $1" || return 0
+    heading "proved program $1"
+    mkdir -p target
+    rt check "$1" >target/program.log 2>&1 || { cat target/program.log >&2; fail "rt check $1 failed"; }
+    tail -n 1 target/program.log
+}
+
+# have_crate CRATE PART: whether crates.txt has the crate; where not, says that the part is left out.
+have_crate() {
+    if grep -q "^$1:" crates.txt; then return; fi
+    printf '\n== %s: left out, there is no crate %s yet\n' "$2" "$1"
+    return 1
 }
 
 # rust SOURCE OUTPUT [WORD...]: compiles one Rust crate, release build, no crate from outside.
@@ -28,8 +64,34 @@ rust() {
     rustc --edition 2021 -C opt-level=3 "$1" -o "$2" -L "dependency=$built" "${@:3}"
 }
 
-make_common() { rust tests/common/lib.rs "$built/libcommon.rlib" --crate-name common --crate-type rlib; }
+# c SOURCE OUTPUT ARCHIVE: compiles one C program and links it with an archive.
+c() {
+    mkdir -p "$built"
+    gcc -std=c11 -Wall -Wextra -Werror -O2 -g -Iinclude "$1" "$3" -o "$2"
+}
+
+make_common() {
+    is_first common || return 0
+    rust tests/common/lib.rs "$built/libcommon.rlib" --crate-name common --crate-type rlib
+}
+
+make_oracle() {
+    is_first oracle || return 0
+    make_common
+    rust tests/oracle/lib.rs "$built/liboracle.rlib" --crate-name oracle --crate-type rlib "${with_common[@]}"
+    rust tests/oracle/main.rs "$built/oracle" --crate-name oracle_main "${with_oracle[@]}"
+}
+
+# The listing program without proofs, as a library and as a program.
+make_plain_listing() {
+    is_first plain_listing || return 0
+    make_common
+    rust bench/listing/lib.rs "$built/libplain_listing.rlib" --crate-name plain_listing --crate-type rlib \
+        "${with_common[@]}"
+    rust bench/listing/plain.rs "$built/plain_listing" --crate-name plain_listing_main "${with_plain_listing[@]}"
+}
 
 with_common=(--extern "common=$built/libcommon.rlib")
 with_oracle=("${with_common[@]}" --extern "oracle=$built/liboracle.rlib")
-with_archive=("${with_common[@]}" -L native=target/staticlib)
+with_plain_listing=("${with_common[@]}" --extern "plain_listing=$built/libplain_listing.rlib")
+with_archives=(-L "native=$archives")

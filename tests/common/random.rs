@@ -22,6 +22,12 @@ impl Random {
         (self.any_u64() % bound as u64) as usize
     }
 
+    /// A number from `least` to `greatest`.
+    pub fn between(&mut self, least: i32, greatest: i32) -> i32 {
+        let span = (i64::from(greatest) - i64::from(least) + 1) as u64;
+        (i64::from(least) + (self.any_u64() % span) as i64) as i32
+    }
+
     pub fn one_in(&mut self, n: usize) -> bool {
         self.below(n) == 0
     }

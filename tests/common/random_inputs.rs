@@ -4,36 +4,64 @@
 use crate::plain_chart::{operator, Operator, WORDS};
 use crate::random::Random;
 
-/// The most leaves of a recognition's tree. Of n events an entry has no more recognitions than about n to this power.
+/// The most leaves of a recognition's tree in `any`.
 const MOST_LEAVES: usize = 3;
+const LENGTHS: [u32; 5] = [7, 999_999_999, 1_000_000_000, 1_999_999_999, 2_000_000_000];
 
 /// A sound chart and a log of up to 30 lines, in which a mark or a forget is refused now and then.
 pub fn any(random: &mut Random) -> Vec<u8> {
-    format!("{}\n{}", chart(random), log(random)).into_bytes()
+    let operators = random.below(8);
+    format!("{}\n{}", chart(random, operators, MOST_LEAVES), log(random)).into_bytes()
 }
 
-fn chart(random: &mut Random) -> String {
+/// A sound chart of one to three events and so many operators. Of n events an entry has no more recognitions than about
+/// n to the power of the most leaves of a tree.
+pub fn chart(random: &mut Random, operators: usize, most_leaves: usize) -> String {
     let event_entries = 1 + random.below(3);
-    let entries = event_entries + random.below(8);
     let mut leaves: Vec<usize> = Vec::new();
     let mut text = String::new();
-    for index in 0..entries {
+    for index in 0..event_entries + operators {
         let (rest, count) =
-            if index < event_entries { (format!("event\t{}", index + 1), 1) } else { entry(random, &leaves) };
+            if index < event_entries { (event_entry(random, index), 1) } else { entry(random, &leaves, most_leaves) };
         text += &format!("{index}\t{rest}\n");
         leaves.push(count);
     }
     text
 }
 
+/// A sound chart of two events, intervals between them, and operators on these intervals.
+pub fn interval_chart(random: &mut Random, operators: usize) -> String {
+    let mut text = "0\tevent\t1\n1\tevent\t2\n2\tseq\t0\t1\n3\tseq\t1\t0\n".to_string();
+    for index in 4..4 + operators {
+        let word = random.pick(&WORDS[4..]);
+        let a = 2 + random.below(2);
+        let second = if matches!(operator(word.as_bytes()), Some(Operator::Length(_))) {
+            random.below(6)
+        } else {
+            random.pick(&[0, 2, 3, 2, 3, index - 1])
+        };
+        text += &format!("{index}\t{word}\t{a}\t{second}\n");
+    }
+    text
+}
+
+/// Mostly a code of its own.
+fn event_entry(random: &mut Random, index: usize) -> String {
+    let code = if random.one_in(8) { random.pick(&[0, 1, 2, 255]) } else { index + 1 };
+    format!("event\t{code}")
+}
+
 /// An entry over earlier ones with the leaves given, as its line's operator and operands, and its own leaves.
-fn entry(random: &mut Random, leaves: &[usize]) -> (String, usize) {
+fn entry(random: &mut Random, leaves: &[usize], most_leaves: usize) -> (String, usize) {
     let word = random.pick(&WORDS[1..]);
     let (a, b) = (random.below(leaves.len()), random.below(leaves.len()));
     match operator(word.as_bytes()) {
-        Some(Operator::Length(_)) => (format!("{word}\t{a}\t{}", random.below(6)), leaves[a]),
+        Some(Operator::Length(_)) => {
+            let length = if random.one_in(8) { random.pick(&LENGTHS) } else { random.below(6) as u32 };
+            (format!("{word}\t{a}\t{length}"), leaves[a])
+        }
         Some(Operator::Absence(..)) => (format!("{word}\t{a}\t{b}"), leaves[a]),
-        Some(Operator::Pair(_)) if leaves[a] + leaves[b] <= MOST_LEAVES => {
+        Some(Operator::Pair(_)) if leaves[a] + leaves[b] <= most_leaves => {
             (format!("{word}\t{a}\t{b}"), leaves[a] + leaves[b])
         }
         _ => (format!("or\t{a}\t{b}"), leaves[a].max(leaves[b])),

@@ -1,7 +1,13 @@
-//! What the listing program must print, found by set-building from document 01 and source document 003, section 2.3.2.
-//! At every clock mark and at the end all recognitions are enumerated anew. There is no table and no incremental step,
-//! and nothing here uses proved code.
+//! What the listing program must print and the calls on a watch must answer, found by set-building from document 01 and
+//! source document 003, section 2.3.2. At every clock mark and at the end all recognitions are enumerated anew: there
+//! is no incremental step. Only `any_watch` goes by the rows of a table, for tables that no history made. Nothing here
+//! uses proved code.
 
+pub mod any_watch;
+mod conditions;
+pub mod history;
+pub mod joint;
+pub mod layout;
 pub mod listing;
 pub mod model;
 pub mod recognitions;

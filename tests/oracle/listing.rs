@@ -1,6 +1,6 @@
 //! The listing program's output for an input: a chart, an empty line and a log. Document 01, "The listing program".
 
-use crate::model::{Model, Over};
+use crate::model::{Call, Model, Over};
 use crate::recognitions::Row;
 use common::paper::{fields, instant, lines, number};
 use common::plain_chart;
@@ -14,11 +14,9 @@ struct Refused {
     line: usize,
 }
 
-enum Call {
+enum Record {
     Open(i64),
-    Event(u8),
-    Clock(i64),
-    Forget(i64),
+    Call(Call),
 }
 
 /// What the listing program prints with a table of so many rows.
@@ -61,32 +59,30 @@ fn table_at_end(input: &[u8], table_rows: usize, over: Over) -> Result<Vec<Row>,
 
 /// The model after the log's first line: 7 where it is no `open`.
 fn opened<'a>(chart: &'a [plain_chart::Entry], line: &[u8], table_rows: usize, over: Over) -> Result<Model<'a>, u32> {
-    match call(line) {
-        Some(Call::Open(instant)) => Model::open(chart, table_rows, over, instant),
+    match record(line) {
+        Some(Record::Open(instant)) => Model::open(chart, table_rows, over, instant),
         _ => Err(7),
     }
 }
 
 /// Plays a later line: 7 where it is not of its form or a second `open`.
 fn play(model: &mut Model, line: &[u8]) -> Result<(), u32> {
-    match call(line) {
-        Some(Call::Event(code)) => model.event(code),
-        Some(Call::Clock(instant)) => model.clock(instant),
-        Some(Call::Forget(instant)) => model.forget(instant),
-        Some(Call::Open(_)) | None => Err(7),
+    match record(line) {
+        Some(Record::Call(call)) => model.play(call),
+        Some(Record::Open(_)) | None => Err(7),
     }
 }
 
 /// "Log lines: `open` instant (first line only), `event` code, `clock` instant, `forget` instant." None is refusal 7.
-fn call(line: &[u8]) -> Option<Call> {
+fn record(line: &[u8]) -> Option<Record> {
     let mut fields = fields(line)?;
     let (word, operand) = (fields.next()?, fields.next()?);
-    let call = match word {
-        b"open" => Call::Open(instant(operand)?),
-        b"event" => Call::Event(u8::try_from(number(operand)?).ok()?),
-        b"clock" => Call::Clock(instant(operand)?),
-        b"forget" => Call::Forget(instant(operand)?),
+    let record = match word {
+        b"open" => Record::Open(instant(operand)?),
+        b"event" => Record::Call(Call::Event(u8::try_from(number(operand)?).ok()?)),
+        b"clock" => Record::Call(Call::Clock(instant(operand)?)),
+        b"forget" => Record::Call(Call::Forget(instant(operand)?)),
         _ => return None,
     };
-    fields.next().is_none().then_some(call)
+    fields.next().is_none().then_some(record)
 }

@@ -22,6 +22,14 @@ pub enum Over {
 /// A number of document 01's list, 8 to 12.
 pub type Refusal = u32;
 
+/// A call on an open watch.
+#[derive(Clone, Copy, Debug)]
+pub enum Call {
+    Event(u8),
+    Clock(i64),
+    Forget(i64),
+}
+
 pub struct Model<'a> {
     chart: &'a [Entry],
     /// The rows that the table can hold.
@@ -29,7 +37,9 @@ pub struct Model<'a> {
     over: Over,
     pub open_instant: i64,
     pub floor: i64,
-    pub events: Vec<Event>,
+    /// Events accepted before those listed, of codes that no entry names: they only take serials.
+    unlisted: usize,
+    events: Vec<Event>,
 }
 
 impl<'a> Model<'a> {
@@ -37,17 +47,31 @@ impl<'a> Model<'a> {
         if !INSTANTS.contains(&instant) {
             return Err(8);
         }
-        Ok(Model { chart, table_rows, over, open_instant: instant, floor: *INSTANTS.start(), events: Vec::new() })
+        let floor = *INSTANTS.start();
+        Ok(Model { chart, table_rows, over, open_instant: instant, floor, unlisted: 0, events: Vec::new() })
+    }
+
+    /// The same as if so many events, of codes that no entry names, had come at instants before the open one.
+    pub fn with_unlisted_events(self, unlisted: usize) -> Model<'a> {
+        Model { unlisted, ..self }
+    }
+
+    pub fn play(&mut self, call: Call) -> Result<(), Refusal> {
+        match call {
+            Call::Event(code) => self.event(code),
+            Call::Clock(instant) => self.clock(instant),
+            Call::Forget(instant) => self.forget(instant),
+        }
     }
 
     pub fn event(&mut self, code: u8) -> Result<(), Refusal> {
-        if self.events.len() == MOST_EVENTS {
+        if self.event_count() == MOST_EVENTS {
             return Err(10);
         }
         if self.pending().len() == MOST_PENDING {
             return Err(9);
         }
-        let serial = self.events.len() as i64 + 1;
+        let serial = self.event_count() as i64 + 1;
         self.events.push(Event { serial, code, instant: self.open_instant });
         Ok(())
     }
@@ -71,6 +95,11 @@ impl<'a> Model<'a> {
         Ok(())
     }
 
+    /// How many events were accepted.
+    pub fn event_count(&self) -> usize {
+        self.unlisted + self.events.len()
+    }
+
     /// The events of the open instant, in their order.
     pub fn pending(&self) -> &[Event] {
         &self.events[self.events_before(self.open_instant)..]
@@ -88,7 +117,8 @@ impl<'a> Model<'a> {
         in_order.iter().map(|index| found.tree(*index)).collect()
     }
 
-    fn recognitions(&self) -> (Recognitions, Vec<usize>) {
+    /// The recognitions found, and which of them the rows are, in their order.
+    pub fn recognitions(&self) -> (Recognitions, Vec<usize>) {
         let found = enumerate(self.chart, self.taking_part(self.open_instant), usize::MAX).expect("no limit is set");
         let in_order = found.due_in_order(self.floor, self.open_instant);
         (found, in_order)

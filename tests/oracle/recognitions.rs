@@ -1,7 +1,8 @@
 //! The recognitions of a chart over a list of events, by set-building. Document 01, "Operators of a chart" and "The
 //! book behind demand 3"; source document 003, definition 16.
 
-use common::plain_chart::{Edge, Entry, LengthTest, Operator, Relation};
+use crate::conditions::{has_length, is_forbidding, is_related, Interval};
+use common::plain_chart::{Entry, Operator, Relation};
 use std::cmp::Ordering;
 use std::ops::Range;
 
@@ -33,8 +34,7 @@ pub enum Parts {
 pub struct Recognition {
     pub entry: usize,
     pub parts: Parts,
-    pub start: i64,
-    pub end: i64,
+    pub interval: Interval,
 }
 
 /// Every recognition of every entry, each once, those of lower entries first.
@@ -82,11 +82,12 @@ impl Recognitions {
             Operator::Or => Box::new(self.a(entry).map(Parts::LeftArm).chain(self.b(entry).map(Parts::RightArm))),
             Operator::Pair(relation) => Box::new(self.pairs(relation, entry)),
             Operator::Absence(early, late) => {
-                let forbidden = move |r: &usize| self.b(entry).any(|s| self.is_forbidding(early, late, *r, s));
+                let forbids = move |r, s| is_forbidding(early, late, self.interval(r), self.interval(s));
+                let forbidden = move |r: &usize| self.b(entry).any(|s| forbids(*r, s));
                 Box::new(self.a(entry).filter(move |r| !forbidden(r)).map(Parts::One))
             }
             Operator::Length(test) => {
-                let lasts = move |r: &usize| has_length(test, &self.all[*r], entry.second as i64);
+                let lasts = move |r: &usize| has_length(test, self.interval(*r), entry.second as i64);
                 Box::new(self.a(entry).filter(lasts).map(Parts::One))
             }
         };
@@ -106,16 +107,9 @@ impl Recognitions {
     /// Every r of a with every s of b that the condition pairs with it; r and s may be the same.
     fn pairs<'a>(&'a self, relation: Relation, entry: &'a Entry) -> impl Iterator<Item = Parts> + 'a {
         self.a(entry).flat_map(move |r| {
-            let related = move |s: &usize| is_related(relation, &self.all[r], &self.all[*s]);
+            let related = move |s: &usize| is_related(relation, self.interval(r), self.interval(*s));
             self.b(entry).filter(related).map(move |s| Parts::Both(r, s))
         })
-    }
-
-    fn is_forbidding(&self, early: Edge, late: Edge, r: usize, s: usize) -> bool {
-        let (r, s) = (&self.all[r], &self.all[s]);
-        let from = if early == Edge::Closed { r.start <= s.start } else { r.start < s.start };
-        let to = if late == Edge::Closed { s.end <= r.end } else { s.end < r.end };
-        from && to
     }
 
     /// "Start and end are the least start and the greatest end of the rows referred to."
@@ -125,8 +119,11 @@ impl Recognitions {
             Parts::One(r) | Parts::LeftArm(r) | Parts::RightArm(r) => (r, r),
             Parts::Event(_) => unreachable!("an event has no operand"),
         };
-        let (r, s) = (&self.all[r], &self.all[s]);
-        Recognition { entry, parts, start: r.start.min(s.start), end: r.end.max(s.end) }
+        Recognition { entry, parts, interval: Interval::spanning(self.interval(r), self.interval(s)) }
+    }
+
+    fn interval(&self, index: usize) -> Interval {
+        self.all[index].interval
     }
 
     /// "Order of rows: by end; then entry; then, for event, serial; for or, the left arm first, each arm by row;
@@ -136,7 +133,7 @@ impl Recognitions {
             return Ordering::Equal;
         }
         let (p, q) = (&self.all[x], &self.all[y]);
-        let by_end_and_entry = p.end.cmp(&q.end).then(p.entry.cmp(&q.entry));
+        let by_end_and_entry = p.interval.end.cmp(&q.interval.end).then(p.entry.cmp(&q.entry));
         by_end_and_entry.then_with(|| self.order_of_parts(p.parts, q.parts))
     }
 
@@ -155,7 +152,8 @@ impl Recognitions {
 
     /// The recognitions that start at the floor or later and end before the instant.
     pub fn due(&self, floor: i64, instant: i64) -> impl Iterator<Item = usize> + '_ {
-        (0..self.all.len()).filter(move |index| self.all[*index].start >= floor && self.all[*index].end < instant)
+        let is_due = move |Interval { start, end }| start >= floor && end < instant;
+        (0..self.all.len()).filter(move |index| is_due(self.interval(*index)))
     }
 
     /// The same in the order of rows.
@@ -172,7 +170,7 @@ impl Recognitions {
         let mut rows = Vec::with_capacity(in_order.len());
         for (number, index) in in_order.iter().enumerate() {
             let reference = |operand: usize| row_of[operand].expect("an operand stands in an earlier row");
-            let Recognition { entry, parts, start, end } = self.all[*index];
+            let Recognition { entry, parts, interval: Interval { start, end } } = self.all[*index];
             let (left, right) = match parts {
                 Parts::Event(serial) => (serial, -1),
                 Parts::Both(r, s) => (reference(r), reference(s)),
@@ -201,28 +199,6 @@ fn of_event(entry: usize, code: u64, events: &[Event]) -> impl Iterator<Item = R
     events.iter().filter(move |event| u64::from(event.code) == code).map(move |event| Recognition {
         entry,
         parts: Parts::Event(event.serial),
-        start: event.instant,
-        end: event.instant,
+        interval: Interval { start: event.instant, end: event.instant },
     })
-}
-
-fn is_related(relation: Relation, r: &Recognition, s: &Recognition) -> bool {
-    match relation {
-        Relation::Seq => r.end < s.start,
-        Relation::And => true,
-        Relation::Meets => r.end == s.start,
-        Relation::Overlaps => r.start < s.start && s.start < r.end && r.end < s.end,
-        Relation::Starts => r.start == s.start && r.end < s.end,
-        Relation::During => r.start > s.start && r.end < s.end,
-        Relation::Finishes => r.start > s.start && r.end == s.end,
-        Relation::Equals => r.start == s.start && r.end == s.end,
-    }
-}
-
-fn has_length(test: LengthTest, r: &Recognition, length: i64) -> bool {
-    match test {
-        LengthTest::Lasts => r.end - r.start == length,
-        LengthTest::AtMost => r.end - r.start < length,
-        LengthTest::AtLeast => r.end - r.start > length,
-    }
 }

@@ -1,13 +1,20 @@
 //! The set-building program's own tests, beside the examples of tests/examples.
 
+use common::chart_value;
+use common::interface::Watch;
 use common::plain_chart::{self, Entry, Operator};
 use common::random::Random;
 use common::random_inputs;
+use oracle::any_watch;
+use oracle::history::History;
+use oracle::joint::{self, Cause, CAUSES};
 use oracle::listing::{listing, TABLE_ROWS};
-use oracle::model::{Model, Over, MOST_EVENTS, MOST_PENDING};
+use oracle::model::{Call, Model, Over, MOST_EVENTS, MOST_PENDING};
 use oracle::recognitions::Row;
 
 const INPUTS: usize = 30_000;
+const HISTORIES: usize = 5_000;
+const P1: &str = "0\tevent\t1\n1\tevent\t2\n2\tevent\t3\n3\tseq\t0\t1\n4\t-[[\t3\t2\n";
 
 fn chart(text: &str) -> Vec<Entry> {
     plain_chart::read(text.as_bytes()).expect("the test's chart is sound")
@@ -20,7 +27,7 @@ fn opened(chart: &[Entry], instant: i64) -> Model<'_> {
 /// "Row 7's tree is `<<e1,e4>>`."
 #[test]
 fn trees_of_p1() {
-    let chart = chart("0\tevent\t1\n1\tevent\t2\n2\tevent\t3\n3\tseq\t0\t1\n4\t-[[\t3\t2\n");
+    let chart = chart(P1);
     let mut model = opened(&chart, -2);
     for (code, mark) in [(1, 0), (2, 3)] {
         model.event(code).unwrap();
@@ -107,6 +114,106 @@ fn rows_stand_in_order() {
             assert!(is_event || (row.left < number as i64 && row.right < number as i64), "{}", input.escape_ascii());
         }
     }
+}
+
+/// A step on the rows of a table gives what the recognitions over all events give, and every history is in joint.
+#[test]
+fn steps_on_rows_follow_the_recognitions() {
+    let mut random = Random::new(13);
+    for _ in 0..HISTORIES {
+        let operators = random.below(8);
+        let chart = chart(&random_inputs::chart(&mut random, operators, 3));
+        let value = chart_value::of(&chart);
+        let table = vec![7; random.below(400)];
+        let mut history = History::open(&chart, &table, random.between(-5, 5), 0).unwrap();
+        assert_eq!(any_watch::open(&value, &table, history.watch.instant).1, history.table);
+        for _ in 0..random.below(30) {
+            let instant = history.watch.instant;
+            let call = match random.below(12) {
+                0 => Call::Forget(random.between(instant - 8, instant + 1).into()),
+                1..=4 => Call::Clock(random.between(instant, instant + 3).into()),
+                _ => Call::Event(random.between(1, 4) as u8),
+            };
+            let (answer, table) = any_watch::play(&history.watch, &value, &history.table, call);
+            let refusal = history.play(call).err().unwrap_or(0);
+            assert_eq!((answer.refusal, answer.watch), (refusal, history.watch), "{call:?} on {chart:?}");
+            assert_eq!(table, history.table, "{call:?} on {chart:?}");
+            let row = random.below(40);
+            let tree = any_watch::tree(&history.watch, &value, &history.table, row, 20);
+            assert_eq!(tree, history.tree(row, 20), "the tree of row {row} on {chart:?}");
+        }
+    }
+}
+
+/// The table of P1 after its last line, with room for a row more and two numbers after that.
+fn p1_at_the_end() -> (Watch, Vec<i32>) {
+    let rows = [
+        [0, 1, -1, -2, -2],
+        [1, 2, -1, 0, 0],
+        [3, 0, 1, -2, 0],
+        [4, 2, -1, -2, 0],
+        [1, 4, -1, 3, 3],
+        [2, 3, -1, 3, 3],
+        [3, 0, 4, -2, 3],
+        [4, 6, -1, -2, 3],
+        [0; 5],
+    ];
+    let table = rows.concat().into_iter().chain([8, 9]).collect();
+    (Watch { instant: 4, events: 4, rows: 8, ..Watch::empty(0) }, table)
+}
+
+/// Each cause of "out of joint" by itself, and changes that are none.
+#[test]
+fn each_cause_of_out_of_joint() {
+    let (watch, table) = p1_at_the_end();
+    let causes_of = |watch: Watch, table: &[i32]| Vec::from_iter(joint::causes(&watch, &chart(P1), table));
+    let with = |numbers: &[(usize, i32)]| {
+        let mut changed = table.clone();
+        numbers.iter().for_each(|(place, number)| changed[*place] = *number);
+        causes_of(watch, &changed)
+    };
+    let pending = |pending: usize, events: usize| causes_of(Watch { pending, events, ..watch }, &table);
+    let only = |cause: Cause| vec![cause];
+    let none: Vec<Cause> = vec![];
+    assert_eq!(causes_of(watch, &table), none);
+    assert_eq!(with(&[(45, 0)]), none, "a number after the last row");
+    assert_eq!(with(&[(26, 1)]), none, "a serial that another row has too");
+    assert_eq!(pending(64, 64), none);
+    assert_eq!(pending(0, 1_000_000), none);
+    assert_eq!(causes_of(Watch { floor: -2, ..watch }, &table), none);
+
+    assert_eq!(causes_of(Watch { instant: 1_000_000_001, ..watch }, &table), only(Cause::OpenInstantOutOfRange));
+    assert_eq!(causes_of(Watch { floor: -1_000_000_001, ..watch }, &table), only(Cause::FloorOutOfRange));
+    let empty = Watch { rows: 0, floor: 5, ..watch };
+    assert_eq!(causes_of(empty, &[0; 45]), only(Cause::FloorAboveOpenInstant));
+    assert_eq!(pending(65, 65), only(Cause::Over64Pending));
+    assert_eq!(pending(5, 4), only(Cause::MorePendingThanCounted));
+    assert_eq!(pending(0, 1_000_001), only(Cause::CountAboveAMillion));
+    assert_eq!(causes_of(watch, &table[..39]), only(Cause::MoreRowsThanFit));
+    assert_eq!(with(&[(44, 1)]), only(Cause::UnusedRowNotZeros));
+    assert_eq!(causes_of(Watch { rows: 7, ..watch }, &table), only(Cause::UnusedRowNotZeros));
+    assert_eq!(with(&[(25, 5)]), only(Cause::EntryNotInChart));
+    assert_eq!(with(&[(25, -1)]), only(Cause::EntryNotInChart));
+    assert_eq!(causes_of(Watch { floor: -1, ..watch }, &table), only(Cause::StartBelowFloor));
+    assert_eq!(causes_of(Watch { instant: 3, ..watch }, &table), only(Cause::EndNotBeforeOpenInstant));
+    assert_eq!(with(&[(28, 2), (29, 2)]), only(Cause::EndBeforePredecessors));
+    assert_eq!(with(&[(36, 7)]), only(Cause::ReferenceNotLowerRowOfOperand), "its own number");
+    assert_eq!(with(&[(36, 5)]), only(Cause::ReferenceNotLowerRowOfOperand), "a row of another entry");
+    assert_eq!(with(&[(36, -2)]), only(Cause::ReferenceNotLowerRowOfOperand), "no row");
+    assert_eq!(with(&[(36, -1)]), only(Cause::NoneMisplaced));
+    assert_eq!(with(&[(37, 6)]), only(Cause::NoneMisplaced));
+    assert_eq!(with(&[(27, 0)]), only(Cause::NoneMisplaced));
+    assert_eq!(with(&[(38, -1)]), only(Cause::StartDisagrees));
+    assert_eq!(with(&[(19, 1)]), only(Cause::EndDisagrees));
+    assert_eq!(
+        with(&[(3, 1), (4, 1), (8, 1), (9, 1), (13, 1), (14, 1), (18, 1), (19, 1), (33, 1), (38, 1)]),
+        only(Cause::ConditionDisagrees),
+        "row 2 pairs two events of one instant"
+    );
+    assert_eq!(with(&[(26, 0)]), only(Cause::SerialOutOfRange));
+    assert_eq!(with(&[(26, 5)]), only(Cause::SerialOutOfRange));
+    assert_eq!(with(&[(28, 2)]), only(Cause::EventStartNotEnd));
+    assert_eq!(CAUSES.len(), 19, "each cause has its example above");
 }
 
 /// Where a row stands among others, read off the row alone: end, entry, arm, then serial or left and right row.

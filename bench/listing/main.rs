@@ -1,0 +1,94 @@
+//! Times the proved listing program beside the plain one, each as a process on the same files, in one run. The times
+//! are processor times, the start and the end of the process included.
+
+use common::random::Random;
+use plain_listing::long_logs::{Drawn, WORKLOADS};
+use std::fs::{self, File};
+use std::path::Path;
+use std::process::{Command, ExitCode, Stdio};
+
+const EVENTS: usize = 1_000_000;
+/// How many rows may be in use, about, before some are forgotten; the table holds 3,000.
+const FILLINGS: [usize; 3] = [20, 300, 2_900];
+const ROUNDS: usize = 7;
+
+fn main() -> ExitCode {
+    let arguments: Vec<String> = std::env::args().skip(1).collect();
+    let [proved, plain, folder] = arguments.as_slice() else {
+        eprintln!("use: listing_bench LISTING PLAIN_LISTING FOLDER\nThe inputs are written into the folder.");
+        return ExitCode::from(2);
+    };
+    fs::create_dir_all(folder).expect("the folder can be made");
+    println!("{EVENTS} events with marks and forgets");
+    println!("           rows in use     input    plain   proved");
+    println!("workload    mean  most     lines       ms       ms  ratio");
+    for workload in &WORKLOADS {
+        for filling in FILLINGS {
+            let Drawn { input, most_rows, mean_rows } =
+                workload.draw(&mut Random::new(filling as u64), EVENTS, filling);
+            let path = Path::new(folder).join(format!("{}-{filling}.in", workload.name));
+            fs::write(&path, &input).expect("the input can be written");
+            let lines = input.iter().filter(|byte| **byte == b'\n').count();
+            let [plain, proved] = compare(&path, [plain, proved]);
+            let (plain_ms, proved_ms, ratio) = (plain * 1e3, proved * 1e3, proved / plain);
+            print!("{:<10} {mean_rows:>5} {most_rows:>5} {lines:>9}", workload.name);
+            println!(" {plain_ms:>8.1} {proved_ms:>8.1} {ratio:>6.2}");
+            fs::remove_file(&path).expect("the input can be removed");
+        }
+    }
+    println!("processor time of the whole process, best of {ROUNDS} runs of each program, the two taking turns");
+    ExitCode::SUCCESS
+}
+
+/// The best time of each program in seconds. Both must print the same.
+fn compare(input: &Path, programs: [&str; 2]) -> [f64; 2] {
+    let mut best = [f64::INFINITY; 2];
+    for _ in 0..ROUNDS {
+        let [(first, first_time), (second, second_time)] = programs.map(|program| run(program, input));
+        assert!(first == second, "the two programs differ on {}", input.display());
+        assert!(first.starts_with(b"row\t"), "{} is refused", input.display());
+        best = [best[0].min(first_time), best[1].min(second_time)];
+    }
+    best
+}
+
+/// What a program prints for a file on its standard input, and the processor time it takes, in seconds.
+fn run(program: &str, input: &Path) -> (Vec<u8>, f64) {
+    let input = File::open(input).expect("the input can be read");
+    let before = processor_time();
+    let output = Command::new(program).stdin(input).stderr(Stdio::inherit()).output().expect("the program can be run");
+    assert!(output.status.success(), "{program} failed");
+    (output.stdout, processor_time() - before)
+}
+
+/// Seconds and microseconds.
+#[repr(C)]
+#[derive(Clone, Copy)]
+struct Time {
+    seconds: i64,
+    microseconds: i64,
+}
+
+/// The times of a process in user mode and in the system, and fourteen counts that are not used here.
+#[repr(C)]
+struct Usage {
+    user: Time,
+    system: Time,
+    counts: [i64; 14],
+}
+
+extern "C" {
+    fn getrusage(who: i32, usage: *mut Usage) -> i32;
+}
+
+/// The processor time of all processes that were started here and have ended, in seconds. Other work on the machine
+/// disturbs it less than the time on a clock.
+fn processor_time() -> f64 {
+    const CHILDREN: i32 = -1;
+    let none = Time { seconds: 0, microseconds: 0 };
+    let mut usage = Usage { user: none, system: none, counts: [0; 14] };
+    // SAFETY: the struct has the layout of the system's own and is lent for the call alone.
+    assert_eq!(unsafe { getrusage(CHILDREN, &mut usage) }, 0, "the times of processes can be read");
+    let seconds = |time: Time| time.seconds as f64 + time.microseconds as f64 / 1e6;
+    seconds(usage.user) + seconds(usage.system)
+}

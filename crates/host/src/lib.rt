@@ -1,0 +1,101 @@
+// The C interface: each call of the watch, the chart reader, and the listing of a whole input, under the name and the layout that include/chronicle.h declares.
+// A call has the contract of the call that it makes. Costs are those of that call.
+ghost use mathlib.Core.Path.{_≡_};
+ghost use Rattle.chart.specs.Charts.{readChart};
+ghost use Rattle.program.specs.Statements.{listedLength, listedTable, listedOutput};
+ghost use Rattle.watch.specs.Steps.{openingStep, checkNumber, eventStep, clockStep, forgetStep, endRows, treeStep};
+use chart::Chart;
+use chart::ChartAnswer;
+use watch::Answer;
+use watch::Part;
+use watch::TreeAnswer;
+use watch::Watch;
+
+// Reads a chart on paper. Linear in the bytes of the first 33 lines.
+#[no_mangle]
+pub extern "C" fn chronicle_read_chart(bytes: &[u8]) -> ChartAnswer
+    ensures { λ r. ⌜ r ≡ readChart (now (bytes .entry)) ⌝ }
+{
+    chart::read(bytes)
+}
+
+// Opens a watch: 14, 8. One look at each entry of the chart, one pass over the table.
+#[no_mangle]
+pub extern "C" fn chronicle_open(chart: Chart, table: &mut [i32], instant: i32) -> Answer
+    ensures { λ r. ⌜ (r ≡ (openingStep chart (now (table .entry)) instant) .answer) × (now (table .exit) ≡ (openingStep chart (now (table .entry)) instant) .table) ⌝ }
+{
+    Watch::opening(chart, table, instant)
+}
+
+// An event of a code at the open instant: 14, 13, 10, 9. A check, then constant time.
+#[no_mangle]
+pub extern "C" fn chronicle_event(watch: Watch, chart: Chart, table: &[i32], code: u8) -> Answer
+    ensures { λ r. ⌜ r ≡ (eventStep chart watch (now (table .entry)) code) .answer ⌝ }
+{
+    watch.event(chart, table, code)
+}
+
+// A clock mark: 14, 13, 8, 12. A check, then closing.
+#[no_mangle]
+pub extern "C" fn chronicle_clock(
+    watch: Watch,
+    chart: Chart,
+    table: &mut [i32],
+    instant: i32,
+) -> Answer
+    ensures { λ r. ⌜ (r ≡ (clockStep chart watch (now (table .entry)) instant) .answer) × (now (table .exit) ≡ (clockStep chart watch (now (table .entry)) instant) .table) ⌝ }
+{
+    watch.clock(chart, table, instant)
+}
+
+// A forget: 14, 13, 11. A check, then one walk of the rows.
+#[no_mangle]
+pub extern "C" fn chronicle_forget(
+    watch: Watch,
+    chart: Chart,
+    table: &mut [i32],
+    floor: i32,
+) -> Answer
+    ensures { λ r. ⌜ (r ≡ (forgetStep chart watch (now (table .entry)) floor) .answer) × (now (table .exit) ≡ (forgetStep chart watch (now (table .entry)) floor) .table) ⌝ }
+{
+    watch.forget(chart, table, floor)
+}
+
+// The number that calls on this watch, chart and table are refused with first: 14, 13, or 0. One look at each entry and each row.
+#[no_mangle]
+pub extern "C" fn chronicle_check(watch: Watch, chart: Chart, table: &[i32]) -> u32
+    ensures { λ r. ⌜ r ≡ checkNumber chart watch (now (table .entry)) ⌝ }
+{
+    watch.check(chart, table)
+}
+
+// The rows that end at an instant: none where the check refuses. A check and two binary searches.
+#[no_mangle]
+pub extern "C" fn chronicle_rows_ending(watch: Watch, chart: Chart, table: &[i32], end: i32) -> Part
+    ensures { λ r. ⌜ r ≡ endRows chart watch (now (table .entry)) end ⌝ }
+{
+    watch.rows_ending_at(chart, table, end)
+}
+
+// The tree of a row at the front of the output: 14, 13, 15, 16. A check, then at most two steps for each byte of the output.
+#[no_mangle]
+pub extern "C" fn chronicle_tree(
+    watch: Watch,
+    chart: Chart,
+    table: &[i32],
+    row: usize,
+    out: &mut [u8],
+) -> TreeAnswer
+    ensures { λ r. ⌜ (r ≡ (treeStep chart watch (now (table .entry)) row (now (out .entry))) .answer) × (now (out .exit) ≡ (treeStep chart watch (now (table .entry)) row (now (out .entry))) .out) ⌝ }
+{
+    watch.tree(chart, table, row, out)
+}
+
+// Plays a whole input of the listing program, chart, empty line and log, and writes what the program prints for it: the number of bytes, or 0 and
+// nothing done where the output is too short. Costs what the lines' calls cost.
+#[no_mangle]
+pub extern "C" fn chronicle_list(input: &[u8], table: &mut [i32], out: &mut [u8]) -> usize
+    ensures { λ r. ⌜ (r ≡ listedLength (now (input .entry)) (now (table .entry)) (now (out .entry))) × (now (table .exit) ≡ listedTable (now (input .entry)) (now (table .entry)) (now (out .entry))) × (now (out .exit) ≡ listedOutput (now (input .entry)) (now (table .entry)) (now (out .entry))) ⌝ }
+{
+    program::list(input, table, out)
+}

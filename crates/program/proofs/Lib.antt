@@ -1,0 +1,10 @@
+pub mod Pieces
+pub mod Stages
+pub mod Playing
+pub mod Reaching
+pub mod Lines
+pub mod Reading
+pub mod LogLines
+pub mod Printing
+pub mod Theorems
+pub mod Listing

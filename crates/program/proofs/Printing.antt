@@ -1,0 +1,184 @@
+-- What a finished run prints is what it comes to.
+use Prim.Native.Nat.{ℕ, _+_, _*_, _-_, _≤_}
+use native.Mathlib.Omega.{arith}
+use mathlib.Core.Path.{_≡_, refl, sym, ap, _∙_, subst}
+use mathlib.Core.Bool.{Bool, true, false, cond}
+use mathlib.Core.List.{List, [], _∷_, _++_}
+use borrow.Author.Tests.{le-leb}
+use lib.Dec.{eqb, leb}
+use lib.IntN.{ℤ, pos}
+use lib.ListN.{length, drop, length-drop}
+use Rattle.interval.specs.Instants.{isInstant}
+use Rattle.interval.proofs.Signed.{holds→}
+use Rattle.text.specs.Text.{Line}
+use Rattle.chart.specs.Charts.{isUsable}
+use Rattle.chart.specs.declared.Chart.{Chart}
+use Rattle.model.specs.Capacity.{capacity}
+use Rattle.model.specs.Reference as ref
+use Rattle.model.specs.RowSteps as rows
+use Rattle.model.proofs.Capacity.{capacity-fits}
+use Rattle.model.proofs.Theorems as model
+use Rattle.table.specs.Operators.{operatorsOf}
+use Rattle.table.specs.Table.{rowsIn, zeroed}
+use Rattle.table.proofs.Laws.{length-zeroed}
+use Rattle.watch.specs.Steps.{Step, roomIn, openingStep, refusedStep, takenStep, emptyWatch}
+use Rattle.watch.specs.Histories.{State, state, call, opened}
+use Rattle.watch.specs.declared.Watch.{Watch}
+use Rattle.watch.proofs.History.{bounds, history-shown}
+use Rattle.watch.proofs.Lower.{usable-lower}
+use Rattle.watch.proofs.Shown as watch
+use Rattle.log.specs.declared.Call.{Call}
+use Rattle.log.specs.declared.Call.the-variants as log
+use Rattle.printing.specs.Listing.{listingText, tableText, refusalText, lengthWhere, outputWhere, listingFits, refusalFits}
+use Rattle.printing.proofs.Laws.{table-listing, front-within}
+use Rattle.program.specs.Outcomes.{callIn, outcomeText}
+use Rattle.program.specs.Runs.{Progress, refusedRun, nextRun, stepped, openingLine, stateOf, callStep, lineStep, afterLine, endRun, resultOf, outcomeOf, OfHistory, Holds, Reached, lengthAt, outputAt, printedLength, printedOutput}
+use Rattle.program.specs.declared.Run.{Run}
+use Rattle.program.specs.declared.Stage.{Stage}
+use Rattle.program.specs.declared.Stage.the-variants.{Entries, Opening, Calls, Refused}
+use Rattle.program.proofs.Pieces.{atEnd, afterLines}
+use Rattle.program.proofs.Reaching.{line-on, history-on, history-before}
+
+-- watch and table of a history
+module _ (chart : Chart) (usable : isUsable chart ≡ true) (s : State) (h : OfHistory chart s) where
+  abbrev room : ℕ
+  room = roomIn (h .before)
+
+  abbrev tail : List ℤ
+  tail = drop (room * 5) (h .before)
+
+  -- the rows that it shows
+  abbrev m : rows.Watch
+  m = ref.run (rows.watchStep (operatorsOf chart) room) ((rows.watchOpening (h .opened)) .state) (h .calls)
+
+  is-shown : s ≡ watch.stateOf room tail m
+  is-shown = h .same ∙ (history-shown chart usable (h .before) (h .opened) (h .inRange) (h .calls)) .0
+
+  few : length (m .rows) ≤ room
+  few = (bounds (operatorsOf chart) room m (holds→ _ (model.in-joint (operatorsOf chart) (usable-lower chart usable) room (h .opened) (h .calls)))) .few
+
+  same-length : length (s .table) ≡ length (h .before)
+  same-length =
+      let g = capacity-fits (length (h .before)) in
+      ap (λ x. length (x .table)) is-shown ∙ watch.length-table room tail (m .rows) few ∙ omega (arith, g, length-drop (room * 5) (h .before))
+
+  rows-few : s .watch .rows ≤ roomIn (s .table)
+  rows-few = subst (λ n. s .watch .rows ≤ capacity n) (sym same-length) (subst (λ x. x .watch .rows ≤ room) (sym is-shown) few)
+
+  -- its listing, from the table's numbers and from its rows
+  pub same-listing : tableText (s .watch .rows) (s .table) ≡ listingText (rowsIn (s .watch .rows) (s .table))
+  same-listing =
+      ap (λ x. tableText (x .watch .rows) (x .table)) is-shown
+      ∙ table-listing (m .rows) _
+      ∙ ap listingText (sym (ap (λ x. rowsIn (x .watch .rows) (x .table)) is-shown ∙ watch.rows-flat (m .rows) _))
+
+  pub listing-fits : (out : List ℕ) → 40 + roomIn (s .table) * 81 ≤ length out → listingFits (s .watch .rows) (s .table) out ≡ true
+  unfolding listingFits
+  listing-fits out g =
+      let c = capacity-fits (length (s .table)) in
+      let r = rows-few in
+      rw (le-leb (s .watch .rows * 5) (length (s .table)) (omega (arith, c, r)), le-leb (31 + s .watch .rows * 81) (length out) (omega (arith, r, g)))
+
+-- The length of the table stays.
+opening-length : (chart : Chart) (t : List ℤ) (o : ℤ) → length ((openingStep chart t o) .table) ≡ length t
+unfolding openingStep
+opening-length chart t o = go (isUsable chart) (isInstant o)
+  where
+    go : (a b : Bool) → length ((cond a (cond b (takenStep (emptyWatch o) (zeroed 0 (roomIn t * 5) t)) (refusedStep 8 (emptyWatch (pos 0)) t)) (refusedStep 14 (emptyWatch (pos 0)) t)) .table) ≡ length t
+    go true true = length-zeroed 0 (roomIn t * 5) t (omega arith) (omega (arith, capacity-fits (length t)))
+    go true false = refl
+    go false b = refl
+
+stepped-table : (r : Run) (x : Step) → stepped r x .table ≡ x .table
+unfolding stepped
+stepped-table r x = go (eqb (x .answer .refusal) 0)
+  where
+    go : (b : Bool) → (cond {A = Progress} b (record { run = nextRun r Calls (r .chart) (x .answer .watch); table = x .table }) (record { run = refusedRun r (x .answer .refusal) (r .line + 1); table = x .table })) .table ≡ x .table
+    go true = refl
+    go false = refl
+
+call-length : (chart : Chart) → isUsable chart ≡ true → (s : State) → OfHistory chart s → (c : Call) → length ((callStep chart s c) .table) ≡ length (s .table)
+unfolding callStep
+call-length chart usable s h c = go c
+  where
+    one : (d : ref.Call) → length ((call chart s d) .table) ≡ length (s .table)
+    one d = same-length chart usable (state (call chart s d)) (history-on chart s d h) ∙ ap length (history-before chart s d h) ∙ sym (same-length chart usable s h)
+
+    go : (k : Call) → length ((callStep chart s k) .table) ≡ length (s .table)
+    go log.Malformed = refl
+    go (log.Open o) = refl
+    go (log.Event k) = one (ref.event k)
+    go (log.Clock x) = one (ref.clock x)
+    go (log.Forget f) = one (ref.forget f)
+
+line-length : (p : Progress) (l : Line) → Reached p → length (afterLine p l .table) ≡ length (p .table)
+unfolding lineStep Holds openingLine
+line-length p l h = go (p .run .stage) h
+  where
+    r : Run
+    r = p .run
+
+    opens : (c : Call) → length (openingLine r (p .table) c .table) ≡ length (p .table)
+    opens (log.Open o) = ap length (stepped-table r (openingStep (r .chart) (p .table) o)) ∙ opening-length (r .chart) (p .table) o
+    opens log.Malformed = refl
+    opens (log.Event k) = refl
+    opens (log.Clock x) = refl
+    opens (log.Forget f) = refl
+
+    go : (s : Stage) → Holds s r (p .table) → length (lineStep s r (p .table) l .table) ≡ length (p .table)
+    go Entries k = refl
+    go Opening k = opens (callIn l)
+    go Calls k = ap length (stepped-table r (callStep (r .chart) (stateOf r (p .table)) (callIn l))) ∙ call-length (r .chart) (k .1) (stateOf r (p .table)) (k .2) (callIn l)
+    go Refused k = refl
+
+pub lines-length : (p : Progress) (ls : List Line) → Reached p → length (afterLines p ls .table) ≡ length (p .table)
+unfolding afterLines
+lines-length p [] h = refl
+lines-length p (l ∷ ls) h = lines-length (afterLine p l) ls (line-on p l h) ∙ line-length p l h
+
+pub lines-on : (p : Progress) (ls : List Line) → Reached p → Reached (afterLines p ls)
+unfolding afterLines
+lines-on p [] h = h
+lines-on p (l ∷ ls) h = lines-on (afterLine p l) ls (line-on p l h)
+
+-- the bytes that a run prints
+abbrev pub Prints : Progress → List ℕ → List ℕ → Type 0
+Prints q out text = (printedLength (q .run) (q .table) out ≡ length text) × (printedOutput (q .run) (q .table) out ≡ text ++ drop (length text) out)
+
+refusal-prints : (r : Run) (t : List ℤ) (n line : ℕ) (out : List ℕ) → 40 ≤ length out → Prints (record { run = refusedRun r n line; table = t }) out (outcomeText (resultOf (record { run = refusedRun r n line; table = t })))
+unfolding refusedRun lengthAt outputAt outcomeOf outcomeText lengthWhere outputWhere refusalFits
+refusal-prints r t n line out h = let e : leb 40 (length out) ≡ true = le-leb 40 (length out) h in (rw e, rw e)
+
+pub end-prints : (p : Progress) (out : List ℕ) → Reached p → 40 + roomIn (p .table) * 81 ≤ length out → Prints (atEnd p) out (outcomeText (resultOf (atEnd p)))
+unfolding endRun Holds lengthAt outputAt outcomeOf outcomeText lengthWhere outputWhere refusalFits
+end-prints p out h g = go (p .run .stage) refl h
+  where
+    r : Run
+    r = p .run
+
+    t : List ℤ
+    t = p .table
+
+    at-once : (b : Bool) (n line k below : ℕ) → Prints (record { run = cond b (refusedRun r n line) (refusedRun r k below); table = t }) out (outcomeText (resultOf (record { run = cond b (refusedRun r n line) (refusedRun r k below); table = t })))
+    at-once true n line k below = refusal-prints r t n line out (omega (arith, g))
+    at-once false n line k below = refusal-prints r t k below out (omega (arith, g))
+
+    go : (s : Stage) → r .stage ≡ s → Holds s r t → Prints (record { run = endRun s r; table = t }) out (outcomeText (resultOf (record { run = endRun s r; table = t })))
+    go Entries e k = at-once (eqb (r .chart .count) 0) 1 1 7 (r .line + 1)
+    go Opening e k = refusal-prints r t 7 (r .line + 1) out (omega (arith, g))
+    go Calls e k =
+        let same = same-listing (r .chart) (k .1) (stateOf r t) (k .2) in
+        let fits = listing-fits (r .chart) (k .1) (stateOf r t) (k .2) out g in
+        (rw (e, fits) (ap length same), rw (e, fits) (ap (λ x. x ++ drop (length x) out) same))
+    go Refused e k = let fits : leb 40 (length out) ≡ true = le-leb 40 (length out) (omega (arith, g)) in (rw (e, fits), rw (e, fits))
+
+-- what is printed is in the output
+pub printed-within : (r : Run) (t : List ℤ) (out : List ℕ) → length (printedOutput r t out) ≡ length out → printedLength r t out ≤ length out
+unfolding lengthAt outputAt
+printed-within r t out e = go (r .stage) e
+  where
+    go : (s : Stage) → length (outputAt s r t out) ≡ length out → lengthAt s r t out ≤ length out
+    go Entries h = front-within (listingFits (r .watch .rows) t out) (tableText (r .watch .rows) t) out h
+    go Opening h = front-within (listingFits (r .watch .rows) t out) (tableText (r .watch .rows) t) out h
+    go Calls h = front-within (listingFits (r .watch .rows) t out) (tableText (r .watch .rows) t) out h
+    go Refused h = front-within (refusalFits out) (refusalText (r .refusal) (r .line)) out h

@@ -1,0 +1,279 @@
+-- What holds of a run at its stage holds after every further line and byte.
+use Prim.Native.Nat.{ℕ, suc, _+_, _-_, _≤_, _<_, _^_}
+use native.Mathlib.Omega.{arith}
+use mathlib.Core.Path.{_≡_, refl, sym, ap, _∙_, subst}
+use mathlib.Core.Bool.{Bool, true, false, cond}
+use mathlib.Core.List.{List, [], _∷_, _++_}
+use borrow.Author.Tests.{eqb-true, eqb-false}
+use lib.Dec.{eqb, leb}
+use lib.IntN.{ℤ}
+use lib.ListN.{length}
+use Rattle.interval.specs.Instants.{isInstant}
+use Rattle.interval.proofs.Signed.{never}
+use Rattle.text.specs.Text.{Line, whole, broken, split, inFront}
+use Rattle.text.proofs.Laws.{split-some}
+use Rattle.chart.specs.Charts.{isUsable, readLines, noEntries, withEntry, refusedChart, takenChart}
+use Rattle.chart.specs.Records.{answerTo}
+use Rattle.chart.specs.declared.Chart.{Chart}
+use Rattle.chart.specs.declared.ChartAnswer.{ChartAnswer}
+use Rattle.chart.specs.declared.record.LineAnswer.{LineAnswer}
+use Rattle.model.specs.Reference as ref
+use Rattle.watch.specs.Steps.{Step, openingStep, refusedStep}
+use Rattle.watch.specs.Histories.{State, state, call, after, opened}
+use Rattle.watch.specs.declared.Watch.{Watch}
+use Rattle.watch.proofs.Calls.{opening-8}
+use Rattle.log.specs.declared.Call.{Call}
+use Rattle.log.specs.declared.Call.the-variants as log
+use Rattle.program.specs.Outcomes.{callIn, isEmpty}
+use Rattle.program.specs.Runs.{Progress, refusedRun, nextRun, entryRun, chartEnd, stepped, openingLine, stateOf, callStep, lineStep, afterLine, afterParts, afterBytes, isRefused, Holds, Reached, OfHistory, HasFew, HasLines, startRun}
+use Rattle.program.specs.declared.Run.{Run}
+use Rattle.program.specs.declared.Stage.{Stage}
+use Rattle.program.specs.declared.Stage.the-variants.{Entries, Opening, Calls, Refused}
+use Rattle.chart.proofs.Usable.{Good, good-none, good-more, answer-fits, good-usable, usable-few}
+use Rattle.program.proofs.Pieces.{parts-stopped, bytes-stopped, broken-stopped}
+use Rattle.program.proofs.Playing.{after-more}
+
+-- a chart read from lines is one whose entries fit so far
+lines-good : (c d : Chart) (ls : List Line) → Good c → readLines c ls ≡ takenChart d → Good d
+unfolding readLines refusedChart
+lines-good c d [] g e = subst Good (ap (λ a. a .chart) e) g
+lines-good c d (l ∷ ls) g e = go (eqb (a .refusal) 0) refl (λ x h z. lines-good x d ls h z) e
+  where
+    a : LineAnswer
+    a = answerTo (c .count) l
+
+    go : (b : Bool) → eqb (a .refusal) 0 ≡ b → ((x : Chart) → Good x → readLines x ls ≡ takenChart d → Good d) → cond b (readLines (withEntry c (a .entry)) ls) (refusedChart (a .refusal) (c .count + 1)) ≡ takenChart d → Good d
+    go true p left z = let f = answer-fits (c .count) l (eqb-true (a .refusal) 0 p) in left (withEntry c (a .entry)) (good-more c (a .entry) g (f .0) (f .1)) z
+    go false p left z = absurd (eqb-false (a .refusal) 0 p (ap (λ x. x .refusal) z))
+
+pub read-good : (c : Chart) → (ls : List Line) × (readLines noEntries ls ≡ takenChart c) → Good c
+read-good c (ls, e) = lines-good noEntries c ls good-none e
+
+-- a run that goes on has no more entries than a chart can have
+pub reached-few : (p : Progress) → Reached p → HasFew (p .run)
+unfolding HasFew Holds isRefused
+reached-few p h = go (p .run .stage) h
+  where
+    go : (s : Stage) → Holds s (p .run) (p .table) → isRefused s ≡ false → p .run .chart .count ≤ 32
+    go Entries k z = (read-good (p .run .chart) k) .few
+    go Opening k z = usable-few (p .run .chart) k
+    go Calls k z = usable-few (p .run .chart) (k .1)
+    go Refused k z = never (sym z)
+
+-- one line more
+lines-more : (c d : Chart) (ls : List Line) (l : Line) → readLines c ls ≡ takenChart d → readLines c (ls ++ l ∷ []) ≡ readLines d (l ∷ [])
+unfolding readLines refusedChart
+lines-more c d [] l e = ap (λ a. readLines (a .chart) (l ∷ [])) e
+lines-more c d (k ∷ ls) l e = go (eqb (a .refusal) 0) refl (λ x z. lines-more x d ls l z) e
+  where
+    a : LineAnswer
+    a = answerTo (c .count) k
+
+    go : (b : Bool) → eqb (a .refusal) 0 ≡ b → ((x : Chart) → readLines x ls ≡ takenChart d → readLines x (ls ++ l ∷ []) ≡ readLines d (l ∷ [])) → cond b (readLines (withEntry c (a .entry)) ls) (refusedChart (a .refusal) (c .count + 1)) ≡ takenChart d → cond b (readLines (withEntry c (a .entry)) (ls ++ l ∷ [])) (refusedChart (a .refusal) (c .count + 1)) ≡ readLines d (l ∷ [])
+    go true p left z = left (withEntry c (a .entry)) z
+    go false p left z = absurd (eqb-false (a .refusal) 0 p (ap (λ x. x .refusal) z))
+
+-- an answer of the chart reader with number 0 is a chart taken
+taken-is : (c : Chart) (l : Line) → (readLines c (l ∷ [])) .refusal ≡ 0 → readLines c (l ∷ []) ≡ takenChart ((readLines c (l ∷ [])) .chart)
+unfolding readLines refusedChart
+taken-is c l z = go (eqb (a .refusal) 0) refl z
+  where
+    a : LineAnswer
+    a = answerTo (c .count) l
+
+    go : (b : Bool) → eqb (a .refusal) 0 ≡ b → (cond b (takenChart (withEntry c (a .entry))) (refusedChart (a .refusal) (c .count + 1))) .refusal ≡ 0 → cond b (takenChart (withEntry c (a .entry))) (refusedChart (a .refusal) (c .count + 1)) ≡ takenChart ((cond b (takenChart (withEntry c (a .entry))) (refusedChart (a .refusal) (c .count + 1))) .chart)
+    go true p y = refl
+    go false p y = absurd (eqb-false (a .refusal) 0 p y)
+
+-- each stage goes on to one of which it holds
+entries-on : (r : Run) (t : List ℤ) (l : Line) → Holds Entries r t → Reached (record { run = cond (isEmpty l) (chartEnd r) (entryRun r (readLines (r .chart) (l ∷ []))); table = t })
+unfolding Holds chartEnd entryRun nextRun refusedRun
+entries-on r t l h = go (isEmpty l)
+  where
+    a : ChartAnswer
+    a = readLines (r .chart) (l ∷ [])
+
+    ends : (b : Bool) → eqb (r .chart .count) 0 ≡ b → Reached (record { run = cond b (refusedRun r 1 1) (nextRun r Opening (r .chart) (r .watch)); table = t })
+    ends true e = tt
+    ends false e = good-usable (r .chart) (read-good (r .chart) h) (let k = eqb-false (r .chart .count) 0 e in omega (arith, k))
+
+    more : (b : Bool) → eqb (a .refusal) 0 ≡ b → Reached (record { run = cond b (nextRun r Entries (a .chart) (r .watch)) (refusedRun r (a .refusal) (a .line)); table = t })
+    more true e = (h .0 ++ l ∷ [], lines-more noEntries (r .chart) (h .0) l (h .1) ∙ taken-is (r .chart) l (eqb-true (a .refusal) 0 e))
+    more false e = tt
+
+    go : (b : Bool) → Reached (record { run = cond b (chartEnd r) (entryRun r a); table = t })
+    go true = ends (eqb (r .chart .count) 0) refl
+    go false = more (eqb (a .refusal) 0) refl
+
+-- a step of the watch that ends in a history
+stepped-on : (r : Run) (x : Step) → isUsable (r .chart) ≡ true → (x .answer .refusal ≡ 0 → OfHistory (r .chart) (state x)) → Reached (stepped r x)
+unfolding Holds stepped nextRun refusedRun
+stepped-on r x usable h = go (eqb (x .answer .refusal) 0) refl
+  where
+    go : (b : Bool) → eqb (x .answer .refusal) 0 ≡ b → Reached (cond b (record { run = nextRun r Calls (r .chart) (x .answer .watch); table = x .table }) (record { run = refusedRun r (x .answer .refusal) (r .line + 1); table = x .table }))
+    go true e = (refl, usable, h (eqb-true (x .answer .refusal) 0 e))
+    go false e = tt
+
+opening-on : (r : Run) (t : List ℤ) (c : Call) → Holds Opening r t → Reached (openingLine r t c)
+unfolding openingLine Holds refusedRun after
+opening-on r t (log.Open o) usable = stepped-on r (openingStep (r .chart) t o) usable (λ z. go z (isInstant o) refl)
+  where
+    go : (openingStep (r .chart) t o) .answer .refusal ≡ 0 → (b : Bool) → isInstant o ≡ b → OfHistory (r .chart) (state (openingStep (r .chart) t o))
+    go z true e = record { before = t; opened = o; inRange = e; calls = []; same = refl }
+    go z false e = absurd (let k : (openingStep (r .chart) t o) .answer .refusal ≡ 8 = ap (λ x. x .answer .refusal) (opening-8 (r .chart) t o usable e) in omega (arith, k, z))
+opening-on r t log.Malformed usable = tt
+opening-on r t (log.Event k) usable = tt
+opening-on r t (log.Clock x) usable = tt
+opening-on r t (log.Forget f) usable = tt
+
+pub history-on : (chart : Chart) (s : State) (c : ref.Call) → OfHistory chart s → OfHistory chart (state (call chart s c))
+history-on chart s c h = record {
+  before = h .before;
+  opened = h .opened;
+  inRange = h .inRange;
+  calls = h .calls ++ c ∷ [];
+  same = ap (λ x. state (call chart x c)) (h .same) ∙ sym (after-more chart (opened chart (h .before) (h .opened)) (h .calls) c);
+}
+
+pub history-before : (chart : Chart) (s : State) (c : ref.Call) (h : OfHistory chart s) → history-on chart s c h .before ≡ h .before
+unfolding history-on
+history-before chart s c h = refl
+
+calls-on : (r : Run) (t : List ℤ) (c : Call) → Holds Calls r t → Reached (stepped r (callStep (r .chart) (stateOf r t) c))
+unfolding callStep Holds
+calls-on r t log.Malformed (z, usable, h) = stepped-on r (refusedStep 7 (r .watch) t) usable (λ y. h)
+calls-on r t (log.Open x) (z, usable, h) = stepped-on r (refusedStep 7 (r .watch) t) usable (λ y. h)
+calls-on r t (log.Event k) (z, usable, h) = stepped-on r (call (r .chart) (stateOf r t) (ref.event k)) usable (λ y. history-on (r .chart) (stateOf r t) (ref.event k) h)
+calls-on r t (log.Clock x) (z, usable, h) = stepped-on r (call (r .chart) (stateOf r t) (ref.clock x)) usable (λ y. history-on (r .chart) (stateOf r t) (ref.clock x) h)
+calls-on r t (log.Forget f) (z, usable, h) = stepped-on r (call (r .chart) (stateOf r t) (ref.forget f)) usable (λ y. history-on (r .chart) (stateOf r t) (ref.forget f) h)
+
+pub line-on : (p : Progress) (l : Line) → Reached p → Reached (afterLine p l)
+unfolding lineStep
+line-on p l h = go (p .run .stage) refl h
+  where
+    go : (s : Stage) → p .run .stage ≡ s → Holds s (p .run) (p .table) → Reached (lineStep s (p .run) (p .table) l)
+    go Entries e k = entries-on (p .run) (p .table) l k
+    go Opening e k = opening-on (p .run) (p .table) (callIn l) k
+    go Calls e k = calls-on (p .run) (p .table) (callIn l) k
+    go Refused e k = subst (λ s. Holds s (p .run) (p .table)) (sym e) k
+
+parts-on : (p : Progress) (ps : List (List ℕ)) → Reached p → Reached (afterParts p ps)
+unfolding afterParts
+parts-on p [] h = h
+parts-on p (s ∷ []) h = go (leb 64 (length s))
+  where
+    go : (b : Bool) → Reached (cond b (afterLine p (broken s)) p)
+    go true = line-on p (broken s) h
+    go false = h
+parts-on p (s ∷ q ∷ qs) h = parts-on (afterLine p (whole s)) (q ∷ qs) (line-on p (whole s) h)
+
+pub bytes-on : (p : Progress) (s : List ℕ) → Reached p → Reached (afterBytes p s)
+unfolding afterBytes
+bytes-on p s h = parts-on p (split 10 s) h
+
+pub start-reached : (t : List ℤ) → Reached (record { run = startRun; table = t })
+unfolding startRun Holds readLines
+start-reached t = ([], refl)
+
+-- a line that is taken is counted, and there are no more lines than bytes
+Counted : Run → Run → Type 0
+Counted r q = isRefused (q .stage) ≡ false → q .line ≤ r .line + 1
+
+next-counted : (r : Run) (s : Stage) (c : Chart) (w : Watch) → Counted r (nextRun r s c w)
+unfolding Counted nextRun
+next-counted r s c w z = omega arith
+
+refused-counted : (r : Run) (n k : ℕ) → Counted r (refusedRun r n k)
+unfolding Counted refusedRun isRefused
+refused-counted r n k z = never (sym z)
+
+either-counted : (r : Run) (b : Bool) (x y : Run) → Counted r x → Counted r y → Counted r (cond b x y)
+either-counted r true x y p q = p
+either-counted r false x y p q = q
+
+step-counted : (r : Run) (x : Step) → Counted r (stepped r x .run)
+unfolding stepped
+step-counted r x = go (eqb (x .answer .refusal) 0)
+  where
+    go : (b : Bool) → Counted r ((cond {A = Progress} b (record { run = nextRun r Calls (r .chart) (x .answer .watch); table = x .table }) (record { run = refusedRun r (x .answer .refusal) (r .line + 1); table = x .table })) .run)
+    go true = next-counted r Calls (r .chart) (x .answer .watch)
+    go false = refused-counted r (x .answer .refusal) (r .line + 1)
+
+opening-counted : (r : Run) (t : List ℤ) (c : Call) → Counted r (openingLine r t c .run)
+unfolding openingLine
+opening-counted r t (log.Open o) = step-counted r (openingStep (r .chart) t o)
+opening-counted r t log.Malformed = refused-counted r 7 (r .line + 1)
+opening-counted r t (log.Event k) = refused-counted r 7 (r .line + 1)
+opening-counted r t (log.Clock x) = refused-counted r 7 (r .line + 1)
+opening-counted r t (log.Forget f) = refused-counted r 7 (r .line + 1)
+
+pub line-counted : (p : Progress) (l : Line) → isRefused (afterLine p l .run .stage) ≡ false → afterLine p l .run .line ≤ p .run .line + 1
+unfolding Counted lineStep entryRun chartEnd
+line-counted p l = go (p .run .stage)
+  where
+    r : Run
+    r = p .run
+
+    a : ChartAnswer
+    a = readLines (r .chart) (l ∷ [])
+
+    go : (s : Stage) → Counted r (lineStep s r (p .table) l .run)
+    go Entries = either-counted r (isEmpty l) (chartEnd r) (entryRun r a) (either-counted r (eqb (r .chart .count) 0) (refusedRun r 1 1) (nextRun r Opening (r .chart) (r .watch)) (refused-counted r 1 1) (next-counted r Opening (r .chart) (r .watch))) (either-counted r (eqb (a .refusal) 0) (nextRun r Entries (a .chart) (r .watch)) (refusedRun r (a .refusal) (a .line)) (next-counted r Entries (a .chart) (r .watch)) (refused-counted r (a .refusal) (a .line)))
+    go Opening = opening-counted r (p .table) (callIn l)
+    go Calls = step-counted r (callStep (r .chart) (stateOf r (p .table)) (callIn l))
+    go Refused = λ z. omega arith
+
+parts-counted : (p : Progress) (s : List ℕ) (ss : List (List ℕ)) → isRefused (afterParts p (s ∷ ss) .run .stage) ≡ false → afterParts p (s ∷ ss) .run .line ≤ p .run .line + length ss
+unfolding afterParts
+parts-counted p s [] z = go (leb 64 (length s)) z
+  where
+    go : (b : Bool) → isRefused ((cond b (afterLine p (broken s)) p) .run .stage) ≡ false → (cond b (afterLine p (broken s)) p) .run .line ≤ p .run .line + 0
+    go true y = never (sym y ∙ broken-stopped p s)
+    go false y = omega arith
+parts-counted p s (q ∷ qs) z = go (isRefused (p₁ .run .stage)) refl (parts-counted p₁ q qs z)
+  where
+    p₁ : Progress
+    p₁ = afterLine p (whole s)
+
+    go : (b : Bool) → isRefused (p₁ .run .stage) ≡ b → afterParts p₁ (q ∷ qs) .run .line ≤ p₁ .run .line + length qs → afterParts p₁ (q ∷ qs) .run .line ≤ p .run .line + suc (length qs)
+    go true e h = never (sym z ∙ ap (λ x. isRefused (x .run .stage)) (parts-stopped p₁ (q ∷ qs) e) ∙ e)
+    go false e h = omega (arith, h, line-counted p (whole s) e)
+
+-- a text has no more parts than one for each byte and one
+split-few : (s : List ℕ) → length (split 10 s) ≤ suc (length s)
+unfolding split
+split-few [] = omega arith
+split-few (b ∷ s) = go (eqb b 10) (split-some 10 s) (split-few s)
+  where
+    go : (t : Bool) → (p : List ℕ) × (ps : List (List ℕ)) × (split 10 s ≡ p ∷ ps) → length (split 10 s) ≤ suc (length s) → length (cond t ([] ∷ split 10 s) (inFront b (split 10 s))) ≤ suc (suc (length s))
+    go true (p, ps, e) h = omega (arith, h)
+    go false (p, ps, e) h = rw e (let k : suc (length ps) ≤ suc (length s) = rw e at h in omega (arith, k))
+
+pub bytes-counted : (p : Progress) (s : List ℕ) → isRefused (afterBytes p s .run .stage) ≡ false → afterBytes p s .run .line ≤ p .run .line + length s
+unfolding afterBytes
+bytes-counted p s = go (split-some 10 s)
+  where
+    go : (q : List ℕ) × (qs : List (List ℕ)) × (split 10 s ≡ q ∷ qs) → isRefused (afterParts p (split 10 s) .run .stage) ≡ false → afterParts p (split 10 s) .run .line ≤ p .run .line + length s
+    go (q, qs, e) z =
+        let few : suc (length qs) ≤ suc (length s) = rw e at (split-few s) in
+        let y : isRefused (afterParts p (q ∷ qs) .run .stage) ≡ false = rw e at z in
+        rw e (omega (arith, few, parts-counted p q qs y))
+
+-- after some bytes there is still room for the number of one line more
+pub bytes-lines : (p q : Progress) (s : List ℕ) → HasLines (p .run) (length s + 1) → q ≡ afterBytes p s → HasLines (q .run) 1
+unfolding HasLines
+bytes-lines p q s h e z =
+    let y : isRefused (afterBytes p s .run .stage) ≡ false = ap (λ x. isRefused (x .run .stage)) (sym e) ∙ z in
+    let n : q .run .line ≡ afterBytes p s .run .line = ap (λ x. x .run .line) e in
+    omega (arith, n, bytes-counted p s y, h (goes (isRefused (p .run .stage)) refl y))
+  where
+    goes : (b : Bool) → isRefused (p .run .stage) ≡ b → isRefused (afterBytes p s .run .stage) ≡ false → isRefused (p .run .stage) ≡ false
+    goes true d y = never (sym y ∙ ap (λ x. isRefused (x .run .stage)) (bytes-stopped p s d) ∙ d)
+    goes false d y = d
+
+pub bytes-few : (p q : Progress) (s : List ℕ) → Reached p → q ≡ afterBytes p s → HasFew (q .run)
+bytes-few p q s h e = subst (λ x. HasFew (x .run)) (sym e) (reached-few (afterBytes p s) (bytes-on p s h))
+
+pub start-lines : (n : ℕ) → n < 2 ^ 64 → HasLines startRun n
+unfolding HasLines startRun
+start-lines n h z = omega (arith, h)

@@ -1,0 +1,144 @@
+-- `feed_calls` meets its contract: each turn plays one line, and what is left to read gives the whole answer.
+use Prim.Native.Nat.{_-_}
+use mathlib.Core.Path.{_≡_, refl, sym, ap, _∙_, subst}
+use native.Mathlib.Omega.{arith}
+use borrow.Author.Needs.{needs}
+use lib.ListN.{length, drop}
+use Rattle.interval.proofs.Signed.{never}
+use Rattle.text.specs.Text.{lineSize}
+use Rattle.text.proofs.Laws.{part-from}
+use Rattle.program.specs.Runs.{Read, Reached, isRefused}
+use Rattle.program.proofs.Reading.{read-none, next-inside, next-short, read-next}
+use Rattle.program.proofs.LogLines.{playing, is-playing, playing-joint, line-taken, line-refused, read-stopped, refused-stopped, line-room}
+use Rattle.program.proofs.feed_calls.Statement.{statement}
+use Rattle.program.proofs.feed_calls.Tie as tie
+
+abbrev Inv-loop : tie.InvT-loop
+Inv-loop table₀ s chart watch₀ line₀ at₀ size₀ table watch line at size = (length table ≡ length table₀) × (size ≡ lineSize (drop at s)) × Read (playing chart watch₀ line₀ table₀) (playing chart watch line table) at s
+
+abbrev μ-loop : tie.MeasureT-loop
+μ-loop table₀ s chart watch₀ line₀ at₀ size₀ table watch line at size = length s - at
+
+line-size-requires : tie.Need-line-size-requires Inv-loop μ-loop
+line-size-requires c κs = search needs
+
+loop-holds : tie.Need-loop-holds Inv-loop μ-loop
+loop-holds c =
+    let s = c .before .before .before .before in
+    (refl, c .line-size .ensures, read-none _ _ (subst (λ r. Reached (record { run = r; table = s .args .table .now })) (is-playing _ _ (s .pre .1) (s .pre .0)) (s .pre .0)))
+
+add-end : tie.Need-add-end Inv-loop μ-loop
+add-end c = let l = c .before in omega (arith, next-inside _ _ _ _ _ (l .loop .inv .2) (l .loop .inv .1), l .before .before .before .before .before .good .1 .1 .0)
+
+sub-end : tie.Need-sub-end Inv-loop μ-loop
+sub-end c = omega (arith, c .loop-test .taken)
+
+sub-call-line : tie.Need-sub-call-line Inv-loop μ-loop
+sub-call-line c = omega (arith, c .before .loop-test .taken)
+
+part-call-line-start : tie.Need-part-call-line-start Inv-loop μ-loop
+part-call-line-start c = omega arith
+
+part-call-line-end : tie.Need-part-call-line-end Inv-loop μ-loop
+part-call-line-end c = let l = c .before .before in omega (arith, next-inside _ _ _ _ _ (l .loop .inv .2) (l .loop .inv .1))
+
+call-line-requires : tie.Need-call-line-requires Inv-loop μ-loop
+call-line-requires c κs = let l = c .before .before .before in playing-joint _ _ _ _ (l .loop .inv .2 .reached)
+
+add-stopped-run : tie.Need-add-stopped-run Inv-loop μ-loop
+add-stopped-run c =
+    let l = c .before .before .before .before .before .before in
+    record { fits = line-room _ _ _ _ _ _ _ _ _ (l .loop .inv .2) (omega (arith, c .before .before .before .before .before .loop-test .taken, next-inside _ _ _ _ _ (l .loop .inv .2) (l .loop .inv .1))) (l .before .before .before .before .before .pre .2) }
+
+stopped-run-requires : tie.Need-stopped-run-requires Inv-loop μ-loop
+stopped-run-requires c κs = search needs
+
+same-length : tie.Need-same-length Inv-loop μ-loop
+same-length c = let l = c .before .before .before .before .before .before .before in c .before .before .before .call-line .kept .1 .1 .0 ∙ l .loop .inv .0
+
+returns : tie.Need-returns Inv-loop μ-loop
+returns c =
+    let k = c .before .before .before .call-line in
+    let l = c .before .before .before .before .before .before .before in
+    let s = l .before .before .before .before .before in
+    let some = c .before .before .before .before .before .before .loop-test .taken in
+    let h = l .loop .inv .2 in
+    let stop = ap (λ x. isRefused (x .stage)) (c .stopped-run .ensures) ∙ refused-stopped _ _ _ (k .last .1 .1 .0) in
+    let e = ap (λ x. record { run = x; table = k .last .1 .1 .0 }) (c .stopped-run .ensures) ∙ line-refused _ _ _ _ _ (next-short _ _ _ _ _ h (l .loop .inv .1) some) _ _ (k .ensures) (c .before .if1 .taken) in
+    let r = read-stopped _ _ _ _ _ _ h (read-next _ _ _ _ _ h (l .loop .inv .1) some _ e) stop in
+    (subst (λ x. Read (record { run = x; table = s .args .table .now }) (record { run = c .stopped-run .result; table = k .last .1 .1 .0 }) (l .loop .at) (s .args .s .now)) (sym (is-playing _ _ (s .pre .1) (s .pre .0))) r, λ z. never (sym z ∙ stop))
+
+add-line : tie.Need-add-line Inv-loop μ-loop
+add-line c =
+    let l = c .before .before .before .before .before .before .before in
+    record { fits = line-room _ _ _ _ _ _ _ _ _ (l .loop .inv .2) (omega (arith, c .before .before .before .before .before .before .loop-test .taken, next-inside _ _ _ _ _ (l .loop .inv .2) (l .loop .inv .1))) (l .before .before .before .before .before .pre .2) }
+
+add-at : tie.Need-add-at Inv-loop μ-loop
+add-at c = let l = c .before .before .before .before .before .before .before in omega (arith, next-inside _ _ _ _ _ (l .loop .inv .2) (l .loop .inv .1), l .before .before .before .before .before .good .1 .1 .0)
+
+sub-line-size : tie.Need-sub-line-size Inv-loop μ-loop
+sub-line-size c = let l = c .before .before .before .before .before .before .before in next-inside _ _ _ _ _ (l .loop .inv .2) (l .loop .inv .1)
+
+part-line-size-start : tie.Need-part-line-size-start Inv-loop μ-loop
+part-line-size-start c = let l = c .before .before .before .before .before .before .before in omega (arith, next-inside _ _ _ _ _ (l .loop .inv .2) (l .loop .inv .1))
+
+part-line-size-end : tie.Need-part-line-size-end Inv-loop μ-loop
+part-line-size-end c = search needs
+
+line-size-requires-2 : tie.Need-line-size-requires-2 Inv-loop μ-loop
+line-size-requires-2 c κs = search needs
+
+loop-less : tie.Need-loop-less Inv-loop μ-loop
+loop-less c = let l = c .before .before .before .before .before .before .before .before .before in omega (arith, c .before .before .before .before .before .before .before .before .loop-test .taken, next-inside _ _ _ _ _ (l .loop .inv .2) (l .loop .inv .1))
+
+loop-again : tie.Need-loop-again Inv-loop μ-loop
+loop-again c =
+    let k = c .before .before .before .before .before .call-line in
+    let l = c .before .before .before .before .before .before .before .before .before in
+    let some = c .before .before .before .before .before .before .before .before .loop-test .taken in
+    let h = l .loop .inv .2 in
+    (k .kept .1 .1 .0 ∙ l .loop .inv .0, simp part-from at (c .line-size2 .ensures), read-next _ _ _ _ _ h (l .loop .inv .1) some _ (line-taken _ _ _ _ _ (next-short _ _ _ _ _ h (l .loop .inv .1) some) _ _ (k .ensures) (c .before .before .before .if1 .left)))
+
+calls-run-requires : tie.Need-calls-run-requires Inv-loop μ-loop
+calls-run-requires c κs = search needs
+
+same-length-2 : tie.Need-same-length-2 Inv-loop μ-loop
+same-length-2 c = c .before .before .loop .inv .0
+
+returns-2 : tie.Need-returns-2 Inv-loop μ-loop
+returns-2 c =
+    let l = c .before .before in
+    let s = l .before .before .before .before .before in
+    let t = l .loop .table in
+    let r = subst (λ y. Read (playing (s .args .run .chart) (s .args .run .watch) (s .args .run .line) (s .args .table .now)) (record { run = y; table = t }) (l .loop .at) (s .args .s .now)) (sym (c .calls-run .ensures)) (l .loop .inv .2) in
+    (subst (λ x. Read (record { run = x; table = s .args .table .now }) (record { run = c .calls-run .result; table = t }) (l .loop .at) (s .args .s .now)) (sym (is-playing _ _ (s .pre .1) (s .pre .0))) r, λ z. sym (l .loop .inv .1) ∙ c .before .loop-test .left)
+
+pub feed-calls-spec : {M : Type 1} → statement M
+feed-calls-spec =
+    tie.close
+    (tie.spec
+    Inv-loop
+    μ-loop
+    line-size-requires
+    loop-holds
+    add-end
+    sub-end
+    sub-call-line
+    part-call-line-start
+    part-call-line-end
+    call-line-requires
+    add-stopped-run
+    stopped-run-requires
+    same-length
+    returns
+    add-line
+    add-at
+    sub-line-size
+    part-line-size-start
+    part-line-size-end
+    line-size-requires-2
+    loop-less
+    loop-again
+    calls-run-requires
+    same-length-2
+    returns-2)

@@ -1,0 +1,86 @@
+-- `list` meets its contract: the run of one piece.
+use Prim.Native.Nat.{_+_, _-_}
+use mathlib.Core.Path.{sym, ap, _∙_, subst}
+use native.Mathlib.Omega.{arith}
+use lib.ListN.{length}
+use Rattle.model.proofs.Capacity.{capacity-most}
+use Rattle.program.specs.Runs.{Reached, HasLines, afterBytes, keptOf, printedLength, printedOutput}
+use Rattle.program.proofs.Reaching.{start-reached, start-lines, bytes-lines, bytes-few}
+use Rattle.program.proofs.Listing.{one-piece, list-none, list-all}
+use borrow.Author.Needs.{needs}
+use Rattle.program.proofs.list.Statement.{statement}
+use Rattle.program.proofs.list.Tie as tie
+
+-- the run before the first byte
+ready : (c : tie.After-start) → let s = c .before .before .before .before .before in Reached (record { run = c .start .result; table = s .args .table .now }) × HasLines (c .start .result) (length (s .args .input .now) + 1)
+ready c =
+    let s = c .before .before .before .before .before in
+    let e = sym (c .start .ensures) in
+    (subst (λ r. Reached (record { run = r; table = s .args .table .now })) e (start-reached (s .args .table .now)), subst (λ r. HasLines r (length (s .args .input .now) + 1)) e (start-lines _ (omega (arith, s .good .0))))
+
+rows-that-fit-requires : tie.Need-rows-that-fit-requires
+rows-that-fit-requires c κs = search needs
+
+mul-if1 : tie.Need-mul-if1
+mul-if1 c = let s = c .before .before .before in omega (arith, c .rows-that-fit .ensures, capacity-most (length (s .args .table .now)))
+
+add-if1 : tie.Need-add-if1
+add-if1 c = let s = c .before .before .before in omega (arith, c .rows-that-fit .ensures, capacity-most (length (s .args .table .now)))
+
+returns : tie.Need-returns
+returns c = list-none _ _ _ (rw (← c .before .rows-that-fit .ensures) (c .if1 .taken))
+
+start-requires : tie.Need-start-requires
+start-requires c κs = search needs
+
+feed-requires : tie.Need-feed-requires
+feed-requires c κs = ready (c .before)
+
+sub-finish : tie.Need-sub-finish
+sub-finish c = search needs
+
+finish-requires : tie.Need-finish-requires
+finish-requires c κs =
+    let k = ready (c .before .before .before .before .before) in
+    let e = c .before .before .before .feed .ensures .0 in
+    (bytes-lines _ _ _ (k .1) e, bytes-few _ _ _ (k .0) e)
+
+print-requires : tie.Need-print-requires
+print-requires c κs = search needs
+
+same-length : tie.Need-same-length
+same-length c = search needs
+
+same-length-2 : tie.Need-same-length-2
+same-length-2 c = search needs
+
+returns-2 : tie.Need-returns-2
+returns-2 c =
+    let s = c .before .before .before .before .before .before .before .before .before .before .before .before .before .before .before .before in
+    let t = s .args .table .now in
+    let x = s .args .input .now in
+    let fe = c .before .before .before .before .before .before .before .before .before .feed in
+    let st = c .before .before .before .before .before .before .before .before .before .before .before .start .ensures in
+    let fi = c .before .before .before .before .before .finish .ensures in
+    let p = c .before .before .print .ensures in
+    let e = fe .ensures .0 ∙ ap (λ r. afterBytes (record { run = r; table = t }) x) st in
+    let k = fe .ensures .2 ∙ ap (λ r. keptOf (afterBytes (record { run = r; table = t }) x) x) st in
+    let g = list-all x t (s .args .out .now) (rw (← c .before .before .before .before .before .before .before .before .before .before .before .before .before .rows-that-fit .ensures) (c .before .before .before .before .before .before .before .before .before .before .before .before .if1 .left)) _ (one-piece x t _ _ _ e k) in
+    (p .0 ∙ ap (λ r. printedLength r (fe .last .1 .0) (s .args .out .now)) fi ∙ g .0, g .1, p .1 ∙ ap (λ r. printedOutput r (fe .last .1 .0) (s .args .out .now)) fi ∙ g .2)
+
+pub list-spec : {M : Type 1} → statement M
+list-spec =
+    tie.close
+    (tie.spec
+    rows-that-fit-requires
+    mul-if1
+    add-if1
+    returns
+    start-requires
+    feed-requires
+    sub-finish
+    finish-requires
+    print-requires
+    same-length
+    same-length-2
+    returns-2)

@@ -1,0 +1,92 @@
+-- `open_at` meets its contract: a number that is no instant is refused with 8; otherwise it goes by the number of the watch's answer.
+use mathlib.Core.Path.{_≡_, sym, ap, _∙_, subst}
+use borrow.Author.Needs.{needs}
+use borrow.Author.Tests.{not-true, not-false}
+use mir.Syntax.{w32}
+use mir.Val.{SFits}
+use Rattle.interval.specs.Instants.{isInstant}
+use Rattle.interval.proofs.Machine.{same32, same64}
+use Rattle.watch.specs.Steps.{openingStep}
+use Rattle.program.proofs.Lines.{instant-fits, open-out, step-refused, step-taken}
+use Rattle.program.proofs.open_at.Statement.{statement}
+use Rattle.program.proofs.open_at.Tie as tie
+
+known : (c : tie.After-is-instant) → isInstant (c .before .args .o) ≡ c .is-instant .result
+known c = sym (c .is-instant .ensures ∙ ap isInstant (same64 _ (c .before .fits .o)))
+
+fits : (c : tie.Else1) → SFits w32 (c .before .before .args .o)
+fits c = instant-fits _ (known (c .before) ∙ not-false _ (c .if1 .left))
+
+-- what the watch answers
+opened : (c : tie.After-opening) → let g = c .before .before .before .before .before .args in (c .opening .result ≡ (openingStep (g .run .chart) (g .table .now) (g .o)) .answer) × (c .opening .last .1 .0 ≡ (openingStep (g .run .chart) (g .table .now) (g .o)) .table)
+opened c =
+    let d = c .before .before .before in
+    let wide = same64 _ (d .before .before .fits .o) in
+    let same = same32 _ (fits d) in
+    (simp (wide, same) at (c .opening .ensures .0), simp (wide, same) at (c .opening .ensures .1))
+
+is-instant-requires : tie.Need-is-instant-requires
+is-instant-requires c κs = search needs
+
+add-refused-run : tie.Need-add-refused-run
+add-refused-run c = search needs
+
+refused-run-requires : tie.Need-refused-run-requires
+refused-run-requires c κs = search needs
+
+returns : tie.Need-returns
+returns c =
+    let d = c .before .before in
+    let s = d .before .before in
+    open-out (s .args .run) _ (s .args .table .now) (s .args .o) (s .pre .1) (known (d .before) ∙ not-true _ (d .if1 .taken)) (c .refused-run .ensures)
+
+cast-opening : tie.Need-cast-opening
+cast-opening c = let d = c .before .before in subst (SFits w32) (sym (same64 _ (d .before .before .fits .o))) (fits d)
+
+opening-requires : tie.Need-opening-requires
+opening-requires c κs = search needs
+
+add-refused-run-2 : tie.Need-add-refused-run-2
+add-refused-run-2 c = search needs
+
+refused-run-requires-2 : tie.Need-refused-run-requires-2
+refused-run-requires-2 c κs = search needs
+
+same-length : tie.Need-same-length
+same-length c = search needs
+
+returns-2 : tie.Need-returns-2
+returns-2 c =
+    let d = c .before .before in
+    let o = d .before .before .before in
+    step-refused _ _ _ _ _ (opened o) (d .if2 .taken) (c .refused-run2 .ensures)
+
+next-run-requires : tie.Need-next-run-requires
+next-run-requires c κs = search needs
+
+same-length-2 : tie.Need-same-length-2
+same-length-2 c = search needs
+
+returns-3 : tie.Need-returns-3
+returns-3 c =
+    let d = c .before .before in
+    let o = d .before .before .before in
+    step-taken _ _ _ _ _ (opened o) (d .if2 .left) (c .next-run .ensures)
+
+pub open-at-spec : {M : Type 1} → statement M
+open-at-spec =
+    tie.close
+    (tie.spec
+    is-instant-requires
+    add-refused-run
+    refused-run-requires
+    returns
+    cast-opening
+    opening-requires
+    add-refused-run-2
+    refused-run-requires-2
+    same-length
+    returns-2
+    next-run-requires
+    same-length-2
+    returns-3)

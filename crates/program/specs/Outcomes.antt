@@ -1,0 +1,84 @@
+-- What the listing program prints, by the reference model alone: no watch and no table appears here. Document 01, "The listing program": "It reads a
+-- chart, an empty line and a log from standard input, uses a table of 3,000 rows, and prints the table at the end. A refusal prints only one line:
+-- `refused`, number, line of the whole input (one past the last if a line is missing), parted by tabs. The first empty line ends the chart."
+use Prim.Native.Nat.{ℕ, suc, _-_}
+use mathlib.Core.Bool.{Bool, cond, _&&_}
+use mathlib.Core.List.{List, [], _∷_}
+use lib.Dec.{eqb}
+use lib.IntN.{pos}
+use lib.ListN.{length}
+use Rattle.text.specs.Text.{Line, lines, isRecord}
+use Rattle.chart.specs.Charts.{orNoLine}
+use Rattle.model.specs.Order.{Row}
+use Rattle.model.specs.Recognitions.{Operator}
+use Rattle.model.specs.Reference as model
+use Rattle.model.specs.Reference.{Model, Answer, rowsOf, firstFloor}
+use Rattle.table.specs.Operators.{operatorsOf}
+use Rattle.log.specs.Log.{callOf}
+use Rattle.log.specs.declared.Call.{Call}
+use Rattle.log.specs.declared.Call.the-variants as log
+use Rattle.printing.specs.Listing.{listingText, refusalText}
+
+-- what a run comes to: the rows of the table at the end, or a refusal's number and line
+pub data Outcome : Type 0 where
+  listed : List Row → Outcome
+  refused : ℕ → ℕ → Outcome
+
+-- a log line, Malformed where it lacks its byte 10 or has over 64 bytes
+unfoldable pub callIn : Line → Call
+callIn l = cond (isRecord l) (callOf (l .bytes)) log.Malformed
+
+-- the first log line: "7 ... `open` missing"
+unfoldable pub openingAnswer : Call → Answer Model
+openingAnswer (log.Open o) = model.opening o
+openingAnswer log.Malformed = model.refused 7 (model.model (pos 0) firstFloor [])
+openingAnswer (log.Event k) = model.refused 7 (model.model (pos 0) firstFloor [])
+openingAnswer (log.Clock x) = model.refused 7 (model.model (pos 0) firstFloor [])
+openingAnswer (log.Forget f) = model.refused 7 (model.model (pos 0) firstFloor [])
+
+-- every other log line: "7 a log line not of its form, a code above 255, `open` ... repeated", or what the reference model answers
+unfoldable pub callAnswer : List Operator → ℕ → Model → Call → Answer Model
+callAnswer ops room m log.Malformed = model.refused 7 m
+callAnswer ops room m (log.Open o) = model.refused 7 m
+callAnswer ops room m (log.Event k) = model.step ops room m (model.event k)
+callAnswer ops room m (log.Clock x) = model.step ops room m (model.clock x)
+callAnswer ops room m (log.Forget f) = model.step ops room m (model.forget f)
+
+-- the log lines after the opening, from line n of the input on; the first refusal ends the run
+unfoldable pub playCalls : List Operator → ℕ → Model → ℕ → List Line → Outcome
+playCalls ops room m n [] = listed (rowsOf ops m)
+playCalls ops room m n (l ∷ ls) =
+    let a = callAnswer ops room m (callIn l) in
+    cond (eqb (a .number) 0) (playCalls ops room (a .state) (suc n) ls) (refused (a .number) n)
+
+-- the log, from line n of the input on, which is one past the last where there is no log line
+unfoldable pub playLog : List Operator → ℕ → ℕ → List Line → Outcome
+playLog ops room n [] = refused 7 n
+playLog ops room n (l ∷ ls) =
+    let a = openingAnswer (callIn l) in
+    cond (eqb (a .number) 0) (playCalls ops room (a .state) (suc n) ls) (refused (a .number) n)
+
+-- "The first empty line ends the chart."
+abbrev pub isEmpty : Line → Bool
+isEmpty l = l .ended && eqb (length (l .bytes)) 0
+
+unfoldable pub chartLines : List Line → List Line
+chartLines [] = []
+chartLines (l ∷ ls) = cond (isEmpty l) [] (l ∷ chartLines ls)
+
+unfoldable pub logLines : List Line → List Line
+logLines [] = []
+logLines (l ∷ ls) = cond (isEmpty l) ls (logLines ls)
+
+unfoldable pub playLines : ℕ → List Line → Outcome
+playLines room ls =
+    let a = orNoLine (chartLines ls) in
+    cond (eqb (a .refusal) 0) (playLog (operatorsOf (a .chart)) room (suc (length ls - length (logLines ls))) (logLines ls)) (refused (a .refusal) (a .line))
+
+-- the bytes printed
+unfoldable pub outcomeText : Outcome → List ℕ
+outcomeText (listed rs) = listingText rs
+outcomeText (refused n line) = refusalText n line
+
+unfoldable pub printedFor : ℕ → List ℕ → List ℕ
+printedFor room input = outcomeText (playLines room (lines input))

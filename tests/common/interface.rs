@@ -1,0 +1,88 @@
+//! The C interface of the watch as Rust values: the structs of include/chronicle.h, and its calls with slices in the
+//! place of pointers and lengths, so that one test runs on the proved watch and on any other.
+
+pub const MOST_ENTRIES: usize = 32;
+pub const MOST_PENDING: usize = 64;
+
+#[repr(C)]
+#[derive(Clone, Copy, Debug, PartialEq)]
+pub struct Entry {
+    pub op: u8,
+    pub a: u32,
+    pub b: u32,
+}
+
+#[repr(C)]
+#[derive(Clone, Copy, Debug, PartialEq)]
+pub struct Chart {
+    pub count: usize,
+    pub entries: [Entry; 32],
+}
+
+#[repr(C)]
+#[derive(Clone, Copy, Debug, PartialEq)]
+pub struct ChartAnswer {
+    pub refusal: u32,
+    pub line: u32,
+    pub chart: Chart,
+}
+
+#[repr(C)]
+#[derive(Clone, Copy, Debug, PartialEq)]
+pub struct Watch {
+    pub instant: i32,
+    pub floor: i32,
+    pub events: usize,
+    pub rows: usize,
+    pub pending: usize,
+    pub codes: [u8; 64],
+}
+
+#[repr(C)]
+#[derive(Clone, Copy, Debug, PartialEq)]
+pub struct Answer {
+    pub refusal: u32,
+    pub watch: Watch,
+}
+
+/// The rows `first` to `first + count - 1`. Where no row has the end asked for, `count` is 0 and `first` is how many
+/// rows end before it; of a refused call both are 0.
+#[repr(C)]
+#[derive(Clone, Copy, Debug, PartialEq)]
+pub struct Rows {
+    pub first: usize,
+    pub count: usize,
+}
+
+#[repr(C)]
+#[derive(Clone, Copy, Debug, PartialEq)]
+pub struct TreeAnswer {
+    pub refusal: u32,
+    pub length: usize,
+}
+
+/// The calls of a watch, the proved one or another.
+#[derive(Clone, Copy)]
+pub struct Calls {
+    pub read_chart: fn(&[u8]) -> ChartAnswer,
+    pub open: fn(Chart, &mut [i32], i32) -> Answer,
+    pub event: fn(Watch, Chart, &[i32], u8) -> Answer,
+    pub clock: fn(Watch, Chart, &mut [i32], i32) -> Answer,
+    pub forget: fn(Watch, Chart, &mut [i32], i32) -> Answer,
+    pub check: fn(Watch, Chart, &[i32]) -> u32,
+    pub rows_ending: fn(Watch, Chart, &[i32], i32) -> Rows,
+    pub tree: fn(Watch, Chart, &[i32], usize, &mut [u8]) -> TreeAnswer,
+}
+
+impl Chart {
+    pub fn no_entries() -> Chart {
+        Chart { count: 0, entries: [Entry { op: 0, a: 0, b: 0 }; MOST_ENTRIES] }
+    }
+}
+
+impl Watch {
+    /// "Floor -1,000,000,000, counts 0, no events."
+    pub fn empty(instant: i32) -> Watch {
+        Watch { instant, floor: -1_000_000_000, events: 0, rows: 0, pending: 0, codes: [0; MOST_PENDING] }
+    }
+}

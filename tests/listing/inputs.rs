@@ -1,0 +1,214 @@
+//! Inputs of the listing program from a seed: a chart, an empty line and a log, small enough for all recognitions to be
+//! enumerated. Each kind is drawn for something of its own; any of them may be taken or refused.
+
+use crate::damage;
+use common::paper::lines;
+use common::random::Random;
+use common::random_charts;
+use common::random_inputs;
+use oracle::listing::TABLE_ROWS;
+
+const LEAST: i64 = -1_000_000_000;
+const GREATEST: i64 = 1_000_000_000;
+
+/// Instants at the edges of their range, of a machine word and of the spelling.
+pub const SPELLINGS: [&str; 34] = [
+    "", "-", "0", "-0", "00", "-00", "01", "-01", "+1", "1", "-1", " 1", "1 ", "--1", "999999999", "-999999999",
+    "1000000000", "-1000000000", "1000000001", "-1000000001", "2147483647", "2147483648", "-2147483648", "-2147483649",
+    "4294967295", "4294967296", "-4294967296", "4294967297", "9999999999", "-9999999999", "10000000000",
+    "-10000000000", "18446744073709551616", "1000000000\r",
+];
+
+/// An input, and how many rows the table to play it on can hold.
+pub struct Case {
+    pub input: Vec<u8>,
+    pub table_rows: usize,
+}
+
+pub struct Kind {
+    pub name: &'static str,
+    /// How many of a hundred inputs are of this kind.
+    share: usize,
+    pub draw: fn(&mut Random) -> Case,
+}
+
+const KINDS: [Kind; 8] = [
+    Kind { name: "sound", share: 20, draw: |random| on_full_table(sound(random)) },
+    Kind { name: "small table", share: 10, draw: on_small_table },
+    Kind { name: "damaged", share: 38, draw: |random| on_full_table(damaged(random)) },
+    Kind { name: "damaged chart", share: 12, draw: |random| on_full_table(damaged_chart(random)) },
+    Kind { name: "edge of the range", share: 12, draw: |random| on_full_table(at_an_edge(random)) },
+    Kind { name: "60 to 66 events", share: 2, draw: |random| on_full_table(crowded(random)) },
+    Kind { name: "about 3,000 rows", share: 1, draw: |random| on_full_table(filling(random)) },
+    Kind { name: "any bytes", share: 5, draw: |random| on_full_table(any_bytes(random)) },
+];
+
+/// A kind, by its share.
+pub fn kind(random: &mut Random) -> &'static Kind {
+    let mut place = random.below(KINDS.iter().map(|kind| kind.share).sum());
+    for kind in &KINDS {
+        if place < kind.share {
+            return kind;
+        }
+        place -= kind.share;
+    }
+    unreachable!("the place is below the sum of all shares")
+}
+
+fn on_full_table(input: Vec<u8>) -> Case {
+    Case { input, table_rows: TABLE_ROWS }
+}
+
+fn on_small_table(random: &mut Random) -> Case {
+    let table_rows = random.below(60);
+    Case { input: sound(random), table_rows }
+}
+
+/// A sound chart and log, but for a call refused now and then.
+fn sound(random: &mut Random) -> Vec<u8> {
+    let opening = opening(random);
+    let length = random.below(40);
+    let log = log(random, opening, length);
+    format!("{}\n{log}", chart(random)).into_bytes()
+}
+
+fn chart(random: &mut Random) -> String {
+    let operators = random.below(9);
+    if random.one_in(3) {
+        random_inputs::interval_chart(random, operators)
+    } else {
+        random_inputs::chart(random, operators, 3)
+    }
+}
+
+fn opening(random: &mut Random) -> i64 {
+    match random.below(8) {
+        0 => LEAST + random.below(3) as i64,
+        1 => GREATEST - random.below(40) as i64,
+        2 => random.between(LEAST as i32, GREATEST as i32).into(),
+        _ => random.between(-20, 5).into(),
+    }
+}
+
+fn log(random: &mut Random, opening: i64, length: usize) -> String {
+    let (mut instant, mut floor) = (opening, LEAST);
+    let mut text = format!("open\t{opening}\n");
+    for _ in 0..length {
+        text += &match random.below(12) {
+            0 => {
+                floor = new_floor(random, instant, floor);
+                format!("forget\t{floor}\n")
+            }
+            1..=4 => {
+                instant = new_instant(random, instant);
+                format!("clock\t{instant}\n")
+            }
+            _ => format!("event\t{}\n", code(random)),
+        };
+    }
+    text + &format!("clock\t{}\n", instant + 1)
+}
+
+/// A mark after the open instant; now and then far after it, or not after it.
+fn new_instant(random: &mut Random, instant: i64) -> i64 {
+    match random.below(100) {
+        0 => instant - random.below(2) as i64,
+        1 => GREATEST + random.below(2) as i64,
+        2 | 3 => instant + random.below(1_000_000_000) as i64,
+        _ => instant + 1 + random.below(3) as i64,
+    }
+}
+
+/// A floor just before the open instant; now and then above it or below the floor.
+fn new_floor(random: &mut Random, instant: i64, floor: i64) -> i64 {
+    match random.below(40) {
+        0 => instant + 1,
+        1 => floor - 1,
+        2 => floor,
+        _ => (instant - random.below(9) as i64).max(floor),
+    }
+}
+
+/// Mostly a code that the chart names; 4 is named by none and counts in the serials all the same.
+fn code(random: &mut Random) -> usize {
+    if random.one_in(30) {
+        random.pick(&[0, 9, 10, 99, 100, 254, 255])
+    } else {
+        1 + random.below(4)
+    }
+}
+
+/// One to three damages, anywhere in chart, empty line and log.
+fn damaged(random: &mut Random) -> Vec<u8> {
+    let mut lines: Vec<Vec<u8>> = lines(&sound(random)).map(<[u8]>::to_vec).collect();
+    for _ in 0..1 + random.below(3) {
+        damage::any(random, &mut lines);
+    }
+    lines.concat()
+}
+
+/// A chart that its reader mostly refuses, of up to 34 lines; the empty line is missing now and then. A chart taken is
+/// played without an event, since its recognitions may be very many.
+fn damaged_chart(random: &mut Random) -> Vec<u8> {
+    let chart = random_charts::any(random);
+    let parting: &[u8] = if random.one_in(10) { b"" } else { b"\n" };
+    let log: &[u8] =
+        random.pick(&[b"open\t-1\nclock\t0\n" as &[u8], b"open\t0\n", b"event\t1\n", b"open\t0\nclock\t0\n", b""]);
+    [&chart, parting, log].concat()
+}
+
+/// A log with an instant of `SPELLINGS` in one to three of its lines.
+fn at_an_edge(random: &mut Random) -> Vec<u8> {
+    let mut text = format!("0\tevent\t1\n1\tseq\t0\t0\n2\tatleast\t1\t{}\n\n", random.pick(&[0, 1_999_999_998]));
+    let opening = if random.one_in(2) { "-1000000000" } else { random.pick(&SPELLINGS) };
+    text += &format!("open\t{opening}\nevent\t1\n");
+    for _ in 0..random.below(4) {
+        let spelling = if random.one_in(2) { random.pick(&SPELLINGS) } else { random.pick(&SPELLINGS[14..20]) };
+        text += &format!("{}\t{spelling}\n", random.pick(&["clock", "clock", "forget"]));
+        text += if random.one_in(3) { "event\t1\n" } else { "" };
+    }
+    text.into_bytes()
+}
+
+/// About as many events in one instant as it takes, after another instant or in the first.
+fn crowded(random: &mut Random) -> Vec<u8> {
+    let mut text = "0\tevent\t1\n1\tevent\t2\n2\tequals\t0\t1\n\nopen\t-3\n".to_string();
+    for _ in 0..random.below(2) {
+        text += "event\t1\nclock\t-2\n";
+    }
+    for _ in 0..60 + random.below(7) {
+        text += &format!("event\t{}\n", random.pick(&[1, 2, 3]));
+    }
+    (text + "clock\t0\n").into_bytes()
+}
+
+/// Pairs that leave room for about 30 rows of 3,000, and about 30 events to fill it, with forgets or without.
+fn filling(random: &mut Random) -> Vec<u8> {
+    let mut text = "0\tevent\t1\n1\tevent\t2\n2\tand\t0\t0\n\nopen\t-2\n".to_string();
+    if random.one_in(2) {
+        // A row from before, kept or forgotten.
+        text += "event\t2\nclock\t-1\n";
+        text += if random.one_in(2) { "forget\t-1\n" } else { "" };
+    }
+    let pairs = if random.one_in(4) { 50 + random.below(5) } else { 54 };
+    text += &"event\t1\n".repeat(pairs);
+    text += "clock\t0\n";
+    text += &"event\t2\n".repeat(28 + random.below(4));
+    text += "clock\t1\n";
+    text += if random.one_in(2) { "forget\t0\nevent\t1\nclock\t2\n" } else { "" };
+    text.into_bytes()
+}
+
+/// No chart at all, but bytes that occur in one.
+fn any_bytes(random: &mut Random) -> Vec<u8> {
+    let length = random.below(100);
+    let are_all = random.one_in(2);
+    let byte = |random: &mut Random| {
+        if are_all {
+            random.below(256) as u8
+        } else {
+            random.pick(b"01\t\t\n\n-eventclockopen[]")
+        }
+    };
+    (0..length).map(|_| byte(random)).collect()
+}

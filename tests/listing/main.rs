@@ -1,0 +1,197 @@
+//! Compares the proved listing with the set-building program on inputs by plan and from fixed seeds, and with the plain
+//! program on long ones. With --self-test it compares programs that are wrong on purpose instead, and each of them must
+//! be found.
+
+mod damage;
+mod inputs;
+mod planned;
+mod proved_listing;
+mod wrong_programs;
+
+use common::random::Random;
+use inputs::Case;
+use oracle::listing::{listing, TABLE_ROWS};
+use oracle::model::Over;
+use plain_listing::long_logs::{one_event_too_many, WORKLOADS};
+use proved_listing::Lent;
+use std::collections::BTreeMap;
+use std::process::ExitCode;
+use wrong_programs::list_all;
+
+const SEEDS: [u64; 4] = [51, 52, 53, 54];
+const INPUTS_PER_SEED: usize = 30_000;
+/// Enough to find a wrong program.
+const SELF_TEST_INPUTS: usize = 4_000;
+const LONG_EVENTS: usize = 100_000;
+const LONG_FILLINGS: [usize; 2] = [100, 2_900];
+/// How often each refusal must be met, or the run is no test of it; 10 takes a million events and is met once.
+const LEAST_MET: usize = 100;
+
+/// What a program prints for an input on a table of so many rows, or what else is wrong.
+type Program<'a> = dyn FnMut(&[u8], usize) -> Result<Vec<u8>, String> + 'a;
+
+fn main() -> ExitCode {
+    let arguments: Vec<String> = std::env::args().skip(1).collect();
+    let passed = match arguments.iter().map(String::as_str).collect::<Vec<&str>>().as_slice() {
+        [] => compare_proved(),
+        ["--self-test"] => find_wrong_programs(),
+        _ => {
+            eprintln!("use: listing_test [--self-test]");
+            return ExitCode::from(2);
+        }
+    };
+    if passed {
+        ExitCode::SUCCESS
+    } else {
+        ExitCode::FAILURE
+    }
+}
+
+/// What the inputs of a run reached.
+struct Met {
+    /// How many were refused with each number, 0 for none.
+    refusals: BTreeMap<u32, usize>,
+    kinds: BTreeMap<&'static str, usize>,
+    rows: usize,
+    full_tables: usize,
+}
+
+impl Met {
+    fn nothing() -> Met {
+        let refusals = (0..=12).map(|number| (number, 0)).collect();
+        Met { refusals, kinds: BTreeMap::new(), rows: 0, full_tables: 0 }
+    }
+
+    fn count(&mut self, kind: &'static str, printed: &[u8], table_rows: usize) {
+        let number = printed.strip_prefix(b"refused\t").and_then(|text| text.split(|byte| *byte == b'\t').next());
+        let number = number.map_or(0, |digits| digits.iter().fold(0, |n, digit| n * 10 + u32::from(digit - b'0')));
+        *self.refusals.entry(number).or_default() += 1;
+        *self.kinds.entry(kind).or_default() += 1;
+        if number == 0 {
+            let rows = printed.iter().filter(|byte| **byte == b'\n').count() - 1;
+            self.rows += rows;
+            self.full_tables += usize::from(rows == table_rows);
+        }
+    }
+
+    fn is_enough(&self) -> bool {
+        let least = |number: u32| if number == 10 { 1 } else { LEAST_MET };
+        self.refusals.iter().all(|(number, count)| *count >= least(*number)) && self.full_tables >= LEAST_MET
+    }
+
+    fn print(&self) {
+        println!("{} inputs, no difference", self.kinds.values().sum::<usize>());
+        self.kinds.iter().for_each(|(kind, count)| println!("  {kind:<18} {count:>7}"));
+        let counts: Vec<String> = self.refusals.iter().map(|(number, count)| format!("{number}: {count}")).collect();
+        println!("refused with each number (0: not refused)\n  {}", counts.join("  "));
+        println!("{} rows listed, {} tables full to the last row", self.rows, self.full_tables);
+        if !self.is_enough() {
+            println!("one of these was met fewer than {LEAST_MET} times");
+        }
+    }
+}
+
+/// What must be printed, as the set-building program finds it.
+fn expected(case: &Case) -> Vec<u8> {
+    listing(&case.input, case.table_rows, Over::EventsFromFloor)
+}
+
+/// Nothing, or what the difference is.
+fn compare(program: &mut Program, case: &Case, expected: &[u8]) -> Result<(), String> {
+    match program(&case.input, case.table_rows) {
+        Ok(printed) if printed == expected => Ok(()),
+        Ok(printed) => Err(described(case, &format!("\"{}\"", shortened(&printed)), expected)),
+        Err(fault) => Err(described(case, &fault, expected)),
+    }
+}
+
+fn described(case: &Case, found: &str, expected: &[u8]) -> String {
+    let Case { input, table_rows } = case;
+    format!(
+        "input \"{}\"\ntable of {table_rows} rows\nexpected \"{}\"\nfound {found}",
+        shortened(input),
+        shortened(expected)
+    )
+}
+
+/// The beginning of a long text.
+fn shortened(text: &[u8]) -> String {
+    let end = if text.len() > 4_000 { "..." } else { "" };
+    format!("{}{end}", text[..text.len().min(4_000)].escape_ascii())
+}
+
+/// Compares a program on the inputs by plan and on so many from each seed, up to the first difference.
+fn compare_short(program: &mut Program, per_seed: usize, met: &mut Met) -> Result<(), String> {
+    let mut compare_case = |kind: &'static str, case: Case| {
+        let expected = expected(&case);
+        met.count(kind, &expected, case.table_rows);
+        compare(program, &case, &expected)
+    };
+    planned::all().try_for_each(|case| compare_case("P1 damaged", case))?;
+    for seed in SEEDS {
+        let mut random = Random::new(seed);
+        for _ in 0..per_seed {
+            let kind = inputs::kind(&mut random);
+            compare_case(kind.name, (kind.draw)(&mut random))?;
+        }
+    }
+    Ok(())
+}
+
+/// Compares a program with the plain one on inputs of many events.
+fn compare_long(program: &mut Program, met: &mut Met) -> Result<(), String> {
+    let drawn = WORKLOADS.iter().flat_map(|workload| {
+        LONG_FILLINGS.map(|filling| workload.draw(&mut Random::new(filling as u64), LONG_EVENTS, filling).input)
+    });
+    for input in drawn.chain([one_event_too_many()]) {
+        let expected = list_all(&input, TABLE_ROWS);
+        met.count("many events", &expected, TABLE_ROWS);
+        compare(program, &Case { input, table_rows: TABLE_ROWS }, &expected)?;
+    }
+    Ok(())
+}
+
+/// An output of fewer bytes than the largest table could take gets nothing.
+fn compare_short_outputs(lent: &mut Lent) -> Result<(), String> {
+    for rows in [0, 8, TABLE_ROWS] {
+        for length in [0, 30, proved_listing::out_length(rows) - 1] {
+            let printed = lent.list_into(planned::P1, rows, length)?;
+            if !printed.is_empty() {
+                return Err(format!("{} bytes printed on an output of {length}, table of {rows} rows", printed.len()));
+            }
+        }
+    }
+    Ok(())
+}
+
+fn compare_proved() -> bool {
+    let mut met = Met::nothing();
+    let mut lent = Lent::new();
+    let compared = compare_short(&mut |input, rows| lent.list(input, rows), INPUTS_PER_SEED, &mut met)
+        .and_then(|()| compare_long(&mut |input, rows| lent.list(input, rows), &mut met))
+        .and_then(|()| compare_short_outputs(&mut lent));
+    if let Err(difference) = compared {
+        println!("difference: {difference}");
+        return false;
+    }
+    met.print();
+    met.is_enough()
+}
+
+/// Whether the comparison finds nothing in the plain program and something in every wrong one.
+fn find_wrong_programs() -> bool {
+    let compare = |list: fn(&[u8], usize) -> Vec<u8>| {
+        compare_short(&mut |input, rows| Ok(list(input, rows)), SELF_TEST_INPUTS, &mut Met::nothing())
+    };
+    if let Err(difference) = compare(list_all) {
+        println!("difference in the plain program: {difference}");
+        return false;
+    }
+    println!("no difference: the plain program");
+    let missed = wrong_programs::ALL.iter().filter(|wrong| {
+        let is_found = compare(wrong.list).is_err();
+        println!("{}: {}", if is_found { "found" } else { "not found" }, wrong.fault);
+        !is_found
+    });
+    missed.count() == 0
+}

@@ -1,0 +1,243 @@
+//! Runs the listing program itself and compares what it prints: input in pieces of any size, lines and inputs of any
+//! length within a bounded memory, and inputs and outputs that are no files of text.
+
+mod damage;
+#[allow(dead_code)]
+mod inputs;
+mod terminal;
+
+use common::random::Random;
+use oracle::listing::{listing, TABLE_ROWS};
+use oracle::model::Over;
+use plain_listing::list;
+use plain_listing::long_logs::{one_event_too_many, WORKLOADS};
+use std::fs::{self, File};
+use std::io::{self, Read, Write};
+use std::os::unix::process::ExitStatusExt;
+use std::process::{Child, ChildStdin, Command, ExitCode, ExitStatus, Output, Stdio};
+use std::thread;
+use std::time::{Duration, Instant};
+
+const RUNS: usize = 300;
+const MILLION: usize = 1_000_000;
+const GIGABYTE: usize = 1 << 30;
+/// The kilobytes of address space that the program may have, its code and libraries included.
+const MEMORY: usize = 65_536;
+/// A run that takes longer is taken for one that never ends.
+const LONGEST_RUN: Duration = Duration::from_secs(120);
+const BROKEN_PIPE: i32 = 13;
+
+/// Nothing, or what the first difference was.
+type Compared = Result<(), String>;
+
+fn main() -> ExitCode {
+    let Some(path) = std::env::args().nth(1).filter(|_| std::env::args().count() == 2) else {
+        eprintln!("use: listing_processes LISTING");
+        return ExitCode::from(2);
+    };
+    let parts: [(&str, fn(&str) -> Compared); 7] = [
+        ("inputs in pieces", in_pieces),
+        ("lines of a gigabyte", long_lines),
+        ("a million events and more", many_events),
+        ("millions of lines", many_lines),
+        ("inputs that are no text", odd_inputs),
+        ("a terminal", terminal::compare),
+        ("outputs that take nothing", odd_outputs),
+    ];
+    for (name, compare) in parts {
+        if let Err(difference) = compare(&path) {
+            println!("{name}: {difference}");
+            return ExitCode::FAILURE;
+        }
+        println!("{name}: as expected");
+    }
+    ExitCode::SUCCESS
+}
+
+/// The program, with no more memory than it is allowed.
+fn program(path: &str) -> Command {
+    let mut command = Command::new("sh");
+    command.args(["-c", &format!("ulimit -v {MEMORY} && exec \"$0\""), path]);
+    command.stdout(Stdio::piped()).stderr(Stdio::piped());
+    command
+}
+
+/// Runs the program on what `write` writes into its standard input. That the program ends before it has read all is no
+/// fault, so whether all could be written does not matter.
+fn run(path: &str, write: impl FnOnce(&mut ChildStdin) -> io::Result<()> + Send + 'static) -> Output {
+    let mut child = program(path).stdin(Stdio::piped()).spawn().expect("the program can be run");
+    let mut input = child.stdin.take().expect("the input is piped");
+    let writer = thread::spawn(move || drop(write(&mut input)));
+    let output = finished(child);
+    writer.join().expect("the writer ends");
+    output
+}
+
+/// What a run printed; a run that never ends is stopped and has a signal in its status.
+fn finished(mut child: Child) -> Output {
+    let stdout = child.stdout.take().map(read_all);
+    let stderr = child.stderr.take().map(read_all);
+    let start = Instant::now();
+    let status = loop {
+        if let Some(status) = child.try_wait().expect("the program can be waited for") {
+            break status;
+        }
+        if start.elapsed() > LONGEST_RUN {
+            child.kill().expect("the program can be stopped");
+        }
+        thread::sleep(Duration::from_micros(200));
+    };
+    let bytes =
+        |reader: Option<thread::JoinHandle<Vec<u8>>>| reader.map_or(Vec::new(), |reader| reader.join().unwrap());
+    Output { status, stdout: bytes(stdout), stderr: bytes(stderr) }
+}
+
+fn read_all(mut source: impl Read + Send + 'static) -> thread::JoinHandle<Vec<u8>> {
+    thread::spawn(move || {
+        let mut bytes = Vec::new();
+        source.read_to_end(&mut bytes).expect("a pipe can be read");
+        bytes
+    })
+}
+
+/// The expected output, nothing on standard error, and the exit status of success, for refusals too.
+fn compare(what: &str, output: &Output, expected: &[u8]) -> Compared {
+    if output.status.success() && output.stdout == expected && output.stderr.is_empty() {
+        return Ok(());
+    }
+    let start = |text: &[u8]| text[..text.len().min(2_000)].escape_ascii().to_string();
+    let (printed, said) = (start(&output.stdout), start(&output.stderr));
+    Err(format!("{what}\nexpected \"{}\"\nprinted \"{printed}\", said \"{said}\", {}", start(expected), output.status))
+}
+
+/// Writes in pieces of random sizes, with a rest after some of them, so that the program's reads come short.
+fn write_pieces(input: &mut ChildStdin, bytes: &[u8], longest: usize, seed: u64) -> io::Result<()> {
+    let mut random = Random::new(seed);
+    let mut left = bytes;
+    while !left.is_empty() {
+        let (piece, rest) = left.split_at((1 + random.below(longest)).min(left.len()));
+        input.write_all(piece)?;
+        input.flush()?;
+        if bytes.len() < 10_000 && random.one_in(2) {
+            thread::sleep(Duration::from_micros(100));
+        }
+        left = rest;
+    }
+    Ok(())
+}
+
+fn in_pieces(path: &str) -> Compared {
+    let mut random = Random::new(61);
+    for seed in 0..RUNS as u64 {
+        let input = (inputs::kind(&mut random).draw)(&mut random).input;
+        let expected = listing(&input, TABLE_ROWS, Over::EventsFromFloor);
+        let what = format!("input \"{}\"", input.escape_ascii());
+        let longest = random.pick(&[1, 3, 20, 100, 5_000]);
+        let output = run(path, move |pipe| write_pieces(pipe, &input, longest, seed));
+        compare(&what, &output, &expected)?;
+    }
+    Ok(())
+}
+
+/// Some bytes, then so many copies of another, a megabyte at a time.
+fn write_many(input: &mut ChildStdin, first: &[u8], text: &[u8], length: usize) -> io::Result<()> {
+    let megabyte = text.repeat((1 << 20) / text.len());
+    input.write_all(first)?;
+    (0..length / megabyte.len()).try_for_each(|_| input.write_all(&megabyte))
+}
+
+/// A gigabyte without byte 10, as the first chart line, a 33rd, the parting line, the first line of the log and a later
+/// one; and a gigabyte of empty lines in the log.
+fn long_lines(path: &str) -> Compared {
+    let entries = |count: usize| (0..count).map(|number| format!("{number}\tevent\t1\n")).collect::<String>();
+    let cases: [(String, &[u8], &str); 7] = [
+        (String::new(), b"x", "refused\t3\t1\n"),
+        (String::new(), &[0], "refused\t3\t1\n"),
+        (entries(32), b"0", "refused\t2\t33\n"),
+        (entries(1), b"\t", "refused\t3\t2\n"),
+        (entries(1) + "\n", b" ", "refused\t7\t3\n"),
+        (entries(1) + "\nopen\t0\nevent\t", b"1", "refused\t7\t4\n"),
+        (entries(1) + "\nopen\t0\n", b"\n", "refused\t7\t4\n"),
+    ];
+    for (first, text, expected) in cases {
+        let what = format!("\"{}\", then a gigabyte of \"{}\"", first.escape_debug(), text.escape_ascii());
+        let text = text.to_vec();
+        let output = run(path, move |pipe| write_many(pipe, first.as_bytes(), &text, GIGABYTE));
+        compare(&what, &output, expected.as_bytes())?;
+    }
+    Ok(())
+}
+
+fn many_events(path: &str) -> Compared {
+    let drawn = WORKLOADS.iter().map(|workload| workload.draw(&mut Random::new(62), MILLION, 500).input);
+    for (seed, input) in drawn.chain([one_event_too_many()]).enumerate() {
+        let expected = list(&input[..], TABLE_ROWS).expect("bytes in memory can be read");
+        let output = run(path, move |pipe| write_pieces(pipe, &input, 20_000, seed as u64));
+        compare("an input of a million events", &output, &expected)?;
+    }
+    Ok(())
+}
+
+/// Forgets that alter nothing, and then one that is refused.
+fn many_lines(path: &str) -> Compared {
+    let first = "0\tevent\t1\n\nopen\t-7\nevent\t1\nclock\t0\n";
+    let forget = b"forget\t-1000000000\n";
+    let a_megabyte = (1 << 20) / forget.len();
+    let (megabytes, length) = (64, 64 * a_megabyte * forget.len());
+    let sound = run(path, move |pipe| write_many(pipe, first.as_bytes(), forget, length));
+    compare("millions of forgets", &sound, b"row\tentry\tleft\tright\tstart\tend\n0\t0\t1\t-1\t-7\t-7\n")?;
+    let refused = run(path, move |pipe| {
+        write_many(pipe, first.as_bytes(), forget, length)?;
+        pipe.write_all(b"forget\t1\n")
+    });
+    let line = 5 + megabytes * a_megabyte + 1;
+    compare("millions of forgets, the last refused", &refused, format!("refused\t11\t{line}\n").as_bytes())
+}
+
+/// Files of any bytes, and inputs that cannot be read, which are taken as empty.
+fn odd_inputs(path: &str) -> Compared {
+    for file in ["/dev/null", "/bin/sh", path] {
+        let bytes = fs::read(file).expect("the file can be read");
+        let input = File::open(file).expect("the file can be opened");
+        let child = program(path).stdin(input).spawn().expect("the program can be run");
+        compare(file, &finished(child), &listing(&bytes, TABLE_ROWS, Over::EventsFromFloor))?;
+    }
+    let folder = program(path).stdin(File::open("/").expect("a folder can be opened")).spawn();
+    compare_unreadable("a folder as input", &finished(folder.expect("the program can be run")))?;
+    let mut closed = Command::new("sh");
+    closed.args(["-c", "exec \"$0\" <&-", path]).stdout(Stdio::piped()).stderr(Stdio::piped());
+    compare_unreadable("no input at all", &finished(closed.spawn().expect("the program can be run")))
+}
+
+/// What is printed as for an empty input; the exit status is left open.
+fn compare_unreadable(what: &str, output: &Output) -> Compared {
+    let taken = Output { status: ExitStatus::default(), ..output.clone() };
+    compare(what, &taken, b"refused\t1\t1\n")
+}
+
+/// Outputs that are closed, full, or read by nobody: the program ends and says nothing elsewhere.
+fn odd_outputs(path: &str) -> Compared {
+    let printing = |redirection: &str| {
+        let mut command = Command::new("sh");
+        command.args(["-c", &format!("exec \"$0\" {redirection}"), path]);
+        command.stdin(Stdio::null()).stdout(Stdio::piped()).stderr(Stdio::piped());
+        command
+    };
+    for (what, redirection) in [("a closed output", ">&-"), ("a full output", ">/dev/full")] {
+        let child = printing(redirection).spawn().expect("the program can be run");
+        compare_silent(what, &finished(child))?;
+    }
+    let mut unread = program(path).stdin(Stdio::piped()).spawn().expect("the program can be run");
+    drop(unread.stdout.take());
+    drop(unread.stdin.take());
+    compare_silent("an output that nobody reads", &finished(unread))
+}
+
+/// A signal is no end that is wanted, but for the one that tells of a broken pipe.
+fn compare_silent(what: &str, output: &Output) -> Compared {
+    let is_ended = output.status.signal().is_none_or(|signal| signal == BROKEN_PIPE);
+    if is_ended && output.stdout.is_empty() && output.stderr.is_empty() {
+        return Ok(());
+    }
+    Err(format!("{what}: said \"{}\", {}", output.stderr.escape_ascii(), output.status))
+}

@@ -1,0 +1,206 @@
+//! What each call must answer, and what the table must hold after it, for any watch, chart and table, also for those
+//! that no history made: refusals 14 and 13 first, then the step on the rows of the table, by set-building over row
+//! numbers.
+
+use crate::conditions::{has_length, is_forbidding, is_related, Interval};
+use crate::joint;
+use crate::layout::{self, flat, rows_held, rows_in_use};
+use crate::model::{Call, INSTANTS, MOST_EVENTS, MOST_PENDING};
+use crate::recognitions::Row;
+use common::chart_value;
+use common::interface::{Answer, Chart, Watch};
+use common::plain_chart::{Entry, Operator};
+use std::ops::Range;
+
+const NONE: i64 = -1;
+
+/// What a call answers, and the table after it.
+pub type Outcome = (Answer, Vec<i32>);
+
+/// "A refused opening (14, then 8) returns an empty watch at instant 0."
+pub fn open(chart: &Chart, table: &[i32], instant: i32) -> Outcome {
+    let usable = chart_value::entries(chart).is_some();
+    let in_range = INSTANTS.contains(&i64::from(instant));
+    let refusal = if !usable { 14 } else { 8 * u32::from(!in_range) };
+    if refusal != 0 {
+        return (Answer { refusal, watch: Watch::empty(0) }, table.to_vec());
+    }
+    (Answer { refusal, watch: Watch::empty(instant) }, flat(&[], table))
+}
+
+/// 14, 13 or 0 for none.
+pub fn check(watch: &Watch, chart: &Chart, table: &[i32]) -> u32 {
+    entries_in_joint(watch, chart, table).err().unwrap_or(0)
+}
+
+pub fn play(watch: &Watch, chart: &Chart, table: &[i32], call: Call) -> Outcome {
+    let step = entries_in_joint(watch, chart, table).and_then(|entries| match call {
+        Call::Event(code) => event(watch, code).map(|next| (next, table.to_vec())),
+        Call::Clock(instant) => clock(watch, &entries, table, instant),
+        Call::Forget(floor) => forget(watch, &entries, table, floor),
+    });
+    match step {
+        Ok((watch, table)) => (Answer { refusal: 0, watch }, table),
+        // "Every other refusal from 8 on returns the watch given. After a refusal all lent memory holds what it held."
+        Err(refusal) => (Answer { refusal, watch: *watch }, table.to_vec()),
+    }
+}
+
+/// The numbers of the rows with this end; empty where there are none or the call is refused.
+pub fn rows_ending(watch: &Watch, chart: &Chart, table: &[i32], end: i32) -> Range<usize> {
+    if check(watch, chart, table) != 0 {
+        return 0..0;
+    }
+    layout::rows_ending(&rows_in_use(watch, table), end)
+}
+
+/// The bytes of a row's tree, "15 before 16".
+pub fn tree(watch: &Watch, chart: &Chart, table: &[i32], row: usize, room: usize) -> Result<String, u32> {
+    let entries = entries_in_joint(watch, chart, table)?;
+    if row >= watch.rows {
+        return Err(15);
+    }
+    let rows = rows_in_use(watch, table);
+    if tree_lengths(&entries, &rows)[row] > room as u64 {
+        return Err(16);
+    }
+    Ok(tree_text(&entries, &rows, row as i64))
+}
+
+/// A chart's entries, or "14, 13".
+fn entries_in_joint(watch: &Watch, chart: &Chart, table: &[i32]) -> Result<Vec<Entry>, u32> {
+    let entries = chart_value::entries(chart).ok_or(14u32)?;
+    if joint::causes(watch, &entries, table).is_empty() {
+        Ok(entries)
+    } else {
+        Err(13)
+    }
+}
+
+fn event(watch: &Watch, code: u8) -> Result<Watch, u32> {
+    if watch.events == MOST_EVENTS {
+        return Err(10);
+    }
+    if watch.pending == MOST_PENDING {
+        return Err(9);
+    }
+    let mut next = Watch { events: watch.events + 1, pending: watch.pending + 1, ..*watch };
+    next.codes[watch.pending] = code;
+    Ok(next)
+}
+
+fn clock(watch: &Watch, chart: &[Entry], table: &[i32], instant: i64) -> Result<(Watch, Vec<i32>), u32> {
+    if !INSTANTS.contains(&instant) || instant <= i64::from(watch.instant) {
+        return Err(8);
+    }
+    let rows = closed_rows(watch, chart, table).ok_or(12u32)?;
+    let next = Watch { instant: instant as i32, rows: rows.len(), pending: 0, codes: [0; MOST_PENDING], ..*watch };
+    Ok((next, flat(&rows, table)))
+}
+
+fn forget(watch: &Watch, chart: &[Entry], table: &[i32], floor: i64) -> Result<(Watch, Vec<i32>), u32> {
+    if floor < i64::from(watch.floor) || floor > i64::from(watch.instant) || !INSTANTS.contains(&floor) {
+        return Err(11);
+    }
+    let rows = kept_rows(chart, &rows_in_use(watch, table), floor);
+    Ok((Watch { floor: floor as i32, rows: rows.len(), ..*watch }, flat(&rows, table)))
+}
+
+/// The rows there are and, entry by entry, those that end at the open instant; none where they are more than fit.
+fn closed_rows(watch: &Watch, chart: &[Entry], table: &[i32]) -> Option<Vec<Row>> {
+    let held = rows_held(table.len());
+    let mut rows = rows_in_use(watch, table);
+    for (number, entry) in chart.iter().enumerate() {
+        let ends_now = |row: &Row| row.end == i64::from(watch.instant);
+        let made: Vec<Row> = rows_of(watch, number, entry, &rows).filter(ends_now).take(held + 1).collect();
+        rows.extend(made);
+        if rows.len() > held {
+            return None;
+        }
+    }
+    Some(rows)
+}
+
+/// What an entry's line of the operator table makes of the pending events and the rows, in the order of rows.
+fn rows_of<'a>(
+    watch: &'a Watch,
+    number: usize,
+    entry: &'a Entry,
+    rows: &'a [Row],
+) -> Box<dyn Iterator<Item = Row> + 'a> {
+    let of = |operand: u64| (0..rows.len()).filter(move |index| rows[*index].entry as u64 == operand);
+    let (a, b) = (of(entry.first), of(entry.second));
+    let interval = |index: usize| Interval { start: rows[index].start, end: rows[index].end };
+    let row = move |left: i64, right: i64, Interval { start, end }| Row { entry: number, left, right, start, end };
+    let one = move |r: usize| row(r as i64, NONE, interval(r));
+    match entry.operator {
+        Operator::Event => Box::new(pending_events(watch, entry.first).map(move |serial| {
+            let instant = i64::from(watch.instant);
+            row(serial, NONE, Interval { start: instant, end: instant })
+        })),
+        Operator::Or => Box::new(a.map(one).chain(b.map(move |s| row(NONE, s as i64, interval(s))))),
+        Operator::Pair(relation) => Box::new(a.flat_map(move |r| {
+            let related = b.clone().filter(move |s| is_related(relation, interval(r), interval(*s)));
+            related.map(move |s| row(r as i64, s as i64, Interval::spanning(interval(r), interval(s))))
+        })),
+        Operator::Absence(early, late) => {
+            let forbidden = move |r| b.clone().any(|s| is_forbidding(early, late, interval(r), interval(s)));
+            Box::new(a.filter(move |r| !forbidden(*r)).map(one))
+        }
+        Operator::Length(test) => {
+            Box::new(a.filter(move |r| has_length(test, interval(*r), entry.second as i64)).map(one))
+        }
+    }
+}
+
+/// The serials of the pending events of a code. The last of them is the count.
+fn pending_events(watch: &Watch, code: u64) -> impl Iterator<Item = i64> + '_ {
+    let first = (watch.events - watch.pending + 1) as i64;
+    let pending = watch.codes[..watch.pending].iter().zip(first..);
+    pending.filter(move |(pending, _)| u64::from(**pending) == code).map(|(_, serial)| serial)
+}
+
+/// The rows that start at the floor or later, each reference being that row's new number.
+fn kept_rows(chart: &[Entry], rows: &[Row], floor: i64) -> Vec<Row> {
+    let kept: Vec<usize> = (0..rows.len()).filter(|index| rows[*index].start >= floor).collect();
+    let new_number = |reference: i64| match reference {
+        NONE => NONE,
+        _ => kept.iter().position(|index| *index as i64 == reference).expect("an operand starts no earlier") as i64,
+    };
+    let renumbered = |index: &usize| {
+        let row = rows[*index];
+        match chart[row.entry].operator {
+            Operator::Event => row,
+            _ => Row { left: new_number(row.left), right: new_number(row.right), ..row },
+        }
+    };
+    kept.iter().map(renumbered).collect()
+}
+
+/// The length of every row's tree, kept below the greatest number: a tree may have billions of bytes.
+fn tree_lengths(chart: &[Entry], rows: &[Row]) -> Vec<u64> {
+    let mut lengths: Vec<u64> = Vec::with_capacity(rows.len());
+    for row in rows {
+        let part = |reference: i64| if reference == NONE { 1 } else { lengths[reference as usize] };
+        let length = match chart[row.entry].operator {
+            Operator::Event => 1 + row.left.to_string().len() as u64,
+            Operator::Or | Operator::Pair(_) => part(row.left).saturating_add(part(row.right)).saturating_add(3),
+            Operator::Absence(..) | Operator::Length(_) => part(row.left).saturating_add(2),
+        };
+        lengths.push(length);
+    }
+    lengths
+}
+
+fn tree_text(chart: &[Entry], rows: &[Row], reference: i64) -> String {
+    if reference == NONE {
+        return "_".to_string();
+    }
+    let row = rows[reference as usize];
+    let part = |reference: i64| tree_text(chart, rows, reference);
+    match chart[row.entry].operator {
+        Operator::Event => format!("e{}", row.left),
+        Operator::Or | Operator::Pair(_) => format!("<{},{}>", part(row.left), part(row.right)),
+        Operator::Absence(..) | Operator::Length(_) => format!("<{}>", part(row.left)),
+    }
+}

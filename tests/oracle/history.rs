@@ -1,0 +1,72 @@
+//! A history as the C interface shows it: the model's state after each call, laid out as a watch and a table.
+
+use crate::layout::{flat, rows_ending, rows_held};
+use crate::model::{Call, Model, Over, Refusal, MOST_PENDING};
+use crate::recognitions::{Recognitions, Row};
+use common::interface::Watch;
+use common::plain_chart::Entry;
+use std::ops::Range;
+
+pub struct History<'a> {
+    model: Model<'a>,
+    found: Recognitions,
+    /// Which recognitions the rows are, in their order.
+    in_order: Vec<usize>,
+    pub rows: Vec<Row>,
+    pub watch: Watch,
+    pub table: Vec<i32>,
+}
+
+impl<'a> History<'a> {
+    /// An opening on a table, after which so many events, of codes that no entry names, have come and gone.
+    pub fn open(
+        chart: &'a [Entry],
+        table: &[i32],
+        instant: i32,
+        unlisted_events: usize,
+    ) -> Result<History<'a>, Refusal> {
+        let model = Model::open(chart, rows_held(table.len()), Over::EventsFromFloor, instant.into())?;
+        let model = model.with_unlisted_events(unlisted_events);
+        let (found, in_order) = model.recognitions();
+        let table = flat(&[], table);
+        let mut history = History { model, found, in_order, rows: Vec::new(), watch: Watch::empty(instant), table };
+        history.lay_out_watch();
+        Ok(history)
+    }
+
+    pub fn play(&mut self, call: Call) -> Result<(), Refusal> {
+        self.model.play(call)?;
+        if !matches!(call, Call::Event(_)) {
+            (self.found, self.in_order) = self.model.recognitions();
+            self.rows = self.found.rows(&self.in_order);
+            self.table = flat(&self.rows, &self.table);
+        }
+        self.lay_out_watch();
+        Ok(())
+    }
+
+    /// The numbers of the rows with this end; where there are none, the empty range at the place they would have.
+    pub fn rows_ending(&self, end: i32) -> Range<usize> {
+        rows_ending(&self.rows, end)
+    }
+
+    /// The tree of the recognition that a row shows.
+    pub fn tree(&self, row: usize, room: usize) -> Result<String, Refusal> {
+        let index = *self.in_order.get(row).ok_or(15u32)?;
+        Some(self.found.tree(index)).filter(|tree| tree.len() <= room).ok_or(16)
+    }
+
+    fn lay_out_watch(&mut self) {
+        let mut codes = [0; MOST_PENDING];
+        let pending = self.model.pending();
+        pending.iter().zip(&mut codes).for_each(|(event, code)| *code = event.code);
+        self.watch = Watch {
+            instant: self.model.open_instant as i32,
+            floor: self.model.floor as i32,
+            events: self.model.event_count(),
+            rows: self.rows.len(),
+            pending: pending.len(),
+            codes,
+        };
+    }
+}

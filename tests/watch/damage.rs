@@ -1,0 +1,304 @@
+//! Watches, charts and tables that no history made: what a history left, with something in it changed. Each call must
+//! answer what `oracle::any_watch` says, 13 exactly where `oracle::joint` finds a cause.
+
+use crate::histories::{any_row, compare_check_and_rows, compare_tree, Compared};
+use crate::met::Met;
+use crate::random_calls::{self, near_instant_of_row, number, Frequencies, OUT_OF_RANGE};
+use crate::subject::{lent_table, name, Subject};
+use common::chart_value;
+use common::interface::{Answer, Calls, Chart};
+use common::random::Random;
+use oracle::{any_watch, joint};
+
+type Change = fn(&mut Random, &mut Subject);
+
+const CHANGES: [Change; 20] = [
+    change_instant,
+    change_floor,
+    change_count,
+    change_pending,
+    change_rows,
+    change_codes,
+    change_number_in_use,
+    change_number_in_use,
+    change_number_behind,
+    change_reference,
+    change_reference,
+    change_interval_near_end,
+    change_interval_near_end,
+    move_event,
+    swap_rows,
+    copy_row,
+    drop_row,
+    append_row,
+    change_entry,
+    change_entry,
+];
+
+/// Changes a history's last state in one place or more and compares every call on it.
+pub fn compare(calls: &Calls, last: &Subject, random: &mut Random, met: &mut Met) -> Compared {
+    let mut changed = last.clone();
+    let changes = if random.one_in(4) { 2 + random.below(2) } else { 1 };
+    for _ in 0..changes {
+        random.pick(&CHANGES)(random, &mut changed);
+    }
+    if random.one_in(16) {
+        break_chart(random, &mut changed.chart);
+    }
+    if let Some(entries) = chart_value::entries(&changed.chart) {
+        met.count_causes(&joint::causes(&changed.watch, &entries, changed.table.part()));
+    }
+    let compared =
+        compare_plays(calls, &changed, random, met).and_then(|()| compare_reads(calls, &changed, random, met));
+    compared.map_err(|difference| {
+        let Subject { watch, chart, table } = &changed;
+        let entries = &chart.entries[..chart.count.min(chart.entries.len())];
+        let table = table.part();
+        format!("{difference}\nchart of {}: {entries:?}\nwatch {watch:?}\ntable {table:?}", chart.count)
+    })
+}
+
+/// An event, a clock mark and a forget, each on the watch given.
+fn compare_plays(calls: &Calls, given: &Subject, random: &mut Random, met: &mut Met) -> Compared {
+    let only = |events, clocks, forgets| Frequencies { events, clocks, forgets, clocks_to_a_jump: 20 };
+    for frequencies in [only(1, 0, 0), only(0, 1, 0), only(0, 0, 1)] {
+        let Subject { watch, chart, table } = given;
+        let call = random_calls::call(random, frequencies, watch, chart, table.part());
+        let (expected, table) = any_watch::play(watch, chart, table.part(), call);
+        let mut subject = given.clone();
+        let answer = subject.play(calls, call);
+        met.count_answer(name(call), expected.refusal);
+        compare_outcome(&format!("{call:?}"), (answer, &subject), (expected, &table))?;
+    }
+    Ok(())
+}
+
+fn compare_outcome(call: &str, (answer, subject): (Answer, &Subject), expected: (Answer, &Vec<i32>)) -> Compared {
+    if answer != expected.0 {
+        return Err(format!("{call} answered {answer:?}\nexpected {:?}", expected.0));
+    }
+    if !subject.table.holds(expected.1) {
+        return Err(format!("{call} left the table {:?}\nexpected {:?}", subject.table.part(), expected.1));
+    }
+    Ok(())
+}
+
+fn compare_reads(calls: &Calls, given: &Subject, random: &mut Random, met: &mut Met) -> Compared {
+    let Subject { watch, chart, table } = given;
+    let refusal = any_watch::check(watch, chart, table.part());
+    let end = random_calls::end(random, watch, table.part());
+    let rows = any_watch::rows_ending(watch, chart, table.part(), end);
+    compare_check_and_rows(calls, given, end, refusal, rows, met)?;
+    let row = any_row(random, watch.rows.min(65_535));
+    let tree_at = |room: usize| any_watch::tree(watch, chart, table.part(), row, room);
+    compare_tree(calls, given, row, tree_at, random, met)
+}
+
+/// Openings that are refused with 14, with 8, or not at all, on tables of any contents.
+pub fn compare_openings(calls: &Calls, random: &mut Random, met: &mut Met, chart: &Chart, table: &[i32]) -> Compared {
+    let mut chart = *chart;
+    if random.one_in(2) {
+        break_chart(random, &mut chart);
+    }
+    let instant = if random.one_in(4) { random_calls::opening(random) } else { random.pick(&OUT_OF_RANGE) };
+    let (expected, after) = any_watch::open(&chart, table, instant);
+    let mut lent = lent_table(table);
+    let answer = (calls.open)(chart, lent.part_mut(), instant);
+    met.count_answer("open", expected.refusal);
+    let subject = Subject { watch: answer.watch, chart, table: lent };
+    compare_outcome(&format!("opening at {instant}"), (answer, &subject), (expected, &after))
+}
+
+// What can be changed in a watch.
+
+fn change_instant(random: &mut Random, subject: &mut Subject) {
+    let watch = &mut subject.watch;
+    watch.instant = match random.below(4) {
+        0 => random.pick(&OUT_OF_RANGE),
+        1 => watch.floor.saturating_add(random.between(-1, 1)),
+        _ => near_instant_of_row(random, watch, subject.table.part()),
+    };
+}
+
+fn change_floor(random: &mut Random, subject: &mut Subject) {
+    let watch = &mut subject.watch;
+    watch.floor = match random.below(4) {
+        0 => random.pick(&OUT_OF_RANGE),
+        1 => watch.instant.saturating_add(random.between(0, 1)),
+        _ => near_instant_of_row(random, watch, subject.table.part()),
+    };
+}
+
+fn change_count(random: &mut Random, subject: &mut Subject) {
+    let watch = &mut subject.watch;
+    let less = watch.events.saturating_sub(1 + random.below(3));
+    let pending = watch.pending;
+    watch.events =
+        random.pick(&[0, less, less, pending, pending.saturating_sub(1), 999_999, 1_000_000, 1_000_001, usize::MAX]);
+}
+
+fn change_pending(random: &mut Random, subject: &mut Subject) {
+    let watch = &mut subject.watch;
+    watch.pending = random.pick(&[0, 1, 63, 64, 65, 65, watch.events, watch.events.saturating_add(1), usize::MAX]);
+    if random.one_in(2) {
+        watch.events = watch.events.max(watch.pending.min(1_000));
+    }
+    change_codes(random, subject);
+}
+
+fn change_rows(random: &mut Random, subject: &mut Subject) {
+    let (rows, held) = (subject.watch.rows, subject.table.part().len() / 5);
+    let overflowing = usize::MAX / 5 + 1;
+    subject.watch.rows =
+        random.pick(&[0, rows.saturating_sub(1), rows + 1, held, held + 1, held + 1, 65_536, overflowing, usize::MAX]);
+}
+
+/// Codes of the pending events and of the places behind them, which no call looks at.
+fn change_codes(random: &mut Random, subject: &mut Subject) {
+    for _ in 0..1 + random.below(8) {
+        let place = random.below(subject.watch.codes.len());
+        subject.watch.codes[place] = random.pick(&[0, 1, 2, 3, 255]);
+    }
+}
+
+// What can be changed in a table.
+
+fn change_number_in_use(random: &mut Random, subject: &mut Subject) {
+    let end = subject.watch.rows.saturating_mul(5).min(subject.table.part().len());
+    change_number_between(random, subject, 0, end);
+}
+
+/// A number of an unused row, or one after the last row that the table can hold.
+fn change_number_behind(random: &mut Random, subject: &mut Subject) {
+    let end = subject.table.part().len();
+    let from = subject.watch.rows.saturating_mul(5).min(end);
+    change_number_between(random, subject, from, end);
+}
+
+fn change_number_between(random: &mut Random, subject: &mut Subject, from: usize, end: usize) {
+    if from < end {
+        let place = from + random.below(end - from);
+        let old = subject.table.part()[place];
+        let near = old.saturating_add(random.pick(&[-2, -1, 1, 2]));
+        subject.table.part_mut()[place] = if random.one_in(2) { near } else { number(random) };
+    }
+}
+
+/// The rows in use that there are, as numbers.
+fn row_count(subject: &Subject) -> usize {
+    subject.watch.rows.min(subject.table.part().len() / 5)
+}
+
+/// Left or right of a row: none, its own number, another row, or no row.
+fn change_reference(random: &mut Random, subject: &mut Subject) {
+    let rows = row_count(subject);
+    if rows > 0 {
+        let row = random.below(rows);
+        let others = [-1, -1, -2, row as i32, rows as i32, random.below(rows) as i32, random.below(rows) as i32];
+        let reference = random.pick(&others);
+        subject.table.part_mut()[row * 5 + random.pick(&[1, 1, 2])] = reference;
+    }
+}
+
+/// The start or the end of one of the last rows, which few others refer to, moved by a little.
+fn change_interval_near_end(random: &mut Random, subject: &mut Subject) {
+    let rows = row_count(subject);
+    if rows > 0 {
+        let row = rows - 1 - random.below(rows.min(3));
+        let number = &mut subject.table.part_mut()[row * 5 + random.pick(&[3, 4, 4, 4])];
+        *number = number.saturating_add(random.pick(&[-1, 1, 1]));
+    }
+}
+
+/// A row of one instant moved to another.
+fn move_event(random: &mut Random, subject: &mut Subject) {
+    let rows = row_count(subject);
+    if rows > 0 {
+        let at = random.below(rows) * 5;
+        let instant = near_instant_of_row(random, &subject.watch, subject.table.part());
+        let row = &mut subject.table.part_mut()[at..at + 5];
+        if row[3] == row[4] {
+            row[3] = instant;
+            row[4] = instant;
+        }
+    }
+}
+
+fn swap_rows(random: &mut Random, subject: &mut Subject) {
+    let rows = row_count(subject);
+    if rows > 0 {
+        let one = random.below(rows);
+        let other = if random.one_in(2) { (one + 1) % rows } else { random.below(rows) };
+        (0..5).for_each(|place| subject.table.part_mut().swap(one * 5 + place, other * 5 + place));
+    }
+}
+
+fn copy_row(random: &mut Random, subject: &mut Subject) {
+    let rows = row_count(subject);
+    if rows > 0 {
+        let (from, to) = (random.below(rows) * 5, random.below(rows) * 5);
+        subject.table.part_mut().copy_within(from..from + 5, to);
+    }
+}
+
+/// The last rows forgotten without their zeros, or with them.
+fn drop_row(random: &mut Random, subject: &mut Subject) {
+    let rows = row_count(subject);
+    if rows > 0 {
+        subject.watch.rows = rows - 1;
+        if random.one_in(2) {
+            subject.table.part_mut()[(rows - 1) * 5..rows * 5].fill(0);
+        }
+    }
+}
+
+/// A copy of the last row or of another behind the last: a row too many, and yet in joint with the others.
+fn append_row(random: &mut Random, subject: &mut Subject) {
+    let rows = row_count(subject);
+    if rows > 0 && (rows + 1) * 5 <= subject.table.part().len() {
+        let from = if random.one_in(2) { rows - 1 } else { random.below(rows) };
+        subject.table.part_mut().copy_within(from * 5..from * 5 + 5, rows * 5);
+        subject.watch.rows = rows + 1;
+    }
+}
+
+// What can be changed in a chart.
+
+/// Another operator, mostly one that a watch may use too, another operand, code or length.
+fn change_entry(random: &mut Random, subject: &mut Subject) {
+    let chart = &mut subject.chart;
+    let index = random.below(chart.count.clamp(1, 32));
+    let entry = &mut chart.entries[index];
+    match (random.below(4), entry.op) {
+        (0 | 1, 4..=7) => entry.op = 4 + random.below(4) as u8,
+        (0 | 1, 14..=16) => entry.op = 14 + random.below(3) as u8,
+        (0 | 1, 1 | 3 | 8..=13) => entry.op = random.pick(&[1, 3, 8, 9, 10, 11, 12, 13]),
+        (2, _) => entry.a = random.below(index.max(1)) as u32,
+        (3, _) => entry.b = random.below(index.max(6)) as u32,
+        _ => chart.count = chart.count.clamp(2, 32) - 1,
+    }
+}
+
+/// A chart that a watch may not use, most of the time.
+fn break_chart(random: &mut Random, chart: &mut Chart) {
+    let index = random.below(chart.count.clamp(1, 32));
+    let another = chart.entries[random.below(32)];
+    let entry = &mut chart.entries[index];
+    match random.below(6) {
+        0 => chart.count = random.pick(&[0, 33, 34, 1 << 32, usize::MAX]),
+        1 => entry.op = random.pick(&[17, 18, 128, 255]),
+        2 => entry.a = random.pick(&[index as u32, index as u32 + 1, 32, 255, 256, 257, 1 << 31, u32::MAX]),
+        3 => entry.b = random.pick(&[index as u32, 1, 32, 2_000_000_000, 2_000_000_001, u32::MAX]),
+        4 => *entry = another,
+        _ => entry.op = random.below(17) as u8,
+    }
+}
+
+/// Anything in the entries behind the chart's own, which no call looks at.
+pub fn fill_blank_entries(random: &mut Random, chart: &mut Chart) {
+    for entry in chart.entries.iter_mut().skip(chart.count) {
+        entry.op = random.any_u64() as u8;
+        entry.a = random.any_u64() as u32;
+        entry.b = random.any_u64() as u32;
+    }
+}

@@ -1,0 +1,255 @@
+//! Random histories, compared with the set-building program after every call: the refusal's number, every field of the
+//! watch, every number of the table and of the margins around it, rows by their end and trees.
+
+use crate::damage;
+use crate::met::Met;
+use crate::random_calls::{self, Frequencies};
+use crate::subject::{lent_table, name, Lent, Subject};
+use common::chart_value;
+use common::interface::{Calls, Chart, MOST_ENTRIES};
+use common::plain_chart::{self, Entry};
+use common::random::Random;
+use common::random_inputs;
+use oracle::history::History;
+use oracle::model::{Call, MOST_EVENTS};
+use std::ops::Range;
+
+/// Nothing, or what the first difference was.
+pub type Compared = Result<(), String>;
+
+/// A history in the making: the watch under test beside what it must show.
+pub struct Run<'a> {
+    calls: &'a Calls,
+    opening: i32,
+    played: Vec<Call>,
+    pub subject: Subject,
+    pub history: History<'a>,
+}
+
+/// A short history on a small chart and table, and what becomes of its last state when something in it is changed.
+pub fn short(calls: &Calls, random: &mut Random, met: &mut Met) -> Compared {
+    let frequencies = Frequencies { events: 10, clocks: 7, forgets: 1, clocks_to_a_jump: 30 };
+    let table = random_calls::table(random);
+    let entries = entries(random);
+    let chart = chart(random, &entries);
+    if random.one_in(10) {
+        damage::compare_openings(calls, random, met, &chart, &table)?;
+    }
+    // Serials that are nearly spent, as after some 15,000 instants of 64 events that no entry names.
+    let spent = if random.one_in(40) { MOST_EVENTS - random.below(12) } else { 0 };
+    let opening = random_calls::opening(random);
+    let mut run = Run::open(calls, &entries, chart, &table, opening, spent, met)?;
+    if random.one_in(80) {
+        let count = 60 + random.below(8);
+        (0..count).try_for_each(|_| run.event(random, met))?;
+    }
+    let length = random.below(40);
+    run.play_some(random, met, frequencies, length)?;
+    run.finish(met);
+    (0..2).try_for_each(|_| damage::compare(calls, &run.subject, random, met))
+}
+
+/// A long history, in which the table fills and older rows are forgotten over and over.
+pub fn long(calls: &Calls, random: &mut Random, met: &mut Met) -> Compared {
+    let frequencies = Frequencies { events: 10, clocks: 8, forgets: 1, clocks_to_a_jump: 5_000 };
+    let table = vec![7; 500 + random.below(4_000)];
+    let entries = entries(random);
+    let opening = random.pick(&[-1_000_000_000, -500, 0]);
+    let mut run = Run::open(calls, &entries, chart(random, &entries), &table, opening, 0, met)?;
+    for _ in 0..40 {
+        let before = run.history.watch.instant;
+        run.play_some(random, met, frequencies, 15)?;
+        let History { watch, rows, .. } = &run.history;
+        // What started before a row in the middle; everything where no mark was taken.
+        let middle = rows.get(rows.len() / 2).map_or(before.into(), |row| row.start);
+        let floor = if watch.instant == before { before.into() } else { middle };
+        run.play(Call::Forget(floor), met)?;
+    }
+    run.finish(met);
+    Ok(())
+}
+
+/// A sound chart, of all 32 entries now and then.
+fn entries(random: &mut Random) -> Vec<Entry> {
+    let operators = random.below(9);
+    let most_leaves = random.pick(&[2, 3, 4]);
+    let text = match random.below(40) {
+        0 => random_inputs::chart(random, MOST_ENTRIES - 3, most_leaves),
+        1..=12 => random_inputs::interval_chart(random, operators),
+        _ => random_inputs::chart(random, operators, most_leaves),
+    };
+    plain_chart::read(text.as_bytes()).expect("the chart drawn is sound")
+}
+
+/// The chart of these entries; now and then something stands behind them.
+fn chart(random: &mut Random, entries: &[Entry]) -> Chart {
+    let mut chart = chart_value::of(entries);
+    if random.one_in(10) {
+        damage::fill_blank_entries(random, &mut chart);
+    }
+    chart
+}
+
+impl<'a> Run<'a> {
+    pub fn open(
+        calls: &'a Calls,
+        entries: &'a [Entry],
+        chart: Chart,
+        table: &[i32],
+        opening: i32,
+        unlisted_events: usize,
+        met: &mut Met,
+    ) -> Result<Run<'a>, String> {
+        let history = History::open(entries, table, opening, unlisted_events).expect("the instant drawn is in range");
+        let mut table = lent_table(table);
+        let answer = (calls.open)(chart, table.part_mut(), opening);
+        met.count_answer("open", 0);
+        let mut watch = answer.watch;
+        watch.events += unlisted_events;
+        let run = Run { calls, opening, played: Vec::new(), subject: Subject { watch, chart, table }, history };
+        run.compare_state(0, answer.refusal)?;
+        Ok(run)
+    }
+
+    pub fn play(&mut self, call: Call, met: &mut Met) -> Compared {
+        let expected = self.history.play(call).err().unwrap_or(0);
+        let answer = self.subject.play(self.calls, call);
+        self.played.push(call);
+        met.count_answer(name(call), expected);
+        self.compare_state(expected, answer.refusal)
+    }
+
+    /// So many calls, and reads now and then.
+    fn play_some(&mut self, random: &mut Random, met: &mut Met, frequencies: Frequencies, calls: usize) -> Compared {
+        for _ in 0..calls {
+            let History { watch, table, .. } = &self.history;
+            let call = random_calls::call(random, frequencies, watch, &self.subject.chart, table);
+            self.play(call, met)?;
+            if random.one_in(4) {
+                self.read_rows(random, met)?;
+                self.read_tree(random, met)?;
+            }
+        }
+        Ok(())
+    }
+
+    fn event(&mut self, random: &mut Random, met: &mut Met) -> Compared {
+        let code = random_calls::code(random, &self.subject.chart);
+        self.play(Call::Event(code), met)
+    }
+
+    fn finish(&self, met: &mut Met) {
+        met.count_history(&self.subject.chart, &self.subject.watch, self.subject.table.part());
+    }
+
+    fn read_rows(&self, random: &mut Random, met: &mut Met) -> Compared {
+        let History { watch, table, .. } = &self.history;
+        let end = random_calls::end(random, watch, table);
+        compare_check_and_rows(self.calls, &self.subject, end, 0, self.history.rows_ending(end), met)
+            .map_err(|difference| self.described(&difference))
+    }
+
+    fn read_tree(&self, random: &mut Random, met: &mut Met) -> Compared {
+        let row = any_row(random, self.history.watch.rows);
+        let tree_at = |room: usize| self.history.tree(row, room);
+        compare_tree(self.calls, &self.subject, row, tree_at, random, met)
+            .map_err(|difference| self.described(&difference))
+    }
+
+    /// Compares a call's number and all that it left.
+    fn compare_state(&self, expected: u32, refusal: u32) -> Compared {
+        let (subject, history) = (&self.subject, &self.history);
+        if refusal != expected {
+            return Err(self.described(&format!("answered {refusal}, expected {expected}")));
+        }
+        if subject.watch != history.watch {
+            return Err(self.described(&format!("watch {:?}\nexpected {:?}", subject.watch, history.watch)));
+        }
+        if !subject.table.holds(&history.table) {
+            let table = subject.table.part();
+            return Err(self.described(&format!("table {table:?}\nexpected {:?}", history.table)));
+        }
+        Ok(())
+    }
+
+    fn described(&self, difference: &str) -> String {
+        let chart = &self.subject.chart.entries[..self.subject.chart.count];
+        let (length, opening, played) = (self.history.table.len(), self.opening, &self.played);
+        format!("{difference}\nchart {chart:?}\ntable of {length} numbers, opened at {opening}, then {played:?}")
+    }
+}
+
+/// A row in use, mostly, or a number that is none.
+pub fn any_row(random: &mut Random, rows: usize) -> usize {
+    match random.below(8) {
+        0 => random.pick(&[rows, rows + 1, 65_535, usize::MAX]),
+        _ => random.below(rows.max(1)),
+    }
+}
+
+/// Compares the check call and the rows with an end, which a refusal leaves empty.
+pub fn compare_check_and_rows(
+    calls: &Calls,
+    subject: &Subject,
+    end: i32,
+    refusal: u32,
+    expected: Range<usize>,
+    met: &mut Met,
+) -> Compared {
+    let table = subject.table.part().to_vec();
+    let checked = (calls.check)(subject.watch, subject.chart, subject.table.part());
+    let rows = (calls.rows_ending)(subject.watch, subject.chart, subject.table.part(), end);
+    met.count_answer("check", refusal);
+    met.count_answer("rows", refusal);
+    met.count_rows_read(expected.len());
+    if checked != refusal {
+        return Err(format!("check answered {checked}, expected {refusal}"));
+    }
+    if (rows.first, rows.count) != (expected.start, expected.len()) {
+        return Err(format!("rows ending at {end}: {rows:?}, expected {expected:?}"));
+    }
+    if !subject.table.holds(&table) {
+        return Err("a read altered the table".to_string());
+    }
+    Ok(())
+}
+
+/// Compares the tree of a row on an output that is just long enough and on one of another length.
+pub fn compare_tree(
+    calls: &Calls,
+    subject: &Subject,
+    row: usize,
+    tree_at: impl Fn(usize) -> Result<String, u32>,
+    random: &mut Random,
+    met: &mut Met,
+) -> Compared {
+    let length = tree_at(usize::MAX).map_or(0, |tree| tree.len());
+    let other = random.pick(&[length.saturating_sub(1), length.saturating_sub(1), length + 1, length / 2, length + 20]);
+    [length, other].into_iter().try_for_each(|room| compare_tree_in(calls, subject, row, room, tree_at(room), met))
+}
+
+/// Compares the tree of a row on an output of so many bytes, those past the tree included.
+pub fn compare_tree_in(
+    calls: &Calls,
+    subject: &Subject,
+    row: usize,
+    room: usize,
+    expected: Result<String, u32>,
+    met: &mut Met,
+) -> Compared {
+    let mut after: Vec<u8> = (0..room).map(|place| (place * 37) as u8).collect();
+    let mut out = Lent::new(&after, 0xa5);
+    if let Ok(tree) = &expected {
+        after[..tree.len()].copy_from_slice(tree.as_bytes());
+    }
+    let (refusal, length) = expected.map_or_else(|refusal| (refusal, 0), |tree| (0, tree.len()));
+    let answer = (calls.tree)(subject.watch, subject.chart, subject.table.part(), row, out.part_mut());
+    met.count_answer("tree", refusal);
+    if (answer.refusal, answer.length) == (refusal, length) && out.holds(&after) {
+        return Ok(());
+    }
+    let (written, wanted) = (out.part().escape_ascii(), after.escape_ascii());
+    Err(format!(
+        "tree of row {row} into {room} bytes: {answer:?} and \"{written}\", expected {refusal}, {length}, \"{wanted}\""
+    ))
+}

@@ -1,0 +1,96 @@
+//! What a run reached: answers of each call, causes of 13, operators of rows.
+
+use common::interface::{Chart, Watch};
+use common::plain_chart::WORDS;
+use oracle::joint::{Cause, CAUSES};
+use std::collections::{BTreeMap, BTreeSet};
+
+/// How often each of them must be met, or the run is no test of it.
+const LEAST_MET: usize = 100;
+
+/// Every answer that a call has, 0 being no refusal.
+const ANSWERS: [(&str, &[u32]); 7] = [
+    ("open", &[0, 8, 14]),
+    ("event", &[0, 9, 10, 13, 14]),
+    ("clock", &[0, 8, 12, 13, 14]),
+    ("forget", &[0, 11, 13, 14]),
+    ("check", &[0, 13, 14]),
+    ("rows", &[0, 13, 14]),
+    ("tree", &[0, 13, 14, 15, 16]),
+];
+
+pub struct Met {
+    pub histories: usize,
+    pub charts: usize,
+    answers: BTreeMap<(&'static str, u32), usize>,
+    /// How many watches and tables were out of joint for one cause alone.
+    causes: BTreeMap<Cause, usize>,
+    /// How many were changed and yet in joint.
+    in_joint: usize,
+    /// How many reads of rows gave some, and how many none.
+    rows_read: [usize; 2],
+    /// How many rows of each operator the tables compared had in all.
+    operators: [usize; WORDS.len()],
+}
+
+impl Met {
+    pub fn nothing() -> Met {
+        let answers = ANSWERS.iter().flat_map(|(call, numbers)| numbers.iter().map(|number| ((*call, *number), 0)));
+        Met {
+            histories: 0,
+            charts: 0,
+            answers: answers.collect(),
+            causes: CAUSES.map(|cause| (cause, 0)).into(),
+            in_joint: 0,
+            rows_read: [0; 2],
+            operators: [0; WORDS.len()],
+        }
+    }
+
+    pub fn count_answer(&mut self, call: &'static str, refusal: u32) {
+        *self.answers.entry((call, refusal)).or_default() += 1;
+    }
+
+    pub fn count_causes(&mut self, causes: &BTreeSet<Cause>) {
+        match causes.iter().collect::<Vec<_>>().as_slice() {
+            [] => self.in_joint += 1,
+            [cause] => *self.causes.entry(**cause).or_default() += 1,
+            _ => {}
+        }
+    }
+
+    pub fn count_rows_read(&mut self, count: usize) {
+        self.rows_read[usize::from(count > 0)] += 1;
+    }
+
+    /// Counts a history by the rows that it ends with.
+    pub fn count_history(&mut self, chart: &Chart, watch: &Watch, table: &[i32]) {
+        self.histories += 1;
+        for row in table[..watch.rows * 5].chunks(5) {
+            self.operators[usize::from(chart.entries[row[0] as usize].op)] += 1;
+        }
+    }
+
+    pub fn is_enough(&self) -> bool {
+        let answers = self.answers.values().chain(self.causes.values());
+        let mut counts = answers.chain(&self.operators).chain(&self.rows_read).chain([&self.in_joint]);
+        counts.all(|count| *count >= LEAST_MET)
+    }
+
+    pub fn print(&self) {
+        println!("{} histories and {} charts, no difference", self.histories, self.charts);
+        println!("answers of each call (0: no refusal)");
+        for (call, numbers) in ANSWERS {
+            let counts = numbers.iter().map(|number| format!("{number}: {}", self.answers[&(call, *number)]));
+            println!("  {call:<7} {}", counts.collect::<Vec<_>>().join("  "));
+        }
+        println!("reads of rows: {} with rows, {} without", self.rows_read[1], self.rows_read[0]);
+        println!("watches and tables changed and yet in joint: {}; out of joint for one cause alone:", self.in_joint);
+        self.causes.iter().for_each(|(cause, count)| println!("  {:<30} {count:>8}", format!("{cause:?}")));
+        println!("rows of each operator at the ends of histories");
+        WORDS.iter().zip(self.operators).for_each(|(word, count)| println!("  {word:<8} {count:>8}"));
+        if !self.is_enough() {
+            println!("one of these was met fewer than {LEAST_MET} times");
+        }
+    }
+}

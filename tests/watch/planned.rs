@@ -1,0 +1,202 @@
+//! What is compared by plan, not by chance: charts on paper, every short table, the largest table, trees of billions of
+//! bytes, and the stack that include/chronicle.h promises to be enough.
+
+use crate::histories::{compare_tree_in, Compared, Run};
+use crate::met::Met;
+use crate::subject::{lent_table, Subject};
+use common::chart_value;
+use common::interface::{Calls, Chart, ChartAnswer, Watch};
+use common::plain_chart::{self, Entry};
+use common::random::Random;
+use common::random_charts;
+use oracle::any_watch;
+use oracle::model::Call;
+use std::time::{Duration, Instant};
+
+const CHARTS: usize = 30_000;
+/// The greatest table that is all rows.
+const ALL_ROWS: usize = 65_535 * 5;
+const KILOBYTE: usize = 1 << 10;
+/// What include/chronicle.h says of the stack, and what a thread needs for itself.
+const FORGET_STACK: usize = 160 * KILOBYTE;
+const TREE_STACK: usize = 40 * KILOBYTE;
+const STACK: usize = 4 * KILOBYTE;
+const THREAD_STACK: usize = 16 * KILOBYTE;
+
+fn entries(text: &str) -> Vec<Entry> {
+    plain_chart::read(text.as_bytes()).expect("the planned chart is sound")
+}
+
+/// Charts on paper, sound and damaged: number, line and every entry, the blank ones too.
+pub fn charts(calls: &Calls, met: &mut Met) -> Compared {
+    let mut random = Random::new(31);
+    for _ in 0..CHARTS {
+        let text = random_charts::any(&mut random);
+        let expected = match plain_chart::read(&text) {
+            Ok(entries) => ChartAnswer { refusal: 0, line: 0, chart: chart_value::of(&entries) },
+            Err(verdict) => ChartAnswer { refusal: verdict.refusal, line: verdict.line, chart: Chart::no_entries() },
+        };
+        let answer = (calls.read_chart)(&text);
+        met.charts += 1;
+        if answer != expected {
+            return Err(format!("chart \"{}\": {answer:?}\nexpected {expected:?}", text.escape_ascii()));
+        }
+    }
+    Ok(())
+}
+
+/// P1 on a table of each length from 0 to 60, which takes it from 40 on, and a forget after it.
+pub fn short_tables(calls: &Calls, met: &mut Met) -> Compared {
+    let entries = entries("0\tevent\t1\n1\tevent\t2\n2\tevent\t3\n3\tseq\t0\t1\n4\t-[[\t3\t2\n");
+    let log = [
+        Call::Event(1),
+        Call::Clock(0),
+        Call::Event(2),
+        Call::Clock(3),
+        Call::Event(3),
+        Call::Event(2),
+        Call::Clock(4),
+        Call::Forget(0),
+        Call::Clock(5),
+    ];
+    for length in 0..=60 {
+        let table: Vec<i32> = (0..length).map(|place| 1_000 - place).collect();
+        let mut run = Run::open(calls, &entries, chart_value::of(&entries), &table, -2, 0, met)?;
+        log.into_iter().try_for_each(|call| run.play(call, met))?;
+    }
+    Ok(())
+}
+
+/// 65,535 rows in a table that could hold two more by its length, one event too many, and a forget of half of them.
+pub fn largest_table(calls: &Calls, met: &mut Met) -> Compared {
+    let entries = entries("0\tevent\t1\n1\tevent\t2\n2\tand\t0\t0\n");
+    let mut run = Run::open(calls, &entries, chart_value::of(&entries), &[-7; ALL_ROWS + 12], -3, 0, met)?;
+    // 255 events of code 1, their 255 x 255 pairs and 255 events of code 2, at most 64 events an instant.
+    for (instant, code) in [1, 1, 1, 1, 2, 2, 2, 2].into_iter().enumerate() {
+        let count = if instant % 4 == 3 { 63 } else { 64 };
+        (0..count).try_for_each(|_| run.play(Call::Event(code), met))?;
+        run.play(Call::Clock(instant as i64 - 2), met)?;
+    }
+    assert_eq!(run.history.watch.rows, 65_535, "the table is full");
+    compare_checks_of_full_table(calls, &run.subject)?;
+    run.play(Call::Event(2), met)?;
+    run.play(Call::Clock(100), met)?;
+    run.play(Call::Forget(-1), met)?;
+    run.play(Call::Clock(100), met)
+}
+
+/// One thing changed in a table of 65,535 rows.
+fn compare_checks_of_full_table(calls: &Calls, full: &Subject) -> Compared {
+    let with_number = |place: usize, number: i32| {
+        let mut changed = full.clone();
+        changed.table.part_mut()[place] = number;
+        changed
+    };
+    let mut one_row_more = full.clone();
+    one_row_more.watch.rows += 1;
+    let cases = [
+        (full.clone(), 0, "as it was"),
+        (with_number(ALL_ROWS, 9), 0, "the number after the last row"),
+        (with_number(ALL_ROWS - 1, 9), 13, "the last number of the last row"),
+        (with_number(0, 32), 13, "the first number"),
+        (one_row_more, 13, "a row more than the table can hold"),
+    ];
+    for (changed, expected, what) in cases {
+        let checked = (calls.check)(changed.watch, changed.chart, changed.table.part());
+        if checked != expected {
+            return Err(format!("full table, {what}: check answered {checked}, expected {expected}"));
+        }
+    }
+    Ok(())
+}
+
+/// A chart of 32 entries, each with the one before it for both operands, and its one event closed: a row for each
+/// entry. With `and` the tree of row n has 2 to the nth leaves, with an absence it has n pairs of brackets.
+fn nested(calls: &Calls, word: &str) -> Result<Subject, String> {
+    let others: String = (1..32).map(|number| format!("{number}\t{word}\t{0}\t{0}\n", number - 1)).collect();
+    let chart = chart_value::of(&entries(&format!("0\tevent\t1\n{others}")));
+    let mut subject = Subject { watch: Watch::empty(0), chart, table: lent_table(&[0; 32 * 5]) };
+    subject.play(calls, Call::Event(1));
+    subject.play(calls, Call::Clock(1));
+    if subject.watch.rows == 32 {
+        Ok(subject)
+    } else {
+        Err(format!("{} rows of 32 entries, expected 32", subject.watch.rows))
+    }
+}
+
+/// Trees of up to 11 billion bytes: long ones are refused as quickly as short ones.
+pub fn long_trees(calls: &Calls, met: &mut Met) -> Compared {
+    let subject = nested(calls, "and")?;
+    let begun = Instant::now();
+    for row in 0..32 {
+        for room in [1, 2, 6, 100, 5_116, 5_117, 5_118, 100_000] {
+            let expected = any_watch::tree(&subject.watch, &subject.chart, subject.table.part(), row, room);
+            compare_tree_in(calls, &subject, row, room, expected, met)?;
+        }
+    }
+    if begun.elapsed() > Duration::from_secs(5) {
+        return Err(format!("trees took {:?}: the work is not bounded by the output", begun.elapsed()));
+    }
+    Ok(())
+}
+
+/// Every call on no more stack than the header says. A call that needs more ends the program.
+pub fn stack(calls: &Calls, met: &mut Met) -> Compared {
+    stack_of_others(*calls)?;
+    stack_of_forget(*calls, met)
+}
+
+fn stack_of_others(calls: Calls) -> Compared {
+    for word in ["and", "-]["] {
+        let Subject { watch, chart, table } = nested(&calls, word)?;
+        let lent = table.clone();
+        on_stack(STACK, move || {
+            let mut table = lent;
+            (calls.read_chart)(b"0\tevent\t1\n");
+            (calls.check)(watch, chart, table.part());
+            (calls.rows_ending)(watch, chart, table.part(), 0);
+            (calls.event)(watch, chart, table.part(), 1);
+            (calls.clock)(watch, chart, table.part_mut(), 2);
+            (calls.open)(chart, table.part_mut(), 0);
+            Ok(())
+        })?;
+        on_stack(TREE_STACK, move || {
+            let mut out = vec![0; 3_000];
+            for row in 0..32 {
+                (calls.tree)(watch, chart, table.part(), row, &mut out);
+            }
+            Ok(())
+        })?;
+    }
+    Ok(())
+}
+
+fn stack_of_forget(calls: Calls, met: &mut Met) -> Compared {
+    let entries = entries("0\tevent\t1\n1\tevent\t2\n2\tand\t0\t0\n");
+    let mut run = Run::open(&calls, &entries, chart_value::of(&entries), &[0; 5 * 20_000], 0, 0, met)?;
+    for instant in 0..2 {
+        (0..64).try_for_each(|_| run.play(Call::Event(1), met))?;
+        run.play(Call::Clock(instant + 1), met)?;
+    }
+    let mut subject = run.subject.clone();
+    let forgotten = on_stack(FORGET_STACK, move || {
+        subject.play(&calls, Call::Forget(1));
+        Ok(subject)
+    })?;
+    run.play(Call::Forget(1), met)?;
+    if forgotten.table.holds(run.subject.table.part()) {
+        Ok(())
+    } else {
+        Err("a forget in a thread left another table".to_string())
+    }
+}
+
+/// Runs something on a thread with so much stack for it.
+fn on_stack<T: Send + 'static>(
+    stack: usize,
+    run: impl FnOnce() -> Result<T, String> + Send + 'static,
+) -> Result<T, String> {
+    let thread = std::thread::Builder::new().stack_size(stack + THREAD_STACK).spawn(run);
+    thread.map_err(|error| error.to_string())?.join().map_err(|_| "a call panicked on its thread".to_string())?
+}

@@ -305,6 +305,18 @@ struct chronicle_tree_answer chronicle_tree(struct chronicle_watch watch, struct
                                             const int32_t *table, size_t length, size_t row, uint8_t *out,
                                             size_t out_length);
 
+/*
+ * Plays a whole input of the listing program, lying in memory: a chart, an empty line and a log, as examples/listing has
+ * them. Writes what the program prints, the listing of the table or the one line of a refusal, and returns its length; no
+ * byte 0 follows. The table's contents before the call do not matter; after it they are those of the input's last call, or
+ * as before where the run was refused before its `open`. Where the output has less than 40 bytes and 81 for each row that
+ * the table can hold, nothing is done and 0 is returned. Time: reading the bytes, and for each line its call without a
+ * check.
+ */
+CHRONICLE_CALL
+size_t chronicle_list(const uint8_t *input, size_t input_length, int32_t *table, size_t length, uint8_t *out,
+                      size_t out_length);
+
 #undef CHRONICLE_CALL
 
 #ifdef __cplusplus

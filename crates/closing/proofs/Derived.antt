@@ -28,8 +28,9 @@ use Rattle.model.specs.RowSteps.{Node, leaves, leaf, part, pair, of, fits, forb
 use Rattle.model.proofs.Sorted.{keep-append}
 use Rattle.table.specs.Table.{cell, rowsIn}
 use Rattle.table.proofs.Rows.{length-rows, row-at}
-use Rattle.closing.specs.Added.{span, when, eventRow, eventRows, partRow, armRow, armRows, orRows, lengthRow, lengthRows, forbids, isWithin, isForbidden, absenceRow, absenceRows, leftMayBeOld, rightMayBeOld, pairRow, rightFrom, pairsWith, hasRow, leftFrom, pairRows, addedRows}
-use Rattle.closing.proofs.Spans.{each-same, none-at, some-same, each-numbered, some-snoc, some-none, each-from, each-nothing, span-same, keep-keep, some-keep, kept-ones, kept-each}
+use Rattle.closing.specs.Added.{span, when, eventRow, eventRows, partRow, armRow, armRows, orRows, lengthRow, lengthRows, forbids, isWithin, isForbidden, absenceRow, absenceRows, topOf, leftMayBeOld, rightMayBeOld, pairRow, rightFrom, pairsWith, hasRow, leftFrom, pairRows, addedRows}
+use Rattle.closing.proofs.Spans.{each-same, none-at, some-same, each-numbered, some-snoc, some-none, each-from, each-nothing, span-same, keep-keep, some-keep, kept-ones, kept-each, some-front}
+use Rattle.closing.proofs.Laws.{top-le, top-rest}
 
 -- a table while the instant o is closed: m rows from before, which end before o; the others of its n rows end at o
 pub record Grown (o : ℤ) (m n : ℕ) (t : List ℤ) : Type 0 where
@@ -165,7 +166,7 @@ module _ (o : ℤ) (m n : ℕ) (t : List ℤ) (g : Grown o m n t) (entry : ℕ) 
         go true p f = rw f
         go false p f = rw (not-forbidding k k (omega arith) (omega arith) p) (sym (some-none forbids-at 0 k (λ i a z. not-forbidding i k (omega arith) (omega arith) p)))
 
-    forbidden-is : forbidden (places (rowsIn n t)) e (of (places (rowsIn n t)) b (numbers 0 (length (rowsIn n t)))) r ≡ isForbidden e (pos b) (cell t r 3) (cell t r 4) t n
+    forbidden-is : forbidden (places (rowsIn n t)) e (of (places (rowsIn n t)) b (numbers 0 (length (rowsIn n t)))) r ≡ isForbidden e (pos b) (cell t r 3) (cell t r 4) t (topOf (pos b) n t)
     unfolding forbids-at forbids
     forbidden-is =
         let v = places (rowsIn n t) in
@@ -174,7 +175,8 @@ module _ (o : ℤ) (m n : ℕ) (t : List ℤ) (g : Grown o m n t) (entry : ℕ) 
         some-keep p q (numbers 0 (length (rowsIn n t)))
         ∙ ap (λ k. some (λ s. q s && p s) (numbers 0 k)) (length-rows n t)
         ∙ some-same (λ s. q s && p s) forbids-at 0 n (λ s l h. ap₂ _&&_ (of-entry b s (omega arith)) (rw (row-at n r t hr, row-at n s t (omega arith))))
-        ∙ sym (search-whole n (omega arith))
+        ∙ some-front forbids-at (topOf (pos b) n t) n (top-le (pos b) t n) (λ i h g. rw (top-rest (pos b) t n i h g))
+        ∙ sym (search-whole (topOf (pos b) n t) (top-le (pos b) t n))
 
   absence-derived : (e : Edges) (a b : ℕ) → derived (make (places (rowsIn n t)) (absence e a b) [] (numbers 0 (length (rowsIn n t)))) ≡ absenceRows e entry (pos a) (pos b) m n t
   unfolding absenceRows absenceRow partRow
@@ -184,7 +186,7 @@ module _ (o : ℤ) (m n : ℕ) (t : List ℤ) (g : Grown o m n t) (entry : ℕ) 
       let q : ℕ → Bool = λ i. eqb (v .entry i) a in
       let p : ℕ → Bool = λ i. not (forbidden v e (of v b xs) i) in
       ap (λ l. derived (map (part only) l)) (keep-keep p q xs)
-      ∙ parts only (λ i. q i && p i) (λ i. eqZ (cell t i 0) (pos a) && not (isForbidden e (pos b) (cell t i 3) (cell t i 4) t n)) (λ i h. ap₂ _&&_ (of-entry a i h) (ap not (forbidden-is e b i h)))
+      ∙ parts only (λ i. q i && p i) (λ i. eqZ (cell t i 0) (pos a) && not (isForbidden e (pos b) (cell t i 3) (cell t i 4) t (topOf (pos b) n t))) (λ i h. ap₂ _&&_ (of-entry a i h) (ap not (forbidden-is e b i h)))
 
   -- the events
   event-derived : (k first pending : ℕ) (codes : List ℕ) → pending ≤ length codes → derived (leaves k (numbered o first (take pending codes))) ≡ eventRows entry k o first pending codes

@@ -13,7 +13,7 @@ use Rattle.table.specs.Table.{cell, Filled, filled, fill, putRow}
 use Rattle.table.proofs.Rows.{length-put, cell-other}
 use Rattle.table.proofs.Fill.{fill-none, fill-count-least, fill-append, fill-append-full}
 use Rattle.closing.specs.Added.{Appendable, Appended, span}
-use Rattle.closing.proofs.Spans.{each-on, each-none}
+use Rattle.closing.proofs.Spans.{each-on, each-none, each-past}
 
 -- the first n rows of t are those of u
 abbrev pub Kept : ℕ → List ℤ → List ℤ → Type 0
@@ -99,6 +99,16 @@ module _ {room n₀ : ℕ} {all : List Row} {t₀ : List ℤ} {n : ℕ} {t : Lis
     size = f .size;
     kept = f .kept;
     on = ap (λ x. fill room n x t) (sym (each-on h i e l ∙ ap (λ x. x ++ each h (span (i + 1) e)) z)) ∙ f .on;
+  }
+
+  -- and several of them
+  pub past : (k : ℕ) → i ≤ k → k ≤ e → ((j : ℕ) → i ≤ j → j < k → h j ≡ []) → Filling room n₀ all t₀ n (each h (span k e)) t
+  past k l g z = record {
+    least = f .least;
+    most = f .most;
+    size = f .size;
+    kept = f .kept;
+    on = ap (λ x. fill room n x t) (sym (each-past h i k e l g z)) ∙ f .on;
   }
 
   pub over : e ≤ i → Appended room n₀ all t₀ n t

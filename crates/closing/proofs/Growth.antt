@@ -27,7 +27,7 @@ use Rattle.model.proofs.Rows.{numbers-mem}
 use Rattle.table.specs.Table.{cell, rowsIn, putRow, putRows}
 use Rattle.table.specs.Ready.{Ready, EndBefore}
 use Rattle.table.proofs.Rows.{length-put, cell-other, row-put}
-use Rattle.closing.specs.Added.{span, when, eventRow, eventRows, partRow, armRow, armRows, orRows, lengthRow, lengthRows, isForbidden, absenceRow, absenceRows, leftMayBeOld, rightMayBeOld, hasRow, pairRow, rightFrom, pairsWith, leftFrom, pairRows, addedRows}
+use Rattle.closing.specs.Added.{span, when, eventRow, eventRows, partRow, armRow, armRows, orRows, lengthRow, lengthRows, isForbidden, absenceRow, absenceRows, topOf, leftMayBeOld, rightMayBeOld, hasRow, pairRow, rightFrom, pairsWith, leftFrom, pairRows, addedRows}
 use Rattle.closing.proofs.Derived.{Grown, derived-is}
 
 -- before the first entry
@@ -163,7 +163,7 @@ module _ (o : ℤ) (m n : ℕ) (t : List ℤ) (g : Grown o m n t) (entry : ℕ) 
   added-proper (event k) first pending codes r w = event-proper k first pending codes r w
   added-proper (related c a b) first pending codes r w = pairs-proper c (pos a) (pos b) r w
   added-proper (or a b) first pending codes r w = elim (List·Memᴰ·append-cases (each (λ i. when (eqZ (cell t i 0) (pos a)) (partRow left entry t i)) (span m n)) w) [ inl k ↦ parts-proper left (λ i. eqZ (cell t i 0) (pos a)) r k | inr k ↦ parts-proper right (λ i. eqZ (cell t i 0) (pos b)) r k ]
-  added-proper (absence e a b) first pending codes r w = parts-proper left (λ i. eqZ (cell t i 0) (pos a) && not (isForbidden e (pos b) (cell t i 3) (cell t i 4) t n)) r w
+  added-proper (absence e a b) first pending codes r w = parts-proper left (λ i. eqZ (cell t i 0) (pos a) && not (isForbidden e (pos b) (cell t i 3) (cell t i 4) t (topOf (pos b) n t))) r w
   added-proper (lasting c a d) first pending codes r w = parts-proper left (λ i. eqZ (cell t i 0) (pos a) && hasLength c d (cell t i 3) (cell t i 4)) r w
 
   pub added-ending : (op : Operator) (first pending : ℕ) (codes : List ℕ) → pending ≤ length codes → (r : Row) → List·Memᴰ r (addedRows op entry o first pending codes m n t) → Ending o r

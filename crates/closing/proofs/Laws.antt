@@ -2,8 +2,9 @@
 use Prim.Native.Nat.{ℕ, zero, suc, _+_, _-_, _≤_, _<_}
 use native.Mathlib.Omega.{arith}
 use native.Mathlib.Numerals.{add-one}
+use native.Mathlib.Decide.{ℕ-discrete}
 use mathlib.Core.Path.{_≡_, refl, sym, ap, _∙_}
-use mathlib.Core.Bool.{Bool, true, false}
+use mathlib.Core.Bool.{Bool, true, false, cond}
 use mathlib.Core.List.{List, [], _∷_}
 use lib.IntN.{ℤ}
 use lib.Signed.{leZ}
@@ -17,7 +18,7 @@ use Rattle.interval.specs.declared.Edges.{Edges}
 use Rattle.interval.specs.declared.LengthTest.{LengthTest}
 use Rattle.model.specs.Recognitions.{Arm, left}
 use Rattle.table.specs.Table.{cell}
-use Rattle.closing.specs.Added.{partRow, armRow, armRows, lengthRow, forbids, isWithin, isForbidden, absenceRow, pairRow, rightFrom, pairsWith, hasRow}
+use Rattle.closing.specs.Added.{partRow, armRow, armRows, lengthRow, forbids, isWithin, isForbidden, absenceRow, pairRow, rightFrom, pairsWith, hasRow, leftMayBeOld, rightMayBeOld, leftFrom, topOf, NextOf}
 use Rattle.closing.proofs.Spans.{span-same}
 use Rattle.closing.proofs.Filling.{Kept}
 
@@ -53,9 +54,9 @@ module _ (n : ℕ) (t u : List ℤ) (k : Kept n t u) (entry : ℕ) where
   forbidden-same e b start end zero h = refl
   forbidden-same e b start end (suc j) h = rw (k j 4 (omega arith) (omega arith), forbids-same e b start end j (omega arith), forbidden-same e b start end j (omega arith))
 
-  pub absence-same : (e : Edges) (a b : ℤ) (i : ℕ) → i < n → absenceRow e entry a b n t i ≡ absenceRow e entry a b n u i
+  pub absence-same : (e : Edges) (a b : ℤ) (top i : ℕ) → top ≤ n → i < n → absenceRow e entry a b top t i ≡ absenceRow e entry a b top u i
   unfolding absenceRow partRow
-  absence-same e a b i h = rw (k i 0 h (omega arith), k i 3 h (omega arith), k i 4 h (omega arith), forbidden-same e b (cell u i 3) (cell u i 4) n (omega arith))
+  absence-same e a b top i g h = rw (k i 0 h (omega arith), k i 3 h (omega arith), k i 4 h (omega arith), forbidden-same e b (cell u i 3) (cell u i 4) top g)
 
   pub pair-same : (c : Relation) (b : ℤ) (r : ℕ) (start end : ℤ) (s : ℕ) → s < n → pairRow c entry b r start end t s ≡ pairRow c entry b r start end u s
   unfolding pairRow
@@ -65,6 +66,73 @@ module _ (n : ℕ) (t u : List ℤ) (k : Kept n t u) (entry : ℕ) where
   unfolding pairsWith
   pairs-same c a b m e r h g =
       rw (k r 0 h (omega arith), k r 3 h (omega arith), k r 4 h (omega arith), span-same (pairRow c entry b r (cell u r 3) (cell u r 4) t) (pairRow c entry b r (cell u r 3) (cell u r 4) u) (rightFrom c m r) e (λ s p q. pair-same c b r (cell u r 3) (cell u r 4) s (omega arith)))
+
+-- a row that is none of a makes no pair
+pub pairs-none : (c : Relation) (entry : ℕ) (a b : ℤ) (m n : ℕ) (t : List ℤ) (r : ℕ) → eqZ (cell t r 0) a ≡ false → pairsWith c entry a b m n t r ≡ []
+unfolding pairsWith
+pairs-none c entry a b m n t r e = rw e
+
+-- where the search for r begins
+pub left-le : (c : Relation) (b : ℤ) (m n : ℕ) (t : List ℤ) → m ≤ n → leftFrom c b m n t ≤ n
+unfolding leftFrom
+left-le c b m n t h = go (hasRow b m n t) (leftMayBeOld c) (rightMayBeOld c)
+  where
+    go : (x y z : Bool) → cond x (cond y 0 m) (cond z m n) ≤ n
+    go true true z = omega arith
+    go true false z = omega arith
+    go false y true = omega arith
+    go false y false = omega arith
+
+-- the next row of a: none passed, one more passed
+module _ (a : ℤ) (i n : ℕ) (t : List ℤ) where
+  pub next-none : i ≤ n → NextOf a i n t i
+  next-none h = record { least = omega arith; most = h; none = λ j p q. absurd (omega arith) }
+
+  pub next-one : (r : ℕ) → NextOf a i n t r → r < n → eqZ (cell t r 0) a ≡ false → NextOf a i n t (r + 1)
+  next-one r f h e = record { least = omega (arith, f .least); most = omega arith; none = λ j p q. go j p q (ℕ-discrete j r) }
+    where
+      go : (j : ℕ) → i ≤ j → j < r + 1 → Dec (j ≡ r) → eqZ (cell t j 0) a ≡ false
+      go j p q (yes d) = rw d e
+      go j p q (no d) = f .none j p (omega arith)
+
+-- the place behind the last row of b
+module _ (b : ℤ) (t : List ℤ) where
+  pub top-le : (n : ℕ) → topOf b n t ≤ n
+  unfolding topOf
+  top-le zero = omega arith
+  top-le (suc n) = go (eqZ (cell t n 0) b) (top-le n)
+    where
+      go : (x : Bool) → topOf b n t ≤ n → cond x (suc n) (topOf b n t) ≤ suc n
+      go true h = omega arith
+      go false h = omega arith
+
+  pub top-rest : (n i : ℕ) → topOf b n t ≤ i → i < n → eqZ (cell t i 0) b ≡ false
+  unfolding topOf
+  top-rest zero i h g = absurd (omega arith)
+  top-rest (suc n) i h g = go (eqZ (cell t n 0) b) refl (top-rest n i) h
+    where
+      go : (x : Bool) → eqZ (cell t n 0) b ≡ x → (topOf b n t ≤ i → i < n → eqZ (cell t i 0) b ≡ false) → cond x (suc n) (topOf b n t) ≤ i → eqZ (cell t i 0) b ≡ false
+      go true e f k = absurd (omega arith)
+      go false e f k = last (ℕ-discrete i n)
+        where
+          last : Dec (i ≡ n) → eqZ (cell t i 0) b ≡ false
+          last (yes q) = rw q e
+          last (no q) = f k (omega arith)
+
+  pub top-here : (j : ℕ) → 0 < j → eqZ (cell t (j - 1) 0) b ≡ true → topOf b j t ≡ j
+  unfolding topOf
+  top-here zero h e = absurd (omega arith)
+  top-here (suc j) h e = let z : suc j - 1 ≡ j = omega arith in rw (rw z at e)
+
+  pub top-lower : (j : ℕ) → 0 < j → eqZ (cell t (j - 1) 0) b ≡ false → topOf b j t ≡ topOf b (j - 1) t
+  unfolding topOf
+  top-lower zero h e = absurd (omega arith)
+  top-lower (suc j) h e = let z : suc j - 1 ≡ j = omega arith in rw (rw z at e, z)
+
+  pub top-none : (j : ℕ) → j ≤ 0 → topOf b j t ≡ j
+  unfolding topOf
+  top-none zero h = refl
+  top-none (suc j) h = absurd (omega arith)
 
 -- a search for a row of entry b: one found, one more passed, none left
 module _ (b : ℤ) (i n : ℕ) (t : List ℤ) where

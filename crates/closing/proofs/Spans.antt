@@ -49,6 +49,12 @@ module _ {B : Type 0} where
       let e : n ≡ k + (n - k) = omega arith in
       ap (λ x. each f (numbers 0 x)) e ∙ each-cut f 0 k (n - k) ∙ rw (each-empty f 0 k (λ i p q. z i (omega arith)), zero-add)
 
+  pub each-past : (f : ℕ → List B) (i k n : ℕ) → i ≤ k → k ≤ n → ((j : ℕ) → i ≤ j → j < k → f j ≡ []) → each f (span i n) ≡ each f (span k n)
+  each-past f i k n h g z =
+      let e : n - i ≡ (k - i) + (n - k) = omega arith in
+      let d : i + (k - i) ≡ k = omega arith in
+      rw e (each-cut f i (k - i) (n - k) ∙ rw (each-empty f i (k - i) (λ j p q. z j p (omega arith)), d))
+
   pub each-nothing : (f : ℕ → List B) (n : ℕ) → ((i : ℕ) → i < n → f i ≡ []) → each f (numbers 0 n) ≡ []
   each-nothing f n z = each-empty f 0 n (λ i p q. z i (omega arith))
 
@@ -99,6 +105,14 @@ some-snoc p a (suc k) = let e : suc a + k ≡ a + suc k = omega arith in rw (som
     swap true false = refl
     swap false true = refl
     swap false false = refl
+
+pub some-front : (p : ℕ → Bool) (k n : ℕ) → k ≤ n → ((i : ℕ) → k ≤ i → i < n → p i ≡ false) → some p (numbers 0 n) ≡ some p (numbers 0 k)
+some-front p k zero h z = let e : k ≡ 0 = omega arith in rw e
+some-front p k (suc n) h z = go (ℕ-discrete k (suc n)) (λ g. some-front p k n g (λ i a b. z i a (omega arith)))
+  where
+    go : Dec (k ≡ suc n) → (k ≤ n → some p (numbers 0 n) ≡ some p (numbers 0 k)) → some p (numbers 0 (suc n)) ≡ some p (numbers 0 k)
+    go (yes e) f = rw e
+    go (no e) f = some-snoc p 0 n ∙ rw (zero-add n, z n (omega arith) (omega arith)) (f (omega arith))
 
 -- a list for each event of an instant
 each-shift : {B : Type 0} (f : ℕ → List B) (a k : ℕ) → each f (numbers (suc a) k) ≡ each (λ i. f (suc i)) (numbers a k)

@@ -84,11 +84,16 @@ unfoldable pub isForbidden : Edges → ℤ → ℤ → ℤ → List ℤ → ℕ 
 isForbidden e b start end t zero = false
 isForbidden e b start end t (suc j) = isWithin start t (suc j) && (forbids e b start end t j || isForbidden e b start end t j)
 
+-- the place behind the last of the first n rows that is one of b, or 0: the search begins there
+unfoldable pub topOf : ℤ → ℕ → List ℤ → ℕ
+topOf b zero t = 0
+topOf b (suc j) t = cond (eqZ (cell t j 0) b) (suc j) (topOf b j t)
+
 unfoldable pub absenceRow : Edges → ℕ → ℤ → ℤ → ℕ → List ℤ → ℕ → List Row
-absenceRow e entry a b n t i = when (eqZ (cell t i 0) a && not (isForbidden e b (cell t i 3) (cell t i 4) t n)) (partRow left entry t i)
+absenceRow e entry a b top t i = when (eqZ (cell t i 0) a && not (isForbidden e b (cell t i 3) (cell t i 4) t top)) (partRow left entry t i)
 
 unfoldable pub absenceRows : Edges → ℕ → ℤ → ℤ → ℕ → ℕ → List ℤ → List Row
-absenceRows e entry a b m n t = each (absenceRow e entry a b n t) (span m n)
+absenceRows e entry a b m n t = each (absenceRow e entry a b (topOf b n t) t) (span m n)
 
 -- two operands: the pairs in which one row or both end at the instant. Whether r, and whether s, may be a row from before this closing:
 unfoldable pub leftMayBeOld : Relation → Bool
@@ -132,6 +137,12 @@ hasRow b m n t = some (λ i. eqZ (cell t i 0) b) (span m n)
 
 unfoldable pub leftFrom : Relation → ℤ → ℕ → ℕ → List ℤ → ℕ
 leftFrom c b m n t = cond (hasRow b m n t) (cond (leftMayBeOld c) 0 m) (cond (rightMayBeOld c) m n)
+
+-- the rows from i to before k are none of a
+pub record NextOf (a : ℤ) (i n : ℕ) (t : List ℤ) (k : ℕ) : Type 0 where
+  pub least : i ≤ k
+  pub most : k ≤ n
+  pub none : (j : ℕ) → i ≤ j → j < k → eqZ (cell t j 0) a ≡ false
 
 unfoldable pub pairRows : Relation → ℕ → ℤ → ℤ → ℕ → ℕ → List ℤ → List Row
 pairRows c entry a b m n t = each (pairsWith c entry a b m n t) (span (leftFrom c b m n t) n)

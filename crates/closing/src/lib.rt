@@ -13,7 +13,7 @@ ghost use Rattle.model.specs.Capacity.{capacity};
 ghost use Rattle.table.specs.Table.{cell};
 ghost use Rattle.table.specs.Ready.{Ready, EndBefore};
 ghost use Rattle.table.specs.Operators.{entryOperator};
-ghost use Rattle.closing.specs.Added.{Appendable, Appended, eventRow, eventRows, partRow, armOf, armRow, armRows, orRows, lengthRow, lengthRows, forbids, isWithin, absenceRows, leftMayBeOld, rightMayBeOld, pairRow, rightFrom, pairsWith, hasRow, leftFrom, pairRows, addedRows};
+ghost use Rattle.closing.specs.Added.{Appendable, Appended, eventRow, eventRows, partRow, armOf, armRow, armRows, orRows, lengthRow, lengthRows, forbids, isWithin, absenceRows, topOf, NextOf, leftMayBeOld, rightMayBeOld, pairRow, rightFrom, pairsWith, hasRow, leftFrom, pairRows, addedRows};
 ghost use Rattle.closing.specs.Closed.{rowsClosed, closedCount, closedTable};
 use chart::Chart;
 use chart::Entry;
@@ -236,8 +236,23 @@ fn is_within(t: &[i32], j: usize, start: i32) -> bool
     start <= end_of(t, j - 1)
 }
 
-// -[] -][ -[[ -]]: the new rows of a that no row of b forbids. Each candidate looks back at the rows that end at its start or later, up
-// to the first forbidding one.
+// The place behind the last of the first n rows that is one of b, or 0. One look at each row behind it.
+fn top_of(t: &[i32], n: usize, b: i32) -> usize
+    requires { ⌜ (n ≤ 65535) × (n * 5 ≤ length (now t)) ⌝ }
+    ensures { λ r. ⌜ r ≡ topOf b n (now (t .entry)) ⌝ }
+{
+    let mut j = n;
+    while 0 < j {
+        if is_of(t, j - 1, b) {
+            return j;
+        }
+        j -= 1;
+    }
+    j
+}
+
+// -[] -][ -[[ -]]: the new rows of a that no row of b forbids. The rows behind the last one of b are passed once. Each candidate then looks
+// back at the rows that end at its start or later, up to the first forbidding one.
 fn absence_rows(
     t: &mut [i32],
     m: usize,
@@ -251,6 +266,7 @@ fn absence_rows(
     requires { ⌜ (Appendable n room entry (now t)) × (m ≤ n) ⌝ }
     ensures { λ r. ⌜ Appended room n (absenceRows edges entry a b m n (now (t .entry))) (now (t .entry)) r (now (t .exit)) ⌝ }
 {
+    let top = top_of(t, n, b);
     let mut count = n;
     let mut i = m;
     'candidates: while i < n {
@@ -259,7 +275,7 @@ fn absence_rows(
         if is_of(t, r, a) {
             let start = start_of(t, r);
             let end = end_of(t, r);
-            let mut j = n;
+            let mut j = top;
             while is_within(t, j, start) {
                 j -= 1;
                 if is_forbidding_row(t, j, b, edges, start, end) {
@@ -412,6 +428,21 @@ fn left_from(t: &[i32], m: usize, n: usize, c: Relation, b: i32) -> usize
     n
 }
 
+// The next row of entry a from row i on, or n. One look at each row up to it.
+fn next_of(t: &[i32], i: usize, n: usize, a: i32) -> usize
+    requires { ⌜ (i ≤ n) × (n ≤ 65535) × (n * 5 ≤ length (now t)) ⌝ }
+    ensures { λ r. ⌜ NextOf a i n (now (t .entry)) r ⌝ }
+{
+    let mut r = i;
+    while r < n {
+        if is_of(t, r, a) {
+            return r;
+        }
+        r += 1;
+    }
+    r
+}
+
 // seq, and, meets, overlaps, starts, during, finishes, equals: the pairs of which one row or both are new. One look at each row, and for
 // each that is one of a, one at each new row; finishes and equals look at new rows only; `and` looks at all rows for each new row of a.
 // Where no row of b is new, one look at each new row and no more, but for `and`.
@@ -429,13 +460,14 @@ fn pair_rows(
     ensures { λ r. ⌜ Appended room n (pairRows c entry a b m n (now (t .entry))) (now (t .entry)) r (now (t .exit)) ⌝ }
 {
     let mut count = n;
-    let mut r = left_from(t, m, n, c, b);
+    let first = left_from(t, m, n, c, b);
+    let mut r = next_of(t, first, n, a);
     while r < n {
         count = pairs_with(t, m, n, count, room, entry, c, a, b, r);
         if room < count {
             return count;
         }
-        r += 1;
+        r = next_of(t, r + 1, n, a);
     }
     count
 }

@@ -11,24 +11,28 @@ use Rattle.interval.proofs.Machine.{same32}
 use Rattle.model.specs.Lists.{each}
 use Rattle.table.specs.Table.{cell}
 use Rattle.closing.specs.Added.{span, isForbidden, absenceRow, absenceRows}
-use Rattle.closing.proofs.Laws.{read-back, within-some, forbidden-one, forbidden-on, forbidden-end, absence-same, absence-other, absence-forbidden, absence-stands}
+use Rattle.closing.proofs.Laws.{read-back, within-some, forbidden-one, forbidden-on, forbidden-end, absence-same, absence-other, absence-forbidden, absence-stands, top-le}
 use Rattle.closing.proofs.Filling.{Filling, begin, turn, stop, skip, over, appendable}
 use Rattle.closing.proofs.absence_rows.Statement.{statement}
 use Rattle.closing.proofs.absence_rows.Tie as tie
 
 abbrev Inv-loop : tie.InvT-loop
-Inv-loop t m n room entry edges a b count i r start end j₀ j = (j ≤ n) × (isForbidden edges (toZ w32 b) (toZ w32 start) (toZ w32 end) t j ≡ isForbidden edges (toZ w32 b) (toZ w32 start) (toZ w32 end) t n)
+Inv-loop t m n room entry edges a b top count i r start end j₀ j = (j ≤ top) × (isForbidden edges (toZ w32 b) (toZ w32 start) (toZ w32 end) t j ≡ isForbidden edges (toZ w32 b) (toZ w32 start) (toZ w32 end) t top)
 
 abbrev μ-loop : tie.MeasureT-loop
-μ-loop t m n room entry edges a b count i r start end j₀ j = j
+μ-loop t m n room entry edges a b top count i r start end j₀ j = j
 
 abbrev Inv-candidates : tie.InvT-candidates
-Inv-candidates t₀ m n room entry edges a b count₀ i₀ t count i =
+Inv-candidates t₀ m n room entry edges a b top count₀ i₀ t count i =
     (m ≤ i) ×
-    Filling room n (absenceRows edges entry (toZ w32 a) (toZ w32 b) m n t₀) t₀ count (each (absenceRow edges entry (toZ w32 a) (toZ w32 b) n t₀) (span i n)) t
+    Filling room n (each (absenceRow edges entry (toZ w32 a) (toZ w32 b) top t₀) (span m n)) t₀ count (each (absenceRow edges entry (toZ w32 a) (toZ w32 b) top t₀) (span i n)) t
 
 abbrev μ-candidates : tie.MeasureT-candidates
-μ-candidates t₀ m n room entry edges a b count₀ i₀ t count i = n - i
+μ-candidates t₀ m n room entry edges a b top count₀ i₀ t count i = n - i
+
+-- the place where each search begins
+top-below : (c : tie.After-top-of Inv-loop μ-loop Inv-candidates μ-candidates) → c .top-of .result ≤ c .before .before .args .n
+top-below c = let s = c .before .before in omega (arith, simp (same32, s .fits .b) at (c .top-of .ensures), top-le (s .args .b) (s .args .t .now) (s .args .n))
 
 -- the numbers read of the candidate
 starts : (c : tie.After-start-of Inv-loop μ-loop Inv-candidates μ-candidates) → let k = c .before .before .before .before .before .before .candidates in toZ w32 (ofZ w32 (c .start-of .result)) ≡ cell (k .t) (k .i) 3
@@ -37,12 +41,14 @@ starts c = read-back _ _ (record { sfits = c .start-of .ok }) (c .start-of .ensu
 ends : (c : tie.After-end-of Inv-loop μ-loop Inv-candidates μ-candidates) → let k = c .before .before .before .before .before .before .before .before .candidates in toZ w32 (ofZ w32 (c .end-of .result)) ≡ cell (k .t) (k .i) 4
 ends c = read-back _ _ (record { sfits = c .end-of .ok }) (c .end-of .ensures)
 
-is-a : (c : tie.Then1 Inv-loop μ-loop Inv-candidates μ-candidates) → let k = c .before .before .before .before in eqZ (cell (k .candidates .t) (k .candidates .i) 0) (toZ w32 (ofZ w32 (k .before .args .a))) ≡ true
+is-a : (c : tie.Then1 Inv-loop μ-loop Inv-candidates μ-candidates) → let k = c .before .before .before .before in eqZ (cell (k .candidates .t) (k .candidates .i) 0) (toZ w32 (ofZ w32 (k .before .before .before .args .a))) ≡ true
 is-a c = sym (c .before .is-of .ensures) ∙ c .if1 .taken
 
+top-of-requires : tie.Need-top-of-requires Inv-loop μ-loop Inv-candidates μ-candidates
+top-of-requires c κs = let s = c .before in omega (arith, s .pre .0 .held, s .pre .0 .most, s .pre .0 .fit)
+
 candidates-holds : tie.Need-candidates-holds Inv-loop μ-loop Inv-candidates μ-candidates
-unfolding absenceRows
-candidates-holds c = (omega arith, begin _ _ _ _ (c .pre .0 .fit))
+candidates-holds c = (omega arith, begin _ _ _ _ (c .before .before .pre .0 .fit))
 
 add-i : tie.Need-add-i Inv-loop μ-loop Inv-candidates μ-candidates
 add-i c = omega arith
@@ -60,7 +66,10 @@ loop-holds : tie.Need-loop-holds Inv-loop μ-loop Inv-candidates μ-candidates
 loop-holds c = (omega arith, refl)
 
 is-within-requires : tie.Need-is-within-requires Inv-loop μ-loop Inv-candidates μ-candidates
-is-within-requires c κs = let k = c .before .before .before .before .before .before .before .before .before .before in omega (arith, k .candidates .inv .1 .size, k .before .pre .0 .held, k .before .pre .0 .most, k .before .pre .0 .fit)
+is-within-requires c κs =
+    let l = c .before in
+    let k = c .before .before .before .before .before .before .before .before .before .before in
+    omega (arith, top-below (k .before), l .loop .inv .0, k .candidates .inv .1 .size, k .before .before .before .pre .0 .held, k .before .before .before .pre .0 .most, k .before .before .before .pre .0 .fit)
 
 sub-j : tie.Need-sub-j Inv-loop μ-loop Inv-candidates μ-candidates
 sub-j c =
@@ -70,8 +79,10 @@ sub-j c =
     let y = s .before .before in
     let low = y .before .before .before .candidates-test .taken in
     let k = y .before .before .before .before in
-    let v = k .before in
+    let v = k .before .before .before in
     let g = v .args in
+    let top = k .before .top-of .result in
+    let low-top = top-below (k .before) in
     let i = k .candidates .i in
     let t = k .candidates .t in
     let A = toZ w32 (ofZ w32 (g .a)) in
@@ -90,8 +101,10 @@ is-forbidding-row-requires c κs =
     let y = s .before .before in
     let low = y .before .before .before .candidates-test .taken in
     let k = y .before .before .before .before in
-    let v = k .before in
+    let v = k .before .before .before in
     let g = v .args in
+    let top = k .before .top-of .result in
+    let low-top = top-below (k .before) in
     let i = k .candidates .i in
     let t = k .candidates .t in
     let A = toZ w32 (ofZ w32 (g .a)) in
@@ -100,7 +113,7 @@ is-forbidding-row-requires c κs =
     let E = toZ w32 (ofZ w32 (n .end-of .result)) in
     let j = l .loop .j in
     let w = within-some (g .edges) B S E t j (sym (c .before .before .is-within .ensures) ∙ c .before .if2 .taken) in
-    omega (arith, w, k .candidates .inv .1 .size, v .pre .0 .held, v .pre .0 .most, v .pre .0 .fit)
+    omega (arith, w, low-top, l .loop .inv .0, k .candidates .inv .1 .size, v .pre .0 .held, v .pre .0 .most, v .pre .0 .fit)
 
 candidates-less : tie.Need-candidates-less Inv-loop μ-loop Inv-candidates μ-candidates
 candidates-less c = omega arith
@@ -113,8 +126,10 @@ candidates-again c =
     let y = s .before .before in
     let low = y .before .before .before .candidates-test .taken in
     let k = y .before .before .before .before in
-    let v = k .before in
+    let v = k .before .before .before in
     let g = v .args in
+    let top = k .before .top-of .result in
+    let low-top = top-below (k .before) in
     let i = k .candidates .i in
     let t = k .candidates .t in
     let A = toZ w32 (ofZ w32 (g .a)) in
@@ -125,7 +140,7 @@ candidates-again c =
     let q = c .before in
     let u = q .before .before in
     let hit = forbidden-one (g .edges) B S E t j (sym (u .before .is-within .ensures) ∙ u .if2 .taken) (sym (q .is-forbidding-row .ensures) ∙ c .if3 .taken) in
-    (omega arith, skip _ i (g .n) (k .candidates .inv .1) (omega arith) (sym (absence-same (g .n) t (g .t .now) (k .candidates .inv .1 .kept) (g .entry) (g .edges) A B i (omega arith)) ∙ absence-forbidden (g .edges) (g .entry) A B (g .n) t i S E (starts s) (ends n) (is-a y) (sym (l .loop .inv .1) ∙ hit)))
+    (omega arith, skip _ i (g .n) (k .candidates .inv .1) (omega arith) (sym (absence-same (g .n) t (g .t .now) (k .candidates .inv .1 .kept) (g .entry) (g .edges) A B top i low-top (omega arith)) ∙ absence-forbidden (g .edges) (g .entry) A B top t i S E (starts s) (ends n) (is-a y) (sym (l .loop .inv .1) ∙ hit)))
 
 loop-less : tie.Need-loop-less Inv-loop μ-loop Inv-candidates μ-candidates
 loop-less c =
@@ -135,8 +150,10 @@ loop-less c =
     let y = s .before .before in
     let low = y .before .before .before .candidates-test .taken in
     let k = y .before .before .before .before in
-    let v = k .before in
+    let v = k .before .before .before in
     let g = v .args in
+    let top = k .before .top-of .result in
+    let low-top = top-below (k .before) in
     let i = k .candidates .i in
     let t = k .candidates .t in
     let A = toZ w32 (ofZ w32 (g .a)) in
@@ -155,8 +172,10 @@ loop-again c =
     let y = s .before .before in
     let low = y .before .before .before .candidates-test .taken in
     let k = y .before .before .before .before in
-    let v = k .before in
+    let v = k .before .before .before in
     let g = v .args in
+    let top = k .before .top-of .result in
+    let low-top = top-below (k .before) in
     let i = k .candidates .i in
     let t = k .candidates .t in
     let A = toZ w32 (ofZ w32 (g .a)) in
@@ -177,8 +196,10 @@ push-part-requires c κs =
     let y = s .before .before in
     let low = y .before .before .before .candidates-test .taken in
     let k = y .before .before .before .before in
-    let v = k .before in
+    let v = k .before .before .before in
     let g = v .args in
+    let top = k .before .top-of .result in
+    let low-top = top-below (k .before) in
     let i = k .candidates .i in
     let t = k .candidates .t in
     let A = toZ w32 (ofZ w32 (g .a)) in
@@ -196,8 +217,10 @@ same-length c =
     let y = s .before .before in
     let low = y .before .before .before .candidates-test .taken in
     let k = y .before .before .before .before in
-    let v = k .before in
+    let v = k .before .before .before in
     let g = v .args in
+    let top = k .before .top-of .result in
+    let low-top = top-below (k .before) in
     let i = k .candidates .i in
     let t = k .candidates .t in
     let A = toZ w32 (ofZ w32 (g .a)) in
@@ -208,6 +231,7 @@ same-length c =
     c .before .before .push-part .kept .0 ∙ k .candidates .inv .1 .size
 
 returns : tie.Need-returns Inv-loop μ-loop Inv-candidates μ-candidates
+unfolding absenceRows
 returns c =
     let l = c .before .before .before .before .before .before .before in
     let n = l .before in
@@ -215,8 +239,10 @@ returns c =
     let y = s .before .before in
     let low = y .before .before .before .candidates-test .taken in
     let k = y .before .before .before .before in
-    let v = k .before in
+    let v = k .before .before .before in
     let g = v .args in
+    let top = k .before .top-of .result in
+    let low-top = top-below (k .before) in
     let i = k .candidates .i in
     let t = k .candidates .t in
     let A = toZ w32 (ofZ w32 (g .a)) in
@@ -227,7 +253,7 @@ returns c =
     let d = c .before .before in
     let u = d .before .before in
     let none = sym (l .loop .inv .1) ∙ forbidden-end (g .edges) B S E t j (sym (u .before .is-within .ensures) ∙ u .if2 .left) in
-    simp (same32, v .fits .a, v .fits .b) at (stop _ i (g .n) (k .candidates .inv .1) (omega arith) (absence-stands (g .edges) (g .entry) A B (g .n) t i S E (starts s) (ends n) (is-a y) none ∙ absence-same (g .n) t (g .t .now) (k .candidates .inv .1 .kept) (g .entry) (g .edges) A B i (omega arith)) (d .push-part .ensures) (c .if4 .taken))
+    simp (same32, v .fits .a, v .fits .b, simp (same32, v .fits .b) at (k .before .top-of .ensures)) at (stop _ i (g .n) (k .candidates .inv .1) (omega arith) (absence-stands (g .edges) (g .entry) A B top t i S E (starts s) (ends n) (is-a y) none ∙ absence-same (g .n) t (g .t .now) (k .candidates .inv .1 .kept) (g .entry) (g .edges) A B top i low-top (omega arith)) (d .push-part .ensures) (c .if4 .taken))
 
 candidates-less-2 : tie.Need-candidates-less-2 Inv-loop μ-loop Inv-candidates μ-candidates
 candidates-less-2 c = omega arith
@@ -240,8 +266,10 @@ candidates-again-2 c =
     let y = s .before .before in
     let low = y .before .before .before .candidates-test .taken in
     let k = y .before .before .before .before in
-    let v = k .before in
+    let v = k .before .before .before in
     let g = v .args in
+    let top = k .before .top-of .result in
+    let low-top = top-below (k .before) in
     let i = k .candidates .i in
     let t = k .candidates .t in
     let A = toZ w32 (ofZ w32 (g .a)) in
@@ -252,7 +280,7 @@ candidates-again-2 c =
     let d = c .before .before in
     let u = d .before .before in
     let none = sym (l .loop .inv .1) ∙ forbidden-end (g .edges) B S E t j (sym (u .before .is-within .ensures) ∙ u .if2 .left) in
-    (omega arith, turn _ i (g .n) (k .candidates .inv .1) (omega arith) (absence-stands (g .edges) (g .entry) A B (g .n) t i S E (starts s) (ends n) (is-a y) none ∙ absence-same (g .n) t (g .t .now) (k .candidates .inv .1 .kept) (g .entry) (g .edges) A B i (omega arith)) (d .push-part .ensures) (c .if4 .left))
+    (omega arith, turn _ i (g .n) (k .candidates .inv .1) (omega arith) (absence-stands (g .edges) (g .entry) A B top t i S E (starts s) (ends n) (is-a y) none ∙ absence-same (g .n) t (g .t .now) (k .candidates .inv .1 .kept) (g .entry) (g .edges) A B top i low-top (omega arith)) (d .push-part .ensures) (c .if4 .left))
 
 candidates-less-3 : tie.Need-candidates-less-3 Inv-loop μ-loop Inv-candidates μ-candidates
 candidates-less-3 c = omega arith
@@ -260,21 +288,25 @@ candidates-less-3 c = omega arith
 candidates-again-3 : tie.Need-candidates-again-3 Inv-loop μ-loop Inv-candidates μ-candidates
 candidates-again-3 c =
     let k = c .before .before .before .before in
-    let g = k .before .args in
+    let v = k .before .before .before in
+    let g = v .args in
+    let top = k .before .top-of .result in
+    let low-top = top-below (k .before) in
     let i = k .candidates .i in
     let t = k .candidates .t in
     let A = toZ w32 (ofZ w32 (g .a)) in
     let B = toZ w32 (ofZ w32 (g .b)) in
-    (omega arith, skip _ i (g .n) (k .candidates .inv .1) (omega arith) (sym (absence-same (g .n) t (g .t .now) (k .candidates .inv .1 .kept) (g .entry) (g .edges) A B i (omega arith)) ∙ absence-other (g .edges) (g .entry) A B (g .n) t i (sym (c .before .is-of .ensures) ∙ c .if1 .left)))
+    (omega arith, skip _ i (g .n) (k .candidates .inv .1) (omega arith) (sym (absence-same (g .n) t (g .t .now) (k .candidates .inv .1 .kept) (g .entry) (g .edges) A B top i low-top (omega arith)) ∙ absence-other (g .edges) (g .entry) A B top t i (sym (c .before .is-of .ensures) ∙ c .if1 .left)))
 
 same-length-2 : tie.Need-same-length-2 Inv-loop μ-loop Inv-candidates μ-candidates
 same-length-2 c = c .before .candidates .inv .1 .size
 
 returns-2 : tie.Need-returns-2 Inv-loop μ-loop Inv-candidates μ-candidates
+unfolding absenceRows
 returns-2 c =
     let k = c .before in
-    let v = k .before in
-    simp (same32, v .fits .a, v .fits .b) at (over _ (k .candidates .i) (v .args .n) (k .candidates .inv .1) (omega arith))
+    let v = k .before .before .before in
+    simp (same32, v .fits .a, v .fits .b, simp (same32, v .fits .b) at (k .before .top-of .ensures)) at (over _ (k .candidates .i) (v .args .n) (k .candidates .inv .1) (omega arith))
 
 pub absence-rows-spec : {M : Type 1} → statement M
 absence-rows-spec =
@@ -284,6 +316,7 @@ absence-rows-spec =
     μ-loop
     Inv-candidates
     μ-candidates
+    top-of-requires
     candidates-holds
     add-i
     is-of-requires

@@ -1,0 +1,58 @@
+-- `top_of` meets its contract: the rows left have the same last row of the entry as all.
+use Prim.Native.Nat.{_-_, _≤_}
+use mathlib.Core.Path.{_≡_, refl, sym, _∙_}
+use native.Mathlib.Omega.{arith}
+use mir.Syntax.{w32}
+use mir.Val.{toZ, ofZ}
+use Rattle.interval.proofs.Machine.{same32}
+use Rattle.closing.specs.Added.{topOf}
+use Rattle.closing.proofs.Laws.{top-here, top-lower, top-none}
+use Rattle.closing.proofs.top_of.Statement.{statement}
+use Rattle.closing.proofs.top_of.Tie as tie
+
+abbrev Inv-loop : tie.InvT-loop
+Inv-loop t n b j₀ j = (j ≤ n) × (topOf (toZ w32 b) j t ≡ topOf (toZ w32 b) n t)
+
+abbrev μ-loop : tie.MeasureT-loop
+μ-loop t n b j₀ j = j
+
+loop-holds : tie.Need-loop-holds Inv-loop μ-loop
+loop-holds c = (omega arith, refl)
+
+sub-is-of : tie.Need-sub-is-of Inv-loop μ-loop
+sub-is-of c = omega arith
+
+is-of-requires : tie.Need-is-of-requires Inv-loop μ-loop
+is-of-requires c κs = omega (arith, c .before .loop .inv .0)
+
+returns : tie.Need-returns Inv-loop μ-loop
+returns c =
+    let l = c .before .before .before in
+    let g = l .before .args in
+    let b = toZ w32 (ofZ w32 (g .b)) in
+    simp (same32, l .before .fits .b) at (sym (top-here b (g .t .now) (l .loop .j) (omega arith) (sym (c .before .is-of .ensures) ∙ c .if1 .taken)) ∙ l .loop .inv .1)
+
+sub-j : tie.Need-sub-j Inv-loop μ-loop
+sub-j c = omega arith
+
+loop-less : tie.Need-loop-less Inv-loop μ-loop
+loop-less c = omega arith
+
+loop-again : tie.Need-loop-again Inv-loop μ-loop
+loop-again c =
+    let l = c .before .before .before in
+    let g = l .before .args in
+    let b = toZ w32 (ofZ w32 (g .b)) in
+    (omega (arith, l .loop .inv .0), sym (top-lower b (g .t .now) (l .loop .j) (omega arith) (sym (c .before .is-of .ensures) ∙ c .if1 .left)) ∙ l .loop .inv .1)
+
+returns-2 : tie.Need-returns-2 Inv-loop μ-loop
+returns-2 c =
+    let l = c .before in
+    let g = l .before .args in
+    let b = toZ w32 (ofZ w32 (g .b)) in
+    simp (same32, l .before .fits .b) at (sym (top-none b (g .t .now) (l .loop .j) (omega arith)) ∙ l .loop .inv .1)
+
+pub top-of-spec : {M : Type 1} → statement M
+top-of-spec =
+    tie.close
+    (tie.spec Inv-loop μ-loop loop-holds sub-is-of is-of-requires returns sub-j loop-less loop-again returns-2)

@@ -82,6 +82,10 @@ module _ {room n₀ : ℕ} {all : List Row} {t₀ : List ℤ} {n : ℕ} {rest : 
       let z : filled n t ≡ fill room n₀ all t₀ = sym (fill-none room n t) ∙ ap (λ l. fill room n l t) (sym e) ∙ f .on in
       (ap (λ (x : Filled). x .count) z, ap (λ (x : Filled). x .table) z)
 
+-- nothing is to be appended
+pub nothing : (room n : ℕ) (all : List Row) (t : List ℤ) → n ≤ room → all ≡ [] → Appended room n all t n t
+nothing room n all t h e = ended (begin room n all t h) e
+
 -- a loop that appends h i at each number i from one on to before e
 module _ {room n₀ : ℕ} {all : List Row} {t₀ : List ℤ} {n : ℕ} {t : List ℤ} (h : ℕ → List Row) (i e : ℕ) (f : Filling room n₀ all t₀ n (each h (span i e)) t) where
   module _ {rs : List Row} {k : ℕ} {u : List ℤ} (l : i < e) (same : rs ≡ h i) (d : Appended room n rs t k u) where

@@ -18,8 +18,8 @@ use Rattle.interval.specs.declared.Edges.{Edges}
 use Rattle.interval.specs.declared.LengthTest.{LengthTest}
 use Rattle.model.specs.Recognitions.{Arm, left}
 use Rattle.table.specs.Table.{cell}
-use Rattle.closing.specs.Added.{partRow, armRow, armRows, lengthRow, forbids, isWithin, isForbidden, absenceRow, pairRow, rightFrom, pairsWith, hasRow, leftMayBeOld, rightMayBeOld, leftFrom, topOf, NextOf}
-use Rattle.closing.proofs.Spans.{span-same}
+use Rattle.closing.specs.Added.{partRow, armRow, armRows, lengthRow, forbids, isWithin, isForbidden, absenceRow, absenceRows, pairRow, rightFrom, pairsWith, hasRow, leftMayBeOld, rightMayBeOld, leftFrom, topOf, NextOf}
+use Rattle.closing.proofs.Spans.{span-same, each-none-of, none-at}
 use Rattle.closing.proofs.Filling.{Kept}
 
 -- the answer of `is_of`, whose second number reached it as bits
@@ -188,3 +188,8 @@ module _ (e : Edges) (entry : ℕ) (a b : ℤ) (n : ℕ) (t : List ℤ) (i : ℕ
     pub absence-stands : isForbidden e b start end t n ≡ false → partRow left entry t i ∷ [] ≡ absenceRow e entry a b n t i
     unfolding absenceRow
     absence-stands g = rw (h, rw (s, z) at g)
+
+-- without a candidate there is nothing to append
+pub absences-none : (e : Edges) (entry : ℕ) (a b : ℤ) (m n : ℕ) (t : List ℤ) → hasRow a m n t ≡ false → absenceRows e entry a b m n t ≡ []
+unfolding absenceRows absenceRow hasRow
+absences-none e entry a b m n t z = each-none-of _ m n (λ i p q. rw (none-at (λ j. eqZ (cell t j 0) a) m (n - m) z i p (omega arith)))

@@ -49,6 +49,9 @@ module _ {B : Type 0} where
       let e : n ≡ k + (n - k) = omega arith in
       ap (λ x. each f (numbers 0 x)) e ∙ each-cut f 0 k (n - k) ∙ rw (each-empty f 0 k (λ i p q. z i (omega arith)), zero-add)
 
+  pub each-none-of : (f : ℕ → List B) (i n : ℕ) → ((j : ℕ) → i ≤ j → j < n → f j ≡ []) → each f (span i n) ≡ []
+  each-none-of f i n z = each-empty f i (n - i) (λ j p q. z j p (omega arith))
+
   pub each-past : (f : ℕ → List B) (i k n : ℕ) → i ≤ k → k ≤ n → ((j : ℕ) → i ≤ j → j < k → f j ≡ []) → each f (span i n) ≡ each f (span k n)
   each-past f i k n h g z =
       let e : n - i ≡ (k - i) + (n - k) = omega arith in

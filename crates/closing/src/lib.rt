@@ -251,8 +251,8 @@ fn top_of(t: &[i32], n: usize, b: i32) -> usize
     j
 }
 
-// -[] -][ -[[ -]]: the new rows of a that no row of b forbids. The rows behind the last one of b are passed once. Each candidate then looks
-// back at the rows that end at its start or later, up to the first forbidding one.
+// -[] -][ -[[ -]]: the new rows of a that no row of b forbids. Where there is a new row of a, the rows behind the last one of b are passed once.
+// Each candidate then looks back at the rows that end at its start or later, up to the first forbidding one.
 fn absence_rows(
     t: &mut [i32],
     m: usize,
@@ -266,6 +266,9 @@ fn absence_rows(
     requires { ⌜ (Appendable n room entry (now t)) × (m ≤ n) ⌝ }
     ensures { λ r. ⌜ Appended room n (absenceRows edges entry a b m n (now (t .entry))) (now (t .entry)) r (now (t .exit)) ⌝ }
 {
+    if !has_row(t, m, n, a) {
+        return n;
+    }
     let top = top_of(t, n, b);
     let mut count = n;
     let mut i = m;

@@ -4,6 +4,7 @@ use Prim.Native.Nat.{_-_, _≤_}
 use mathlib.Core.Path.{_≡_, refl, sym, _∙_}
 use mathlib.Core.Bool.{true}
 use native.Mathlib.Omega.{arith}
+use borrow.Author.Tests.{not-true}
 use mir.Syntax.{w32}
 use mir.Val.{toZ, ofZ}
 use Rattle.interval.specs.Instants.{eqZ}
@@ -11,8 +12,8 @@ use Rattle.interval.proofs.Machine.{same32}
 use Rattle.model.specs.Lists.{each}
 use Rattle.table.specs.Table.{cell}
 use Rattle.closing.specs.Added.{span, isForbidden, absenceRow, absenceRows}
-use Rattle.closing.proofs.Laws.{read-back, within-some, forbidden-one, forbidden-on, forbidden-end, absence-same, absence-other, absence-forbidden, absence-stands, top-le}
-use Rattle.closing.proofs.Filling.{Filling, begin, turn, stop, skip, over, appendable}
+use Rattle.closing.proofs.Laws.{read-back, within-some, forbidden-one, forbidden-on, forbidden-end, absence-same, absence-other, absence-forbidden, absence-stands, absences-none, top-le}
+use Rattle.closing.proofs.Filling.{Filling, nothing, begin, turn, stop, skip, over, appendable}
 use Rattle.closing.proofs.absence_rows.Statement.{statement}
 use Rattle.closing.proofs.absence_rows.Tie as tie
 
@@ -31,8 +32,8 @@ abbrev μ-candidates : tie.MeasureT-candidates
 μ-candidates t₀ m n room entry edges a b top count₀ i₀ t count i = n - i
 
 -- the place where each search begins
-top-below : (c : tie.After-top-of Inv-loop μ-loop Inv-candidates μ-candidates) → c .top-of .result ≤ c .before .before .args .n
-top-below c = let s = c .before .before in omega (arith, simp (same32, s .fits .b) at (c .top-of .ensures), top-le (s .args .b) (s .args .t .now) (s .args .n))
+top-below : (c : tie.After-top-of Inv-loop μ-loop Inv-candidates μ-candidates) → c .top-of .result ≤ c .before .before .before .before .before .args .n
+top-below c = let s = c .before .before .before .before .before in omega (arith, simp (same32, s .fits .b) at (c .top-of .ensures), top-le (s .args .b) (s .args .t .now) (s .args .n))
 
 -- the numbers read of the candidate
 starts : (c : tie.After-start-of Inv-loop μ-loop Inv-candidates μ-candidates) → let k = c .before .before .before .before .before .before .candidates in toZ w32 (ofZ w32 (c .start-of .result)) ≡ cell (k .t) (k .i) 3
@@ -41,14 +42,25 @@ starts c = read-back _ _ (record { sfits = c .start-of .ok }) (c .start-of .ensu
 ends : (c : tie.After-end-of Inv-loop μ-loop Inv-candidates μ-candidates) → let k = c .before .before .before .before .before .before .before .before .candidates in toZ w32 (ofZ w32 (c .end-of .result)) ≡ cell (k .t) (k .i) 4
 ends c = read-back _ _ (record { sfits = c .end-of .ok }) (c .end-of .ensures)
 
-is-a : (c : tie.Then1 Inv-loop μ-loop Inv-candidates μ-candidates) → let k = c .before .before .before .before in eqZ (cell (k .candidates .t) (k .candidates .i) 0) (toZ w32 (ofZ w32 (k .before .before .before .args .a))) ≡ true
-is-a c = sym (c .before .is-of .ensures) ∙ c .if1 .taken
+is-a : (c : tie.Then2 Inv-loop μ-loop Inv-candidates μ-candidates) → let k = c .before .before .before .before in eqZ (cell (k .candidates .t) (k .candidates .i) 0) (toZ w32 (ofZ w32 (k .before .before .before .before .before .before .args .a))) ≡ true
+is-a c = sym (c .before .is-of .ensures) ∙ c .if2 .taken
+
+has-row-requires : tie.Need-has-row-requires Inv-loop μ-loop Inv-candidates μ-candidates
+has-row-requires c κs = let s = c .before in omega (arith, s .pre .0 .held, s .pre .0 .most, s .pre .0 .fit)
+
+same-length : tie.Need-same-length Inv-loop μ-loop Inv-candidates μ-candidates
+same-length c = refl
+
+returns : tie.Need-returns Inv-loop μ-loop Inv-candidates μ-candidates
+returns c =
+    let s = c .before .before .before in
+    nothing _ _ _ _ (s .pre .0 .fit) (absences-none _ _ _ _ _ _ _ (simp (same32, s .fits .a) at (sym (c .before .has-row .ensures) ∙ not-true _ (c .if1 .taken))))
 
 top-of-requires : tie.Need-top-of-requires Inv-loop μ-loop Inv-candidates μ-candidates
-top-of-requires c κs = let s = c .before in omega (arith, s .pre .0 .held, s .pre .0 .most, s .pre .0 .fit)
+top-of-requires c κs = let s = c .before .before .before .before in omega (arith, s .pre .0 .held, s .pre .0 .most, s .pre .0 .fit)
 
 candidates-holds : tie.Need-candidates-holds Inv-loop μ-loop Inv-candidates μ-candidates
-candidates-holds c = (omega arith, begin _ _ _ _ (c .before .before .pre .0 .fit))
+candidates-holds c = (omega arith, begin _ _ _ _ (c .before .before .before .before .before .pre .0 .fit))
 
 add-i : tie.Need-add-i Inv-loop μ-loop Inv-candidates μ-candidates
 add-i c = omega arith
@@ -69,7 +81,7 @@ is-within-requires : tie.Need-is-within-requires Inv-loop μ-loop Inv-candidates
 is-within-requires c κs =
     let l = c .before in
     let k = c .before .before .before .before .before .before .before .before .before .before in
-    omega (arith, top-below (k .before), l .loop .inv .0, k .candidates .inv .1 .size, k .before .before .before .pre .0 .held, k .before .before .before .pre .0 .most, k .before .before .before .pre .0 .fit)
+    omega (arith, top-below (k .before), l .loop .inv .0, k .candidates .inv .1 .size, k .before .before .before .before .before .before .pre .0 .held, k .before .before .before .before .before .before .pre .0 .most, k .before .before .before .before .before .before .pre .0 .fit)
 
 sub-j : tie.Need-sub-j Inv-loop μ-loop Inv-candidates μ-candidates
 sub-j c =
@@ -79,7 +91,7 @@ sub-j c =
     let y = s .before .before in
     let low = y .before .before .before .candidates-test .taken in
     let k = y .before .before .before .before in
-    let v = k .before .before .before in
+    let v = k .before .before .before .before .before .before in
     let g = v .args in
     let top = k .before .top-of .result in
     let low-top = top-below (k .before) in
@@ -90,7 +102,7 @@ sub-j c =
     let S = toZ w32 (ofZ w32 (s .start-of .result)) in
     let E = toZ w32 (ofZ w32 (n .end-of .result)) in
     let j = l .loop .j in
-    omega (arith, within-some (g .edges) B S E t j (sym (c .before .is-within .ensures) ∙ c .if2 .taken))
+    omega (arith, within-some (g .edges) B S E t j (sym (c .before .is-within .ensures) ∙ c .if3 .taken))
 
 is-forbidding-row-requires :
     tie.Need-is-forbidding-row-requires Inv-loop μ-loop Inv-candidates μ-candidates
@@ -101,7 +113,7 @@ is-forbidding-row-requires c κs =
     let y = s .before .before in
     let low = y .before .before .before .candidates-test .taken in
     let k = y .before .before .before .before in
-    let v = k .before .before .before in
+    let v = k .before .before .before .before .before .before in
     let g = v .args in
     let top = k .before .top-of .result in
     let low-top = top-below (k .before) in
@@ -112,7 +124,7 @@ is-forbidding-row-requires c κs =
     let S = toZ w32 (ofZ w32 (s .start-of .result)) in
     let E = toZ w32 (ofZ w32 (n .end-of .result)) in
     let j = l .loop .j in
-    let w = within-some (g .edges) B S E t j (sym (c .before .before .is-within .ensures) ∙ c .before .if2 .taken) in
+    let w = within-some (g .edges) B S E t j (sym (c .before .before .is-within .ensures) ∙ c .before .if3 .taken) in
     omega (arith, w, low-top, l .loop .inv .0, k .candidates .inv .1 .size, v .pre .0 .held, v .pre .0 .most, v .pre .0 .fit)
 
 candidates-less : tie.Need-candidates-less Inv-loop μ-loop Inv-candidates μ-candidates
@@ -126,7 +138,7 @@ candidates-again c =
     let y = s .before .before in
     let low = y .before .before .before .candidates-test .taken in
     let k = y .before .before .before .before in
-    let v = k .before .before .before in
+    let v = k .before .before .before .before .before .before in
     let g = v .args in
     let top = k .before .top-of .result in
     let low-top = top-below (k .before) in
@@ -139,7 +151,7 @@ candidates-again c =
     let j = l .loop .j in
     let q = c .before in
     let u = q .before .before in
-    let hit = forbidden-one (g .edges) B S E t j (sym (u .before .is-within .ensures) ∙ u .if2 .taken) (sym (q .is-forbidding-row .ensures) ∙ c .if3 .taken) in
+    let hit = forbidden-one (g .edges) B S E t j (sym (u .before .is-within .ensures) ∙ u .if3 .taken) (sym (q .is-forbidding-row .ensures) ∙ c .if4 .taken) in
     (omega arith, skip _ i (g .n) (k .candidates .inv .1) (omega arith) (sym (absence-same (g .n) t (g .t .now) (k .candidates .inv .1 .kept) (g .entry) (g .edges) A B top i low-top (omega arith)) ∙ absence-forbidden (g .edges) (g .entry) A B top t i S E (starts s) (ends n) (is-a y) (sym (l .loop .inv .1) ∙ hit)))
 
 loop-less : tie.Need-loop-less Inv-loop μ-loop Inv-candidates μ-candidates
@@ -150,7 +162,7 @@ loop-less c =
     let y = s .before .before in
     let low = y .before .before .before .candidates-test .taken in
     let k = y .before .before .before .before in
-    let v = k .before .before .before in
+    let v = k .before .before .before .before .before .before in
     let g = v .args in
     let top = k .before .top-of .result in
     let low-top = top-below (k .before) in
@@ -162,7 +174,7 @@ loop-less c =
     let E = toZ w32 (ofZ w32 (n .end-of .result)) in
     let j = l .loop .j in
     let u = c .before .before .before in
-    omega (arith, within-some (g .edges) B S E t j (sym (u .before .is-within .ensures) ∙ u .if2 .taken))
+    omega (arith, within-some (g .edges) B S E t j (sym (u .before .is-within .ensures) ∙ u .if3 .taken))
 
 loop-again : tie.Need-loop-again Inv-loop μ-loop Inv-candidates μ-candidates
 loop-again c =
@@ -172,7 +184,7 @@ loop-again c =
     let y = s .before .before in
     let low = y .before .before .before .candidates-test .taken in
     let k = y .before .before .before .before in
-    let v = k .before .before .before in
+    let v = k .before .before .before .before .before .before in
     let g = v .args in
     let top = k .before .top-of .result in
     let low-top = top-below (k .before) in
@@ -185,7 +197,7 @@ loop-again c =
     let j = l .loop .j in
     let q = c .before in
     let u = q .before .before in
-    let on = forbidden-on (g .edges) B S E t j (sym (u .before .is-within .ensures) ∙ u .if2 .taken) (sym (q .is-forbidding-row .ensures) ∙ c .if3 .left) in
+    let on = forbidden-on (g .edges) B S E t j (sym (u .before .is-within .ensures) ∙ u .if3 .taken) (sym (q .is-forbidding-row .ensures) ∙ c .if4 .left) in
     (omega (arith, l .loop .inv .0), sym on ∙ l .loop .inv .1)
 
 push-part-requires : tie.Need-push-part-requires Inv-loop μ-loop Inv-candidates μ-candidates
@@ -196,7 +208,7 @@ push-part-requires c κs =
     let y = s .before .before in
     let low = y .before .before .before .candidates-test .taken in
     let k = y .before .before .before .before in
-    let v = k .before .before .before in
+    let v = k .before .before .before .before .before .before in
     let g = v .args in
     let top = k .before .top-of .result in
     let low-top = top-below (k .before) in
@@ -209,15 +221,15 @@ push-part-requires c κs =
     let j = l .loop .j in
     (appendable (v .pre .0) (k .candidates .inv .1), omega (arith, k .candidates .inv .1 .least))
 
-same-length : tie.Need-same-length Inv-loop μ-loop Inv-candidates μ-candidates
-same-length c =
+same-length-2 : tie.Need-same-length-2 Inv-loop μ-loop Inv-candidates μ-candidates
+same-length-2 c =
     let l = c .before .before .before .before .before .before .before in
     let n = l .before in
     let s = n .before .before in
     let y = s .before .before in
     let low = y .before .before .before .candidates-test .taken in
     let k = y .before .before .before .before in
-    let v = k .before .before .before in
+    let v = k .before .before .before .before .before .before in
     let g = v .args in
     let top = k .before .top-of .result in
     let low-top = top-below (k .before) in
@@ -230,16 +242,16 @@ same-length c =
     let j = l .loop .j in
     c .before .before .push-part .kept .0 ∙ k .candidates .inv .1 .size
 
-returns : tie.Need-returns Inv-loop μ-loop Inv-candidates μ-candidates
+returns-2 : tie.Need-returns-2 Inv-loop μ-loop Inv-candidates μ-candidates
 unfolding absenceRows
-returns c =
+returns-2 c =
     let l = c .before .before .before .before .before .before .before in
     let n = l .before in
     let s = n .before .before in
     let y = s .before .before in
     let low = y .before .before .before .candidates-test .taken in
     let k = y .before .before .before .before in
-    let v = k .before .before .before in
+    let v = k .before .before .before .before .before .before in
     let g = v .args in
     let top = k .before .top-of .result in
     let low-top = top-below (k .before) in
@@ -252,8 +264,8 @@ returns c =
     let j = l .loop .j in
     let d = c .before .before in
     let u = d .before .before in
-    let none = sym (l .loop .inv .1) ∙ forbidden-end (g .edges) B S E t j (sym (u .before .is-within .ensures) ∙ u .if2 .left) in
-    simp (same32, v .fits .a, v .fits .b, simp (same32, v .fits .b) at (k .before .top-of .ensures)) at (stop _ i (g .n) (k .candidates .inv .1) (omega arith) (absence-stands (g .edges) (g .entry) A B top t i S E (starts s) (ends n) (is-a y) none ∙ absence-same (g .n) t (g .t .now) (k .candidates .inv .1 .kept) (g .entry) (g .edges) A B top i low-top (omega arith)) (d .push-part .ensures) (c .if4 .taken))
+    let none = sym (l .loop .inv .1) ∙ forbidden-end (g .edges) B S E t j (sym (u .before .is-within .ensures) ∙ u .if3 .left) in
+    simp (same32, v .fits .a, v .fits .b, simp (same32, v .fits .b) at (k .before .top-of .ensures)) at (stop _ i (g .n) (k .candidates .inv .1) (omega arith) (absence-stands (g .edges) (g .entry) A B top t i S E (starts s) (ends n) (is-a y) none ∙ absence-same (g .n) t (g .t .now) (k .candidates .inv .1 .kept) (g .entry) (g .edges) A B top i low-top (omega arith)) (d .push-part .ensures) (c .if5 .taken))
 
 candidates-less-2 : tie.Need-candidates-less-2 Inv-loop μ-loop Inv-candidates μ-candidates
 candidates-less-2 c = omega arith
@@ -266,7 +278,7 @@ candidates-again-2 c =
     let y = s .before .before in
     let low = y .before .before .before .candidates-test .taken in
     let k = y .before .before .before .before in
-    let v = k .before .before .before in
+    let v = k .before .before .before .before .before .before in
     let g = v .args in
     let top = k .before .top-of .result in
     let low-top = top-below (k .before) in
@@ -279,8 +291,8 @@ candidates-again-2 c =
     let j = l .loop .j in
     let d = c .before .before in
     let u = d .before .before in
-    let none = sym (l .loop .inv .1) ∙ forbidden-end (g .edges) B S E t j (sym (u .before .is-within .ensures) ∙ u .if2 .left) in
-    (omega arith, turn _ i (g .n) (k .candidates .inv .1) (omega arith) (absence-stands (g .edges) (g .entry) A B top t i S E (starts s) (ends n) (is-a y) none ∙ absence-same (g .n) t (g .t .now) (k .candidates .inv .1 .kept) (g .entry) (g .edges) A B top i low-top (omega arith)) (d .push-part .ensures) (c .if4 .left))
+    let none = sym (l .loop .inv .1) ∙ forbidden-end (g .edges) B S E t j (sym (u .before .is-within .ensures) ∙ u .if3 .left) in
+    (omega arith, turn _ i (g .n) (k .candidates .inv .1) (omega arith) (absence-stands (g .edges) (g .entry) A B top t i S E (starts s) (ends n) (is-a y) none ∙ absence-same (g .n) t (g .t .now) (k .candidates .inv .1 .kept) (g .entry) (g .edges) A B top i low-top (omega arith)) (d .push-part .ensures) (c .if5 .left))
 
 candidates-less-3 : tie.Need-candidates-less-3 Inv-loop μ-loop Inv-candidates μ-candidates
 candidates-less-3 c = omega arith
@@ -288,7 +300,7 @@ candidates-less-3 c = omega arith
 candidates-again-3 : tie.Need-candidates-again-3 Inv-loop μ-loop Inv-candidates μ-candidates
 candidates-again-3 c =
     let k = c .before .before .before .before in
-    let v = k .before .before .before in
+    let v = k .before .before .before .before .before .before in
     let g = v .args in
     let top = k .before .top-of .result in
     let low-top = top-below (k .before) in
@@ -296,16 +308,16 @@ candidates-again-3 c =
     let t = k .candidates .t in
     let A = toZ w32 (ofZ w32 (g .a)) in
     let B = toZ w32 (ofZ w32 (g .b)) in
-    (omega arith, skip _ i (g .n) (k .candidates .inv .1) (omega arith) (sym (absence-same (g .n) t (g .t .now) (k .candidates .inv .1 .kept) (g .entry) (g .edges) A B top i low-top (omega arith)) ∙ absence-other (g .edges) (g .entry) A B top t i (sym (c .before .is-of .ensures) ∙ c .if1 .left)))
+    (omega arith, skip _ i (g .n) (k .candidates .inv .1) (omega arith) (sym (absence-same (g .n) t (g .t .now) (k .candidates .inv .1 .kept) (g .entry) (g .edges) A B top i low-top (omega arith)) ∙ absence-other (g .edges) (g .entry) A B top t i (sym (c .before .is-of .ensures) ∙ c .if2 .left)))
 
-same-length-2 : tie.Need-same-length-2 Inv-loop μ-loop Inv-candidates μ-candidates
-same-length-2 c = c .before .candidates .inv .1 .size
+same-length-3 : tie.Need-same-length-3 Inv-loop μ-loop Inv-candidates μ-candidates
+same-length-3 c = c .before .candidates .inv .1 .size
 
-returns-2 : tie.Need-returns-2 Inv-loop μ-loop Inv-candidates μ-candidates
+returns-3 : tie.Need-returns-3 Inv-loop μ-loop Inv-candidates μ-candidates
 unfolding absenceRows
-returns-2 c =
+returns-3 c =
     let k = c .before in
-    let v = k .before .before .before in
+    let v = k .before .before .before .before .before .before in
     simp (same32, v .fits .a, v .fits .b, simp (same32, v .fits .b) at (k .before .top-of .ensures)) at (over _ (k .candidates .i) (v .args .n) (k .candidates .inv .1) (omega arith))
 
 pub absence-rows-spec : {M : Type 1} → statement M
@@ -316,6 +328,9 @@ absence-rows-spec =
     μ-loop
     Inv-candidates
     μ-candidates
+    has-row-requires
+    same-length
+    returns
     top-of-requires
     candidates-holds
     add-i
@@ -331,11 +346,11 @@ absence-rows-spec =
     loop-less
     loop-again
     push-part-requires
-    same-length
-    returns
+    same-length-2
+    returns-2
     candidates-less-2
     candidates-again-2
     candidates-less-3
     candidates-again-3
-    same-length-2
-    returns-2)
+    same-length-3
+    returns-3)

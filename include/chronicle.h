@@ -270,9 +270,10 @@ struct chronicle_answer chronicle_event(struct chronicle_watch watch, struct chr
  *     seq meets overlaps          where b has a new row, at all rows and, for each of a,
  *     starts during               at the new rows
  *     and                         likewise and, for each new row of a, at all rows
- *     -[] -][ -[[ -]]             at the rows behind the last one of b, at the new rows and,
- *                                 for each of a, at the rows up to there that end no earlier
- *                                 than it starts, back to the first that forbids
+ *     -[] -][ -[[ -]]             at the new rows; where one is of a, at the rows behind the
+ *                                 last one of b and, for each of a, at the rows up to there
+ *                                 that end no earlier than it starts, back to the first that
+ *                                 forbids
  */
 CHRONICLE_CALL
 struct chronicle_answer chronicle_clock(struct chronicle_watch watch, struct chronicle_chart chart, int32_t *table,

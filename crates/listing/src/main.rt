@@ -1,6 +1,6 @@
 // The listing program: a chart, an empty line and a log on standard input; on standard output the table at the end, or one line `refused`, number,
-// line. What is played and printed is in crate `program`; here are only the file descriptors and the memory: a table of 3,000 rows, a buffer to read
-// into, and one for what is printed.
+// line. What is played and printed is in crate `program`; here are only the file descriptors and the memory: a table of 3,000 rows of five numbers, a
+// buffer to read into, and one for what is printed, which has the 40 bytes and 81 for each row that the end-to-end theorem asks for.
 ghost use mathlib.Core.Path.{_≡_};
 ghost use mathlib.Core.Bool.{true, false};
 ghost use Prim.Native.Nat.{_+_, _≤_, _<_};

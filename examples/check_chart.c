@@ -1,8 +1,8 @@
 /*
  * Checks a chart and prints the verdict. Use: check_chart [FILE]
  * Without FILE the chart is read from standard input. To build it:
- *     rt staticlib chart
- *     gcc -std=c11 -Iinclude examples/check_chart.c target/staticlib/libchart.a -o target/check_chart
+ *     rt staticlib host
+ *     gcc -std=c11 -Iinclude examples/check_chart.c target/staticlib/libhost.a -o target/check_chart
  */
 #include "chronicle.h"
 

@@ -7,15 +7,13 @@
  * and leaves in lent memory, what this page says, for every input. Times and
  * stack sizes are no part of the proof.
  *
- * There are two archives, for x86-64 Linux:
+ * Every call is in one archive, for x86-64 Linux:
  *
- *     target/staticlib/libchart.a  (rt staticlib chart)  chronicle_check_chart
- *     target/staticlib/libhost.a   (rt staticlib host)   every other call below
- *
+ *     rt staticlib host
  *     gcc -Iinclude program.c target/staticlib/libhost.a
  *
- * A program that runs a watch needs libhost.a alone: chronicle_read_chart gives
- * the numbers of chronicle_check_chart and the chart itself.
+ * chronicle_check_chart says whether a chart is sound. A program that runs a
+ * watch calls chronicle_read_chart, which says the same and gives the chart.
  *
  *
  * CHARTS
@@ -154,17 +152,20 @@
  * There is no state between calls. Any number of threads may make calls at
  * once; on one table they may only do so while none of them writes to it.
  *
- * No call makes a system call, sets errno, or runs on for ever. chronicle_forget
- * needs less than 160 kB of stack, chronicle_tree less than 40 kB, every other
- * call less than 4 kB. What a call costs stands above it. "A check" there is one
- * look at each entry of the chart and one walk of the table: constant work for
- * each row in use, and one look at every number of the other rows.
+ * No call makes a system call, sets errno, or runs on for ever. No call needs
+ * more than CHRONICLE_STACK bytes of stack, whatever it is given. What a call
+ * costs stands above it. "A check" there is one look at each entry of the chart
+ * and one walk of the table: constant work for each row in use, and one look at
+ * every number of the other rows.
  */
 #ifndef CHRONICLE_H
 #define CHRONICLE_H
 
 #include <stddef.h>
 #include <stdint.h>
+
+/* The stack that a thread needs for any call, what the thread itself needs aside; measured, with room to spare. */
+#define CHRONICLE_STACK 8192
 
 #ifdef __GNUC__
 #define CHRONICLE_CALL __attribute__((nonnull, warn_unused_result))
@@ -243,7 +244,7 @@ struct chronicle_tree_answer {
     size_t length;
 };
 
-/* Checks a chart on paper (libchart.a). Time: proportional to the bytes of its first 33 lines. */
+/* Checks a chart on paper. Time: proportional to the bytes of its first 33 lines. */
 CHRONICLE_CALL
 struct chronicle_verdict chronicle_check_chart(const uint8_t *bytes, size_t length);
 
@@ -279,7 +280,10 @@ CHRONICLE_CALL
 struct chronicle_answer chronicle_clock(struct chronicle_watch watch, struct chronicle_chart chart, int32_t *table,
                                         size_t length, int32_t instant);
 
-/* A forget: raises the floor and drops the rows that start before it. Time: a check and a second walk of the rows. */
+/*
+ * A forget: raises the floor and drops the rows that start before it. Time: a check, a second walk of the rows and, where
+ * one is dropped, a third one of those kept.
+ */
 CHRONICLE_CALL
 struct chronicle_answer chronicle_forget(struct chronicle_watch watch, struct chronicle_chart chart, int32_t *table,
                                          size_t length, int32_t floor);

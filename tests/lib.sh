@@ -64,10 +64,10 @@ rust() {
     rustc --edition 2021 -C opt-level=3 "$1" -o "$2" -L "dependency=$built" "${@:3}"
 }
 
-# c SOURCE OUTPUT ARCHIVE: compiles one C program and links it with an archive.
+# c SOURCE OUTPUT ARCHIVE [WORD...]: compiles one C program and links it with an archive.
 c() {
     mkdir -p "$built"
-    gcc -std=c11 -Wall -Wextra -Werror -O2 -g -Iinclude "$1" "$3" -o "$2"
+    gcc -std=c11 -Wall -Wextra -Werror -O2 -g -Iinclude "$1" "$3" -o "$2" "${@:4}"
 }
 
 make_common() {

@@ -1,9 +1,9 @@
-//! The proved chart check, linked from the archive that `rt staticlib chart` writes. include/chronicle.h declares the
+//! The proved chart check, linked from the archive that `rt staticlib host` writes. include/chronicle.h declares the
 //! same.
 
 use common::plain_chart::Verdict;
 
-#[link(name = "chart", kind = "static")]
+#[link(name = "host", kind = "static")]
 extern "C" {
     fn chronicle_check_chart(bytes: *const u8, length: usize) -> Verdict;
 }

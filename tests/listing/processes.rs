@@ -1,7 +1,8 @@
 //! Runs the listing program itself and compares what it prints: input in pieces of any size, lines and inputs of any
-//! length within a bounded memory, and inputs and outputs that are no files of text.
+//! length within a bounded memory, and inputs and outputs that are no files of text or that fail.
 
 mod damage;
+mod failures;
 #[allow(dead_code)]
 mod inputs;
 mod terminal;
@@ -13,8 +14,7 @@ use plain_listing::list;
 use plain_listing::long_logs::{one_event_too_many, WORKLOADS};
 use std::fs::{self, File};
 use std::io::{self, Read, Write};
-use std::os::unix::process::ExitStatusExt;
-use std::process::{Child, ChildStdin, Command, ExitCode, ExitStatus, Output, Stdio};
+use std::process::{Child, ChildStdin, Command, ExitCode, Output, Stdio};
 use std::thread;
 use std::time::{Duration, Instant};
 
@@ -25,7 +25,6 @@ const GIGABYTE: usize = 1 << 30;
 const MEMORY: usize = 65_536;
 /// A run that takes longer is taken for one that never ends.
 const LONGEST_RUN: Duration = Duration::from_secs(120);
-const BROKEN_PIPE: i32 = 13;
 
 /// Nothing, or what the first difference was.
 type Compared = Result<(), String>;
@@ -35,14 +34,17 @@ fn main() -> ExitCode {
         eprintln!("use: listing_processes LISTING");
         return ExitCode::from(2);
     };
-    let parts: [(&str, fn(&str) -> Compared); 7] = [
+    let parts: [(&str, fn(&str) -> Compared); 10] = [
         ("inputs in pieces", in_pieces),
         ("lines of a gigabyte", long_lines),
         ("a million events and more", many_events),
         ("millions of lines", many_lines),
         ("inputs that are no text", odd_inputs),
         ("a terminal", terminal::compare),
-        ("outputs that take nothing", odd_outputs),
+        ("inputs that cannot be read", failures::unreadable_inputs),
+        ("inputs that break off", failures::broken_inputs),
+        ("inputs that a signal interrupts", failures::interrupted_inputs),
+        ("outputs that cannot be written", failures::unwritten_outputs),
     ];
     for (name, compare) in parts {
         if let Err(difference) = compare(&path) {
@@ -65,7 +67,11 @@ fn program(path: &str) -> Command {
 /// Runs the program on what `write` writes into its standard input. That the program ends before it has read all is no
 /// fault, so whether all could be written does not matter.
 fn run(path: &str, write: impl FnOnce(&mut ChildStdin) -> io::Result<()> + Send + 'static) -> Output {
-    let mut child = program(path).stdin(Stdio::piped()).spawn().expect("the program can be run");
+    run_on(&mut program(path), write)
+}
+
+fn run_on(command: &mut Command, write: impl FnOnce(&mut ChildStdin) -> io::Result<()> + Send + 'static) -> Output {
+    let mut child = command.stdin(Stdio::piped()).spawn().expect("the program can be run");
     let mut input = child.stdin.take().expect("the input is piped");
     let writer = thread::spawn(move || drop(write(&mut input)));
     let output = finished(child);
@@ -102,12 +108,21 @@ fn read_all(mut source: impl Read + Send + 'static) -> thread::JoinHandle<Vec<u8
 
 /// The expected output, nothing on standard error, and the exit status of success, for refusals too.
 fn compare(what: &str, output: &Output, expected: &[u8]) -> Compared {
-    if output.status.success() && output.stdout == expected && output.stderr.is_empty() {
+    compare_both(what, output, expected, b"")
+}
+
+/// The expected output and the expected line on standard error, and the exit status of success.
+fn compare_both(what: &str, output: &Output, expected: &[u8], line: &[u8]) -> Compared {
+    if output.status.success() && output.stdout == expected && output.stderr == line {
         return Ok(());
     }
     let start = |text: &[u8]| text[..text.len().min(2_000)].escape_ascii().to_string();
     let (printed, said) = (start(&output.stdout), start(&output.stderr));
-    Err(format!("{what}\nexpected \"{}\"\nprinted \"{printed}\", said \"{said}\", {}", start(expected), output.status))
+    let (expected, line) = (start(expected), start(line));
+    Err(format!(
+        "{what}\nexpected \"{expected}\", \"{line}\"\nprinted \"{printed}\", said \"{said}\", {}",
+        output.status
+    ))
 }
 
 /// Writes in pieces of random sizes, with a rest after some of them, so that the program's reads come short.
@@ -194,7 +209,7 @@ fn many_lines(path: &str) -> Compared {
     compare("millions of forgets, the last refused", &refused, format!("refused\t11\t{line}\n").as_bytes())
 }
 
-/// Files of any bytes, and inputs that cannot be read, which are taken as empty.
+/// Files of any bytes.
 fn odd_inputs(path: &str) -> Compared {
     for file in ["/dev/null", "/bin/sh", path] {
         let bytes = fs::read(file).expect("the file can be read");
@@ -202,42 +217,5 @@ fn odd_inputs(path: &str) -> Compared {
         let child = program(path).stdin(input).spawn().expect("the program can be run");
         compare(file, &finished(child), &listing(&bytes, TABLE_ROWS, Over::EventsFromFloor))?;
     }
-    let folder = program(path).stdin(File::open("/").expect("a folder can be opened")).spawn();
-    compare_unreadable("a folder as input", &finished(folder.expect("the program can be run")))?;
-    let mut closed = Command::new("sh");
-    closed.args(["-c", "exec \"$0\" <&-", path]).stdout(Stdio::piped()).stderr(Stdio::piped());
-    compare_unreadable("no input at all", &finished(closed.spawn().expect("the program can be run")))
-}
-
-/// What is printed as for an empty input; the exit status is left open.
-fn compare_unreadable(what: &str, output: &Output) -> Compared {
-    let taken = Output { status: ExitStatus::default(), ..output.clone() };
-    compare(what, &taken, b"refused\t1\t1\n")
-}
-
-/// Outputs that are closed, full, or read by nobody: the program ends and says nothing elsewhere.
-fn odd_outputs(path: &str) -> Compared {
-    let printing = |redirection: &str| {
-        let mut command = Command::new("sh");
-        command.args(["-c", &format!("exec \"$0\" {redirection}"), path]);
-        command.stdin(Stdio::null()).stdout(Stdio::piped()).stderr(Stdio::piped());
-        command
-    };
-    for (what, redirection) in [("a closed output", ">&-"), ("a full output", ">/dev/full")] {
-        let child = printing(redirection).spawn().expect("the program can be run");
-        compare_silent(what, &finished(child))?;
-    }
-    let mut unread = program(path).stdin(Stdio::piped()).spawn().expect("the program can be run");
-    drop(unread.stdout.take());
-    drop(unread.stdin.take());
-    compare_silent("an output that nobody reads", &finished(unread))
-}
-
-/// A signal is no end that is wanted, but for the one that tells of a broken pipe.
-fn compare_silent(what: &str, output: &Output) -> Compared {
-    let is_ended = output.status.signal().is_none_or(|signal| signal == BROKEN_PIPE);
-    if is_ended && output.stdout.is_empty() && output.stderr.is_empty() {
-        return Ok(());
-    }
-    Err(format!("{what}: said \"{}\", {}", output.stderr.escape_ascii(), output.status))
+    Ok(())
 }

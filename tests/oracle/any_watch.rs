@@ -3,7 +3,7 @@
 //! numbers.
 
 use crate::conditions::{has_length, is_forbidding, is_related, Interval};
-use crate::joint;
+use crate::consistency;
 use crate::layout::{self, flat, rows_held, rows_in_use};
 use crate::model::{Call, INSTANTS, MOST_EVENTS, MOST_PENDING};
 use crate::recognitions::Row;
@@ -30,11 +30,11 @@ pub fn open(chart: &Chart, table: &[i32], instant: i32) -> Outcome {
 
 /// 14, 13 or 0 for none.
 pub fn check(watch: &Watch, chart: &Chart, table: &[i32]) -> u32 {
-    entries_in_joint(watch, chart, table).err().unwrap_or(0)
+    entries_consistent(watch, chart, table).err().unwrap_or(0)
 }
 
 pub fn play(watch: &Watch, chart: &Chart, table: &[i32], call: Call) -> Outcome {
-    let step = entries_in_joint(watch, chart, table).and_then(|entries| match call {
+    let step = entries_consistent(watch, chart, table).and_then(|entries| match call {
         Call::Event(code) => event(watch, code).map(|next| (next, table.to_vec())),
         Call::Clock(instant) => clock(watch, &entries, table, instant),
         Call::Forget(floor) => forget(watch, &entries, table, floor),
@@ -56,7 +56,7 @@ pub fn rows_ending(watch: &Watch, chart: &Chart, table: &[i32], end: i32) -> Ran
 
 /// The bytes of a row's tree, "15 before 16".
 pub fn tree(watch: &Watch, chart: &Chart, table: &[i32], row: usize, room: usize) -> Result<String, u32> {
-    let entries = entries_in_joint(watch, chart, table)?;
+    let entries = entries_consistent(watch, chart, table)?;
     if row >= watch.rows {
         return Err(15);
     }
@@ -68,9 +68,9 @@ pub fn tree(watch: &Watch, chart: &Chart, table: &[i32], row: usize, room: usize
 }
 
 /// A chart's entries, or "14, 13".
-fn entries_in_joint(watch: &Watch, chart: &Chart, table: &[i32]) -> Result<Vec<Entry>, u32> {
+fn entries_consistent(watch: &Watch, chart: &Chart, table: &[i32]) -> Result<Vec<Entry>, u32> {
     let entries = chart_value::entries(chart).ok_or(14u32)?;
-    if joint::causes(watch, &entries, table).is_empty() {
+    if consistency::causes(watch, &entries, table).is_empty() {
         Ok(entries)
     } else {
         Err(13)

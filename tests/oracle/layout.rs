@@ -28,7 +28,7 @@ pub fn rows_ending(rows: &[Row], end: i32) -> Range<usize> {
     first..first + rows.iter().filter(|row| row.end == end).count()
 }
 
-/// The rows in use of a table in joint.
+/// The rows in use of a consistent table.
 pub fn rows_in_use(watch: &Watch, table: &[i32]) -> Vec<Row> {
     let row = |numbers: &[i32]| {
         let number = |place: usize| i64::from(numbers[place]);

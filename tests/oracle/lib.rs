@@ -6,7 +6,7 @@
 pub mod any_watch;
 mod conditions;
 pub mod history;
-pub mod joint;
+pub mod consistency;
 pub mod layout;
 pub mod listing;
 pub mod model;

@@ -7,7 +7,7 @@ use common::random::Random;
 use common::random_inputs;
 use oracle::any_watch;
 use oracle::history::History;
-use oracle::joint::{self, Cause, CAUSES};
+use oracle::consistency::{self, Cause, CAUSES};
 use oracle::listing::{listing, TABLE_ROWS};
 use oracle::model::{Call, Model, Over, MOST_EVENTS, MOST_PENDING};
 use oracle::recognitions::Row;
@@ -116,7 +116,7 @@ fn rows_stand_in_order() {
     }
 }
 
-/// A step on the rows of a table gives what the recognitions over all events give, and every history is in joint.
+/// A step on the rows of a table gives what the recognitions over all events give, and every history is consistent.
 #[test]
 fn steps_on_rows_follow_the_recognitions() {
     let mut random = Random::new(13);
@@ -164,9 +164,9 @@ fn p1_at_the_end() -> (Watch, Vec<i32>) {
 
 /// Each cause of "out of joint" by itself, and changes that are none.
 #[test]
-fn each_cause_of_out_of_joint() {
+fn each_cause_of_13() {
     let (watch, table) = p1_at_the_end();
-    let causes_of = |watch: Watch, table: &[i32]| Vec::from_iter(joint::causes(&watch, &chart(P1), table));
+    let causes_of = |watch: Watch, table: &[i32]| Vec::from_iter(consistency::causes(&watch, &chart(P1), table));
     let with = |numbers: &[(usize, i32)]| {
         let mut changed = table.clone();
         numbers.iter().for_each(|(place, number)| changed[*place] = *number);

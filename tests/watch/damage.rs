@@ -1,5 +1,5 @@
 //! Watches, charts and tables that no history made: what a history left, with something in it changed. Each call must
-//! answer what `oracle::any_watch` says, 13 exactly where `oracle::joint` finds a cause.
+//! answer what `oracle::any_watch` says, 13 exactly where `oracle::consistency` finds a cause.
 
 use crate::histories::{any_row, compare_check_and_rows, compare_tree, Compared};
 use crate::met::Met;
@@ -8,7 +8,7 @@ use crate::subject::{lent_table, name, Subject};
 use common::chart_value;
 use common::interface::{Answer, Calls, Chart};
 use common::random::Random;
-use oracle::{any_watch, joint};
+use oracle::{any_watch, consistency};
 
 type Change = fn(&mut Random, &mut Subject);
 
@@ -46,7 +46,7 @@ pub fn compare(calls: &Calls, last: &Subject, random: &mut Random, met: &mut Met
         break_chart(random, &mut changed.chart);
     }
     if let Some(entries) = chart_value::entries(&changed.chart) {
-        met.count_causes(&joint::causes(&changed.watch, &entries, changed.table.part()));
+        met.count_causes(&consistency::causes(&changed.watch, &entries, changed.table.part()));
     }
     let compared =
         compare_plays(calls, &changed, random, met).and_then(|()| compare_reads(calls, &changed, random, met));
@@ -252,7 +252,7 @@ fn drop_row(random: &mut Random, subject: &mut Subject) {
     }
 }
 
-/// A copy of the last row or of another behind the last: a row too many, and yet in joint with the others.
+/// A copy of the last row or of another behind the last: a row too many, and yet consistent with the others.
 fn append_row(random: &mut Random, subject: &mut Subject) {
     let rows = row_count(subject);
     if rows > 0 && (rows + 1) * 5 <= subject.table.part().len() {

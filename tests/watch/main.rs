@@ -59,7 +59,7 @@ fn compare(calls: &Calls, extent: &Extent, met: &mut Met) -> Compared {
 fn compare_proved() -> bool {
     let mut met = Met::nothing();
     let calls = proved_watch::CALLS;
-    if let Err(difference) = compare(&calls, &FULL, &mut met).and_then(|()| planned::stack(&calls, &mut met)) {
+    if let Err(difference) = compare(&calls, &FULL, &mut met) {
         println!("difference: {difference}");
         return false;
     }

@@ -2,7 +2,7 @@
 
 use common::interface::{Chart, Watch};
 use common::plain_chart::WORDS;
-use oracle::joint::{Cause, CAUSES};
+use oracle::consistency::{Cause, CAUSES};
 use std::collections::{BTreeMap, BTreeSet};
 
 /// How often each of them must be met, or the run is no test of it.
@@ -25,8 +25,8 @@ pub struct Met {
     answers: BTreeMap<(&'static str, u32), usize>,
     /// How many watches and tables were out of joint for one cause alone.
     causes: BTreeMap<Cause, usize>,
-    /// How many were changed and yet in joint.
-    in_joint: usize,
+    /// How many were changed and yet consistent.
+    consistent: usize,
     /// How many reads of rows gave some, and how many none.
     rows_read: [usize; 2],
     /// How many rows of each operator the tables compared had in all.
@@ -41,7 +41,7 @@ impl Met {
             charts: 0,
             answers: answers.collect(),
             causes: CAUSES.map(|cause| (cause, 0)).into(),
-            in_joint: 0,
+            consistent: 0,
             rows_read: [0; 2],
             operators: [0; WORDS.len()],
         }
@@ -53,7 +53,7 @@ impl Met {
 
     pub fn count_causes(&mut self, causes: &BTreeSet<Cause>) {
         match causes.iter().collect::<Vec<_>>().as_slice() {
-            [] => self.in_joint += 1,
+            [] => self.consistent += 1,
             [cause] => *self.causes.entry(**cause).or_default() += 1,
             _ => {}
         }
@@ -73,7 +73,7 @@ impl Met {
 
     pub fn is_enough(&self) -> bool {
         let answers = self.answers.values().chain(self.causes.values());
-        let mut counts = answers.chain(&self.operators).chain(&self.rows_read).chain([&self.in_joint]);
+        let mut counts = answers.chain(&self.operators).chain(&self.rows_read).chain([&self.consistent]);
         counts.all(|count| *count >= LEAST_MET)
     }
 
@@ -85,7 +85,7 @@ impl Met {
             println!("  {call:<7} {}", counts.collect::<Vec<_>>().join("  "));
         }
         println!("reads of rows: {} with rows, {} without", self.rows_read[1], self.rows_read[0]);
-        println!("watches and tables changed and yet in joint: {}; out of joint for one cause alone:", self.in_joint);
+        println!("watches and tables changed and yet consistent: {}; out of joint for one cause alone:", self.consistent);
         self.causes.iter().for_each(|(cause, count)| println!("  {:<30} {count:>8}", format!("{cause:?}")));
         println!("rows of each operator at the ends of histories");
         WORDS.iter().zip(self.operators).for_each(|(word, count)| println!("  {word:<8} {count:>8}"));

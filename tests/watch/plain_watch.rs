@@ -94,7 +94,7 @@ pub trait PlainWatch {
         if refusal != 0 {
             return Answer { refusal, watch };
         }
-        Self::event_in_joint(watch, code)
+        Self::event_unchecked(watch, code)
     }
 
     fn clock(watch: Watch, chart: Chart, table: &mut [i32], instant: i32) -> Answer {
@@ -102,7 +102,7 @@ pub trait PlainWatch {
         if refusal != 0 {
             return Answer { refusal, watch };
         }
-        Self::clock_in_joint(watch, &chart, Self::rows_mut(table), instant)
+        Self::clock_unchecked(watch, &chart, Self::rows_mut(table), instant)
     }
 
     fn forget(watch: Watch, chart: Chart, table: &mut [i32], floor: i32) -> Answer {
@@ -110,14 +110,14 @@ pub trait PlainWatch {
         if refusal != 0 {
             return Answer { refusal, watch };
         }
-        Self::forget_in_joint(watch, &chart, Self::rows_mut(table), floor)
+        Self::forget_unchecked(watch, &chart, Self::rows_mut(table), floor)
     }
 
     fn check(watch: Watch, chart: Chart, table: &[i32]) -> u32 {
         if !Self::is_usable(&chart) {
             return 14;
         }
-        if Self::is_in_joint(&watch, &chart, Self::rows(table)) {
+        if Self::is_consistent(&watch, &chart, Self::rows(table)) {
             0
         } else {
             13
@@ -178,9 +178,9 @@ pub trait PlainWatch {
         &mut table.as_chunks_mut::<5>().0[..capacity]
     }
 
-    // The calls on a watch in joint.
+    // The calls on a consistent watch.
 
-    fn event_in_joint(watch: Watch, code: u8) -> Answer {
+    fn event_unchecked(watch: Watch, code: u8) -> Answer {
         if watch.events >= MOST_EVENTS {
             return Answer { refusal: 10, watch };
         }
@@ -198,7 +198,7 @@ pub trait PlainWatch {
         next
     }
 
-    fn clock_in_joint(watch: Watch, chart: &Chart, rows: &mut [Row], instant: i32) -> Answer {
+    fn clock_unchecked(watch: Watch, chart: &Chart, rows: &mut [Row], instant: i32) -> Answer {
         if !is_instant(instant) || instant <= watch.instant {
             return Answer { refusal: 8, watch };
         }
@@ -216,7 +216,7 @@ pub trait PlainWatch {
         Watch { instant, rows, pending: 0, codes: [0; MOST_PENDING], ..watch }
     }
 
-    fn forget_in_joint(watch: Watch, chart: &Chart, rows: &mut [Row], floor: i32) -> Answer {
+    fn forget_unchecked(watch: Watch, chart: &Chart, rows: &mut [Row], floor: i32) -> Answer {
         if floor < watch.floor || floor > watch.instant || !is_instant(floor) {
             return Answer { refusal: 11, watch };
         }
@@ -413,10 +413,10 @@ pub trait PlainWatch {
 
     // The check behind 13.
 
-    fn is_in_joint(watch: &Watch, chart: &Chart, rows: &[Row]) -> bool {
+    fn is_consistent(watch: &Watch, chart: &Chart, rows: &[Row]) -> bool {
         Self::is_watch_in_range(watch)
             && watch.rows <= rows.len()
-            && (0..watch.rows).all(|index| Self::is_row_in_joint(watch, chart, rows, index))
+            && (0..watch.rows).all(|index| Self::is_row_consistent(watch, chart, rows, index))
             && Self::are_unused(&rows[watch.rows..])
     }
 
@@ -433,7 +433,7 @@ pub trait PlainWatch {
         rows.iter().all(|row| *row == UNUSED)
     }
 
-    fn is_row_in_joint(watch: &Watch, chart: &Chart, rows: &[Row], index: usize) -> bool {
+    fn is_row_consistent(watch: &Watch, chart: &Chart, rows: &[Row], index: usize) -> bool {
         let row = &rows[index];
         let number = row[ENTRY] as usize;
         row[ENTRY] >= 0

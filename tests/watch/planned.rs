@@ -1,5 +1,5 @@
-//! What is compared by plan, not by chance: charts on paper, every short table, the largest table, trees of billions of
-//! bytes, and the stack that include/chronicle.h promises to be enough.
+//! What is compared by plan, not by chance: charts on paper, every short table, the largest table, and trees of billions
+//! of bytes.
 
 use crate::histories::{compare_tree_in, Compared, Run};
 use crate::met::Met;
@@ -16,12 +16,6 @@ use std::time::{Duration, Instant};
 const CHARTS: usize = 30_000;
 /// The greatest table that is all rows.
 const ALL_ROWS: usize = 65_535 * 5;
-const KILOBYTE: usize = 1 << 10;
-/// What include/chronicle.h says of the stack, and what a thread needs for itself.
-const FORGET_STACK: usize = 160 * KILOBYTE;
-const TREE_STACK: usize = 40 * KILOBYTE;
-const STACK: usize = 4 * KILOBYTE;
-const THREAD_STACK: usize = 16 * KILOBYTE;
 
 fn entries(text: &str) -> Vec<Entry> {
     plain_chart::read(text.as_bytes()).expect("the planned chart is sound")
@@ -139,64 +133,4 @@ pub fn long_trees(calls: &Calls, met: &mut Met) -> Compared {
         return Err(format!("trees took {:?}: the work is not bounded by the output", begun.elapsed()));
     }
     Ok(())
-}
-
-/// Every call on no more stack than the header says. A call that needs more ends the program.
-pub fn stack(calls: &Calls, met: &mut Met) -> Compared {
-    stack_of_others(*calls)?;
-    stack_of_forget(*calls, met)
-}
-
-fn stack_of_others(calls: Calls) -> Compared {
-    for word in ["and", "-]["] {
-        let Subject { watch, chart, table } = nested(&calls, word)?;
-        let lent = table.clone();
-        on_stack(STACK, move || {
-            let mut table = lent;
-            (calls.read_chart)(b"0\tevent\t1\n");
-            (calls.check)(watch, chart, table.part());
-            (calls.rows_ending)(watch, chart, table.part(), 0);
-            (calls.event)(watch, chart, table.part(), 1);
-            (calls.clock)(watch, chart, table.part_mut(), 2);
-            (calls.open)(chart, table.part_mut(), 0);
-            Ok(())
-        })?;
-        on_stack(TREE_STACK, move || {
-            let mut out = vec![0; 3_000];
-            for row in 0..32 {
-                (calls.tree)(watch, chart, table.part(), row, &mut out);
-            }
-            Ok(())
-        })?;
-    }
-    Ok(())
-}
-
-fn stack_of_forget(calls: Calls, met: &mut Met) -> Compared {
-    let entries = entries("0\tevent\t1\n1\tevent\t2\n2\tand\t0\t0\n");
-    let mut run = Run::open(&calls, &entries, chart_value::of(&entries), &[0; 5 * 20_000], 0, 0, met)?;
-    for instant in 0..2 {
-        (0..64).try_for_each(|_| run.play(Call::Event(1), met))?;
-        run.play(Call::Clock(instant + 1), met)?;
-    }
-    let mut subject = run.subject.clone();
-    let forgotten = on_stack(FORGET_STACK, move || {
-        subject.play(&calls, Call::Forget(1));
-        Ok(subject)
-    })?;
-    run.play(Call::Forget(1), met)?;
-    if forgotten.table.holds(run.subject.table.part()) {
-        Ok(())
-    } else {
-        Err("a forget in a thread left another table".to_string())
-    }
-}
-
-/// Runs something on a thread with so much stack for it.
-fn on_stack<T: Send + 'static>(
-    stack: usize,
-    run: impl FnOnce() -> Result<T, String> + Send + 'static,
-) -> Result<T, String> {
-    let thread = std::thread::Builder::new().stack_size(stack + THREAD_STACK).spawn(run);
-    thread.map_err(|error| error.to_string())?.join().map_err(|_| "a call panicked on its thread".to_string())?
 }

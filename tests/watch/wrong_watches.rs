@@ -98,32 +98,32 @@ wrong_watches! {
         }
     }
     LooksAtPendingFirst: "event: 9 before 10" {
-        fn event_in_joint(watch: Watch, code: u8) -> Answer {
+        fn event_unchecked(watch: Watch, code: u8) -> Answer {
             if watch.pending == 64 {
                 return Answer { refusal: 9, watch };
             }
-            Plain::event_in_joint(watch, code)
+            Plain::event_unchecked(watch, code)
         }
     }
     TakesFewerEvents: "event: the 64th of an instant refused" {
-        fn event_in_joint(watch: Watch, code: u8) -> Answer {
+        fn event_unchecked(watch: Watch, code: u8) -> Answer {
             if watch.pending == 63 {
                 return Answer { refusal: 9, watch };
             }
-            Plain::event_in_joint(watch, code)
+            Plain::event_unchecked(watch, code)
         }
     }
     SpendsSerialsEarly: "event: serial 1,000,000 refused" {
-        fn event_in_joint(watch: Watch, code: u8) -> Answer {
+        fn event_unchecked(watch: Watch, code: u8) -> Answer {
             if watch.events == 999_999 {
                 return Answer { refusal: 10, watch };
             }
-            Plain::event_in_joint(watch, code)
+            Plain::event_unchecked(watch, code)
         }
     }
     SkipsCheckOnEvents: "event: 13 not checked" {
         fn event(watch: Watch, _: Chart, _: &[i32], code: u8) -> Answer {
-            Self::event_in_joint(watch, code)
+            Self::event_unchecked(watch, code)
         }
     }
 
@@ -157,8 +157,8 @@ wrong_watches! {
         fn take_back(_: &mut [Row]) {}
     }
     MovesRefusedMark: "12: the instant moves all the same" {
-        fn clock_in_joint(watch: Watch, chart: &Chart, rows: &mut [Row], instant: i32) -> Answer {
-            let mut answer = Plain::clock_in_joint(watch, chart, rows, instant);
+        fn clock_unchecked(watch: Watch, chart: &Chart, rows: &mut [Row], instant: i32) -> Answer {
+            let mut answer = Plain::clock_unchecked(watch, chart, rows, instant);
             if answer.refusal == 12 {
                 answer.watch.instant = instant;
             }
@@ -166,19 +166,19 @@ wrong_watches! {
         }
     }
     LooksAtRoomFirst: "clock mark: 12 before 8" {
-        fn clock_in_joint(watch: Watch, chart: &Chart, rows: &mut [Row], instant: i32) -> Answer {
+        fn clock_unchecked(watch: Watch, chart: &Chart, rows: &mut [Row], instant: i32) -> Answer {
             if Plain::close(&watch, chart, &mut rows.to_vec()).is_none() {
                 return Answer { refusal: 12, watch };
             }
-            Plain::clock_in_joint(watch, chart, rows, instant)
+            Plain::clock_unchecked(watch, chart, rows, instant)
         }
     }
     TakesOpenInstantAgain: "clock mark: the open instant itself taken" {
-        fn clock_in_joint(watch: Watch, chart: &Chart, rows: &mut [Row], instant: i32) -> Answer {
+        fn clock_unchecked(watch: Watch, chart: &Chart, rows: &mut [Row], instant: i32) -> Answer {
             if instant == watch.instant {
                 return Answer { refusal: 0, watch };
             }
-            Plain::clock_in_joint(watch, chart, rows, instant)
+            Plain::clock_unchecked(watch, chart, rows, instant)
         }
     }
     KeepsCodes: "clock mark: the codes of the closed instant stay behind" {
@@ -321,8 +321,8 @@ wrong_watches! {
         fn free(_: &mut [Row]) {}
     }
     DropsPendingEvents: "forget: the open instant's events dropped with it" {
-        fn forget_in_joint(watch: Watch, chart: &Chart, rows: &mut [Row], floor: i32) -> Answer {
-            let mut answer = Plain::forget_in_joint(watch, chart, rows, floor);
+        fn forget_unchecked(watch: Watch, chart: &Chart, rows: &mut [Row], floor: i32) -> Answer {
+            let mut answer = Plain::forget_unchecked(watch, chart, rows, floor);
             if answer.refusal == 0 && floor == watch.instant {
                 answer.watch.pending = 0;
             }
@@ -330,19 +330,19 @@ wrong_watches! {
         }
     }
     KeepsOpenInstant: "forget: the open instant refused" {
-        fn forget_in_joint(watch: Watch, chart: &Chart, rows: &mut [Row], floor: i32) -> Answer {
+        fn forget_unchecked(watch: Watch, chart: &Chart, rows: &mut [Row], floor: i32) -> Answer {
             if floor == watch.instant {
                 return Answer { refusal: 11, watch };
             }
-            Plain::forget_in_joint(watch, chart, rows, floor)
+            Plain::forget_unchecked(watch, chart, rows, floor)
         }
     }
     LowersFloor: "forget: a floor below the last taken" {
-        fn forget_in_joint(watch: Watch, chart: &Chart, rows: &mut [Row], floor: i32) -> Answer {
+        fn forget_unchecked(watch: Watch, chart: &Chart, rows: &mut [Row], floor: i32) -> Answer {
             if floor < watch.floor && is_instant(floor) {
                 return Answer { refusal: 0, watch: Watch { floor, ..watch } };
             }
-            Plain::forget_in_joint(watch, chart, rows, floor)
+            Plain::forget_unchecked(watch, chart, rows, floor)
         }
     }
 
@@ -389,14 +389,14 @@ wrong_watches! {
         }
     }
     TakesEarlyStart: "13: a start below the floor taken" {
-        fn is_row_in_joint(watch: &Watch, chart: &Chart, rows: &[Row], index: usize) -> bool {
-            Plain::is_row_in_joint(&Watch { floor: i32::MIN, ..*watch }, chart, rows, index)
+        fn is_row_consistent(watch: &Watch, chart: &Chart, rows: &[Row], index: usize) -> bool {
+            Plain::is_row_consistent(&Watch { floor: i32::MIN, ..*watch }, chart, rows, index)
         }
     }
     TakesEndAtOpenInstant: "13: an end at the open instant taken" {
-        fn is_row_in_joint(watch: &Watch, chart: &Chart, rows: &[Row], index: usize) -> bool {
+        fn is_row_consistent(watch: &Watch, chart: &Chart, rows: &[Row], index: usize) -> bool {
             let later = Watch { instant: watch.instant.saturating_add(1), ..*watch };
-            Plain::is_row_in_joint(&later, chart, rows, index)
+            Plain::is_row_consistent(&later, chart, rows, index)
         }
     }
     TakesFloorAboveOpen: "13: a floor above the open instant taken" {
@@ -439,14 +439,14 @@ wrong_watches! {
         }
     }
     LooksAtEntryOrder: "13: the order of entries looked at" {
-        fn is_row_in_joint(watch: &Watch, chart: &Chart, rows: &[Row], index: usize) -> bool {
+        fn is_row_consistent(watch: &Watch, chart: &Chart, rows: &[Row], index: usize) -> bool {
             let follows = |before: &Row, row: &Row| before[END] < row[END] || before[ENTRY] <= row[ENTRY];
-            Plain::is_row_in_joint(watch, chart, rows, index) && (index == 0 || follows(&rows[index - 1], &rows[index]))
+            Plain::is_row_consistent(watch, chart, rows, index) && (index == 0 || follows(&rows[index - 1], &rows[index]))
         }
     }
     LooksForTwins: "13: a row twice refused" {
-        fn is_row_in_joint(watch: &Watch, chart: &Chart, rows: &[Row], index: usize) -> bool {
-            Plain::is_row_in_joint(watch, chart, rows, index) && (index == 0 || rows[index - 1] != rows[index])
+        fn is_row_consistent(watch: &Watch, chart: &Chart, rows: &[Row], index: usize) -> bool {
+            Plain::is_row_consistent(watch, chart, rows, index) && (index == 0 || rows[index - 1] != rows[index])
         }
     }
     LooksBehindPending: "13: codes behind the pending ones looked at" {
@@ -468,7 +468,7 @@ wrong_watches! {
             Rows { count: rows.count.min(1), ..rows }
         }
     }
-    ReadsOutOfJoint: "rows by end: read without the check" {
+    ReadsInconsistent: "rows by end: read without the check" {
         fn rows_ending(watch: Watch, _: Chart, table: &[i32], end: i32) -> Rows {
             let rows = Self::rows(table);
             let ending = |row: &&Row| row[END] == end;

@@ -25,6 +25,11 @@ pub one-more : (n : ℕ) (p : ℕ → Bool) → allBelow n p ≡ true → p n �
 unfolding allBelow
 one-more n p e h = rw (add-one, h, e)
 
+pub all-below : (n : ℕ) (p : ℕ → Bool) → ((i : ℕ) → i < n → p i ≡ true) → allBelow n p ≡ true
+unfolding allBelow
+all-below zero p h = refl
+all-below (suc n) p h = rw (h n (omega arith), all-below n p (λ i g. h i (omega arith)))
+
 -- one fails
 pub not-all : (n : ℕ) (p : ℕ → Bool) (i : ℕ) → i < n → p i ≡ false → allBelow n p ≡ false
 not-all n p i h e = go (allBelow n p) refl

@@ -3,3 +3,7 @@ pub mod Words
 pub mod Records
 pub mod Charts
 pub mod Usable
+pub mod Places
+pub mod Lines
+pub mod Examples
+pub mod Numbers

@@ -8,8 +8,8 @@ use mathlib.Core.List.{List, [], _∷_}
 use borrow.Author.Tests.{leb-true, ltb-true, eqb-true}
 use lib.Dec.{eqb, leb, ltb}
 use lib.ListN.{length, take, drop}
-use Rattle.interval.specs.Instants.{isLength}
 use Rattle.interval.proofs.Signed.{never, and-first, and-second}
+use Rattle.interval.proofs.Laws.{length-told}
 use Rattle.decimal.specs.Spelling.{numberOf}
 use Rattle.decimal.specs.declared.Number.{Number}
 use Rattle.text.specs.Text.{fields, indexOf}
@@ -101,7 +101,7 @@ both-small n a b h e =
     record { first = omega arith; second = omega arith }
 
 pub small : (k : Kind) (n a b : ℕ) → n ≤ 32 → inRange k a b ≡ true → areLower k n a b ≡ true → Small a b
-unfolding inRange areLower isLength
+unfolding inRange areLower
 small Event n a b h r l =
     let p = leb-true a 255 (and-first (leb a 255) (eqb b 0) r) in
     let q = eqb-true b 0 (and-second (leb a 255) (eqb b 0) r) in
@@ -111,6 +111,6 @@ small (Pair c) n a b h r l = both-small n a b h l
 small (Absence c) n a b h r l = both-small n a b h l
 small (Length t) n a b h r l =
     let p = ltb-true a n l in
-    let q = leb-true b 2000000000 r in
+    let q = length-told b r in
     record { first = omega arith; second = omega arith }
 small Unknown n a b h r l = never r

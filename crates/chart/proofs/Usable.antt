@@ -5,17 +5,19 @@ use mathlib.Core.Path.{_≡_, refl, ap, _∙_}
 use mathlib.Core.Bool.{Bool, true, false, cond, _&&_}
 use mathlib.Core.List.{List, [], _∷_}
 use mathlib.Core.Logic.{_⊎_, inl, inr}
-use borrow.Author.Tests.{eqb-true, eqb-false, leb-true}
-use lib.Dec.{eqb, leb}
+use borrow.Author.Tests.{eqb-true, eqb-false, leb-true, ltb-true}
+use lib.Dec.{eqb, leb, ltb}
 use lib.ListN.{length, getD, set, length-set, length-replicate}
 use lib.Seq.{getD-set-same, getD-set-other}
-use Rattle.interval.proofs.Signed.{and-first, and-second}
+use Rattle.interval.proofs.Signed.{never, and-first, and-second}
 use Rattle.text.specs.Text.{Line, lines, whole, isRecord, fields}
 use Rattle.chart.specs.Operators.{kindOf, inRange, areLower}
 use Rattle.chart.specs.Records.{entry, answerTo, refusedLine, takenLine, checkedEntry, checkedLine, parsedLine}
 use Rattle.chart.specs.Charts.{readLines, addLine, takenChart, readChart, orNoLine, noEntries, withEntry, refusedChart, isUsable, allBelow, entryFits, entryAt}
 use Rattle.chart.specs.declared.Entry.{Entry}
 use Rattle.chart.specs.declared.Chart.{Chart}
+use Rattle.chart.specs.declared.operator.Kind.{Kind}
+use Rattle.chart.specs.declared.operator.Kind.the-variants.{Event, Or, Pair, Absence, Length, Unknown}
 use Rattle.chart.specs.declared.record.Parsed.{Parsed}
 use Rattle.chart.specs.declared.record.LineAnswer.{LineAnswer}
 use Rattle.chart.proofs.Below.{none-below, one-more, same-below, at-place}
@@ -122,3 +124,36 @@ module _ (c : Chart) (u : isUsable c ≡ true) where
   pub usable-fits : (i : ℕ) → i < c .count → entryFits i (entryAt c i) ≡ true
   unfolding isUsable
   usable-fits i h = at-place (c .count) (λ n. entryFits n (entryAt c n)) (and-second (leb (c .count) 32) fitting (and-second (leb 1 (c .count)) (leb (c .count) 32 && fitting) u)) i h
+
+-- what an entry that fits tells of its operands, by its kind
+abbrev pub Lower : Kind → ℕ → ℕ → ℕ → Type 0
+Lower Event n a b = Unit {0}
+Lower Or n a b = (a < n) × (b < n)
+Lower (Pair c) n a b = (a < n) × (b < n)
+Lower (Absence e) n a b = (a < n) × (b < n)
+Lower (Length t) n a b = a < n
+Lower Unknown n a b = ⊥
+
+both-lower : (n a b : ℕ) → (ltb a n && ltb b n) ≡ true → (a < n) × (b < n)
+both-lower n a b h = (ltb-true a n (and-first (ltb a n) (ltb b n) h), ltb-true b n (and-second (ltb a n) (ltb b n) h))
+
+lower-told : (k : Kind) (n a b : ℕ) → areLower k n a b ≡ true → Lower k n a b
+unfolding areLower
+lower-told Event n a b h = tt
+lower-told Or n a b h = both-lower n a b h
+lower-told (Pair c) n a b h = both-lower n a b h
+lower-told (Absence e) n a b h = both-lower n a b h
+lower-told (Length t) n a b h = ltb-true a n h
+lower-told Unknown n a b h = never h
+
+pub fits-lower : (n : ℕ) (e : Entry) (k : Kind) → entryFits n e ≡ true → kindOf (e .op) ≡ k → Lower k n (e .a) (e .b)
+unfolding entryFits
+fits-lower n e k f h = lower-told k n (e .a) (e .b) (and-second (inRange k (e .a) (e .b)) (areLower k n (e .a) (e .b)) (rw h at f))
+
+pub fits-range : (n : ℕ) (e : Entry) → entryFits n e ≡ true → inRange (kindOf (e .op)) (e .a) (e .b) ≡ true
+unfolding entryFits
+fits-range n e f = and-first (inRange (kindOf (e .op)) (e .a) (e .b)) (areLower (kindOf (e .op)) n (e .a) (e .b)) f
+
+pub range-unknown : (a b : ℕ) → inRange Unknown a b ≡ false
+unfolding inRange
+range-unknown a b = refl

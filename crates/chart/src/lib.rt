@@ -1,4 +1,4 @@
-// Charts: the chart value, the reader of a chart on paper with its C entry, and the check behind refusal 14.
+// Charts: the chart value, the reader of a chart on paper, and the check behind refusal 14.
 ghost use mathlib.Core.Path.{_≡_};
 ghost use Prim.Native.Nat.{_<_};
 ghost use Rattle.chart.specs.Charts.{noEntries, withEntry, readChart, addLine, refusedChart, verdictOf, entryFits, isUsable};
@@ -29,7 +29,7 @@ pub struct ChartAnswer {
     pub chart: Chart,
 }
 
-// What the C acquisition program gets: as in ChartAnswer.
+// A refusal and its line without the chart: as in ChartAnswer.
 #[repr(C)]
 pub struct Verdict {
     pub refusal: u32,
@@ -86,7 +86,8 @@ pub fn read(s: &[u8]) -> ChartAnswer
             return refused(refusal, (n + 1) as u32);
         }
         let e = a.entry;
-        chart = with_entry(chart, e);
+        chart.entries[n] = e;
+        chart.count = n + 1;
         at += size;
     }
     ChartAnswer {
@@ -96,12 +97,11 @@ pub fn read(s: &[u8]) -> ChartAnswer
     }
 }
 
-// The same for C: refusal and line, both 0 for a chart taken. Keeps nothing, and needs some 1 kB of stack.
-#[no_mangle]
-pub extern "C" fn chronicle_check_chart(bytes: &[u8]) -> Verdict
-    ensures { λ r. ⌜ r ≡ verdictOf (readChart (now (bytes .entry))) ⌝ }
+// The same without the chart: refusal and line, both 0 for a chart taken.
+pub fn check(s: &[u8]) -> Verdict
+    ensures { λ r. ⌜ r ≡ verdictOf (readChart (now (s .entry))) ⌝ }
 {
-    let a = read(bytes);
+    let a = read(s);
     Verdict {
         refusal: a.refusal,
         line: a.line,

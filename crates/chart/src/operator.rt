@@ -120,7 +120,7 @@ pub fn in_range(k: Kind, a: u64, b: u64) -> bool
         Kind::Or => true,
         Kind::Pair(_) => true,
         Kind::Absence(_) => true,
-        Kind::Length(_) => b <= 2000000000,
+        Kind::Length(_) => interval::is_length(b),
         Kind::Unknown => false,
     }
 }

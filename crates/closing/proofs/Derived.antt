@@ -14,13 +14,12 @@ use lib.ListN.{length, getD, take}
 use lib.Seq.{length-take-le, getD-take}
 use lib.Signed.{leZ}
 use Rattle.interval.specs.Instants.{eqZ, least, greatest}
-use Rattle.interval.specs.Conditions.{isRelated, isForbidding, hasLength}
+use Rattle.interval.specs.Conditions.{isRelated, leftMayEndEarlier, rightMayEndEarlier, isForbidding, hasLength}
 use Rattle.interval.specs.declared.Relation.{Relation}
-use Rattle.interval.specs.declared.Relation.the-variants.{Seq, And, Meets, Overlaps, Starts, During, Finishes, Equals}
 use Rattle.interval.specs.declared.Edges.{Edges}
 use Rattle.interval.specs.declared.LengthTest.{LengthTest}
 use Rattle.interval.proofs.Signed.{_≤ᶻ_, _<ᶻ_, never, and-first, and-second, eq-true, eq-same, eq-fact, eq-told, le-false, greatest-is, greatest-most, antisym}
-use Rattle.interval.proofs.Laws.{Ends, endingOf, related-ends, forbidding-inside}
+use Rattle.interval.proofs.Laws.{EndsAt, related-ends-at, forbidding-inside}
 use Rattle.model.specs.Lists.{keep, some, each, numbers}
 use Rattle.model.specs.Recognitions.{Event, Operator, event, related, or, absence, lasting, Arm, only, left, right}
 use Rattle.model.specs.Order.{Row, row, none}
@@ -28,7 +27,7 @@ use Rattle.model.specs.RowSteps.{Node, leaves, leaf, part, pair, of, fits, forb
 use Rattle.model.proofs.Sorted.{keep-append}
 use Rattle.table.specs.Table.{cell, rowsIn}
 use Rattle.table.proofs.Rows.{length-rows, row-at}
-use Rattle.closing.specs.Added.{span, when, eventRow, eventRows, partRow, armRow, armRows, orRows, lengthRow, lengthRows, forbids, isWithin, isForbidden, absenceRow, absenceRows, topOf, leftMayBeOld, rightMayBeOld, pairRow, rightFrom, pairsWith, hasRow, leftFrom, pairRows, addedRows}
+use Rattle.closing.specs.Added.{span, when, eventRow, eventRows, partRow, armRow, armRows, orRows, lengthRow, lengthRows, forbids, isWithin, isForbidden, absenceRow, absenceRows, topOf, pairRow, rightFrom, pairsWith, hasRow, leftFrom, pairRows, addedRows}
 use Rattle.closing.proofs.Spans.{each-same, none-at, some-same, each-numbered, some-snoc, some-none, each-from, each-nothing, span-same, keep-keep, some-keep, kept-ones, kept-each, some-front}
 use Rattle.closing.proofs.Laws.{top-le, top-rest}
 
@@ -52,24 +51,6 @@ not-at a o h = go (eqZ a o) refl
     go : (b : Bool) → eqZ a o ≡ b → b ≡ false
     go true e = absurd (omega (arith, eq-told a o e))
     go false e = refl
-
--- which of two related rows end at the instant at which the pair ends
-record Told (c : Relation) (re se o : ℤ) : Type 0 where
-  left : leftMayBeOld c ≡ false → re ≡ o
-  right : rightMayBeOld c ≡ false → se ≡ o
-  one : (re ≡ o) ⊎ (se ≡ o)
-
-told : (c : Relation) (re se w o : ℤ) → Ends (endingOf c) re se w → w ≡ o → Told c re se o
-unfolding leftMayBeOld rightMayBeOld
-told Seq re se w o h e = record { left = λ z. never (sym z); right = λ z. h ∙ e; one = inr (h ∙ e) }
-told And re se w o (inl h) e = record { left = λ z. never (sym z); right = λ z. never (sym z); one = inl (h ∙ e) }
-told And re se w o (inr h) e = record { left = λ z. never (sym z); right = λ z. never (sym z); one = inr (h ∙ e) }
-told Meets re se w o h e = record { left = λ z. never (sym z); right = λ z. h ∙ e; one = inr (h ∙ e) }
-told Overlaps re se w o h e = record { left = λ z. never (sym z); right = λ z. h ∙ e; one = inr (h ∙ e) }
-told Starts re se w o h e = record { left = λ z. never (sym z); right = λ z. h ∙ e; one = inr (h ∙ e) }
-told During re se w o h e = record { left = λ z. never (sym z); right = λ z. h ∙ e; one = inr (h ∙ e) }
-told Finishes re se w o h e = record { left = λ z. h .0 ∙ e; right = λ z. h .1 ∙ e; one = inr (h .1 ∙ e) }
-told Equals re se w o h e = record { left = λ z. h .0 ∙ e; right = λ z. h .1 ∙ e; one = inr (h .1 ∙ e) }
 
 module _ (o : ℤ) (m n : ℕ) (t : List ℤ) (g : Grown o m n t) (entry : ℕ) where
   -- no row ends later than the instant
@@ -215,14 +196,14 @@ module _ (o : ℤ) (m n : ℕ) (t : List ℤ) (g : Grown o m n t) (entry : ℕ) 
     paired-is r s h k = rw (of-entry b s k, row-at n r t h, row-at n s t k)
 
     -- a pair that is none, or ends elsewhere
-    paired-none : (r s : ℕ) → r < n → s < n → (eqZ (cell t s 0) (pos b) ≡ true → Told c (cell t r 4) (cell t s 4) o → ⊥) → paired r s ≡ []
+    paired-none : (r s : ℕ) → r < n → s < n → (eqZ (cell t s 0) (pos b) ≡ true → EndsAt c (cell t r 4) (cell t s 4) o → ⊥) → paired r s ≡ []
     paired-none r s h k f = paired-is r s h k ∙ go (isPair r s) refl (eqZ (greatest (cell t r 4) (cell t s 4)) o) refl
       where
         go : (x : Bool) → isPair r s ≡ x → (y : Bool) → eqZ (greatest (cell t r 4) (cell t s 4)) o ≡ y → cond x (when y (pairAt r s)) [] ≡ []
         go true p true q =
             let p₁ = and-first (eqZ (cell t s 0) (pos b)) (isRelated c (cell t r 3) (cell t r 4) (cell t s 3) (cell t s 4)) p in
             let p₂ = and-second (eqZ (cell t s 0) (pos b)) (isRelated c (cell t r 3) (cell t r 4) (cell t s 3) (cell t s 4)) p in
-            absurd (f p₁ (told c (cell t r 4) (cell t s 4) (greatest (cell t r 4) (cell t s 4)) o (related-ends c (cell t r 3) (cell t r 4) (cell t s 3) (cell t s 4) (g .proper r h) (g .proper s k) p₂) (eq-true (greatest (cell t r 4) (cell t s 4)) o q)))
+            absurd (f p₁ (related-ends-at c (cell t r 3) (cell t r 4) (cell t s 3) (cell t s 4) o (g .proper r h) (g .proper s k) p₂ (eq-true (greatest (cell t r 4) (cell t s 4)) o q)))
         go true p false q = refl
         go false p y q = refl
 
@@ -244,14 +225,14 @@ module _ (o : ℤ) (m n : ℕ) (t : List ℤ) (g : Grown o m n t) (entry : ℕ) 
     -- where the search for s begins
     record Right (r k : ℕ) : Type 0 where
       within : k ≤ n
-      before : (s : ℕ) → s < k → (s < m) × ((rightMayBeOld c ≡ false) ⊎ (r < m))
+      before : (s : ℕ) → s < k → (s < m) × ((rightMayEndEarlier c ≡ false) ⊎ (r < m))
       from : (s : ℕ) → k ≤ s → (m ≤ r) ⊎ (m ≤ s)
 
     right-from : (r : ℕ) → Right r (rightFrom c m r)
     unfolding rightFrom
-    right-from r = go (rightMayBeOld c) refl (leb m r) refl
+    right-from r = go (rightMayEndEarlier c) refl (leb m r) refl
       where
-        go : (x : Bool) → rightMayBeOld c ≡ x → (y : Bool) → leb m r ≡ y → Right r (cond (x && y) 0 m)
+        go : (x : Bool) → rightMayEndEarlier c ≡ x → (y : Bool) → leb m r ≡ y → Right r (cond (x && y) 0 m)
         go true p true q = record { within = omega arith; before = λ s h. absurd (omega arith); from = λ s h. inl (leb-true m r q) }
         go true p false q = record { within = g .few; before = λ s h. (h, inr (leb-false m r q)); from = λ s h. inr h }
         go false p y q = record { within = g .few; before = λ s h. (h, inl p); from = λ s h. inr h }
@@ -266,14 +247,14 @@ module _ (o : ℤ) (m n : ℕ) (t : List ℤ) (g : Grown o m n t) (entry : ℕ) 
         either-old k l (inl e) = old-not r l e
         either-old k l (inr e) = old-not _ k e
 
-        left-out : {s : ℕ} → s < m → (rightMayBeOld c ≡ false) ⊎ (r < m) → Told c (cell t r 4) (cell t s 4) o → ⊥
+        left-out : {s : ℕ} → s < m → (rightMayEndEarlier c ≡ false) ⊎ (r < m) → EndsAt c (cell t r 4) (cell t s 4) o → ⊥
         left-out k (inl e) v = old-not _ k (v .right e)
         left-out k (inr l) v = either-old k l (v .one)
 
     -- where the search for r begins
     record Left (k : ℕ) : Type 0 where
       within : k ≤ n
-      before : (r s : ℕ) → r < k → s < n → eqZ (cell t s 0) (pos b) ≡ true → Told c (cell t r 4) (cell t s 4) o → ⊥
+      before : (r s : ℕ) → r < k → s < n → eqZ (cell t s 0) (pos b) ≡ true → EndsAt c (cell t r 4) (cell t s 4) o → ⊥
 
     -- no row of b is new: none ends at the instant
     none-new : hasRow (pos b) m n t ≡ false → (s : ℕ) → s < n → eqZ (cell t s 0) (pos b) ≡ true → cell t s 4 ≡ o → ⊥
@@ -286,13 +267,13 @@ module _ (o : ℤ) (m n : ℕ) (t : List ℤ) (g : Grown o m n t) (entry : ℕ) 
 
     left-from : Left (leftFrom c (pos b) m n t)
     unfolding leftFrom
-    left-from = go (hasRow (pos b) m n t) refl (leftMayBeOld c) refl (rightMayBeOld c) refl
+    left-from = go (hasRow (pos b) m n t) refl (leftMayEndEarlier c) refl (rightMayEndEarlier c) refl
       where
         new-left : {r : ℕ} → r < m → hasRow (pos b) m n t ≡ false → (s : ℕ) → s < n → eqZ (cell t s 0) (pos b) ≡ true → (cell t r 4 ≡ o) ⊎ (cell t s 4 ≡ o) → ⊥
         new-left h z s k e (inl w) = old-not _ h w
         new-left h z s k e (inr w) = none-new z s k e w
 
-        go : (x : Bool) → hasRow (pos b) m n t ≡ x → (y : Bool) → leftMayBeOld c ≡ y → (z : Bool) → rightMayBeOld c ≡ z → Left (cond x (cond y 0 m) (cond z m n))
+        go : (x : Bool) → hasRow (pos b) m n t ≡ x → (y : Bool) → leftMayEndEarlier c ≡ y → (z : Bool) → rightMayEndEarlier c ≡ z → Left (cond x (cond y 0 m) (cond z m n))
         go true p true q z u = record { within = omega arith; before = λ r s h. absurd (omega arith) }
         go true p false q z u = record { within = g .few; before = λ r s h k e v. old-not r h (v .left q) }
         go false p y q true u = record { within = g .few; before = λ r s h k e v. new-left h p s k e (v .one) }

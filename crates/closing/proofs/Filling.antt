@@ -1,42 +1,20 @@
 -- A table that a loop fills: what is left to append, appended, gives what was asked for. A turn of a loop, a full table, the end.
-use Prim.Native.Nat.{ℕ, suc, _+_, _≤_, _<_}
+use Prim.Native.Nat.{ℕ, _+_, _≤_, _<_}
 use native.Mathlib.Omega.{arith}
 use mathlib.Core.Path.{_≡_, refl, sym, ap, _∙_}
-use mathlib.Core.Bool.{Bool, true, false, cond}
-use mathlib.Core.List.{List, [], _∷_, _++_}
-use lib.Dec.{ltb}
+use mathlib.Core.List.{List, [], _++_}
 use lib.IntN.{ℤ}
 use lib.ListN.{length}
 use Rattle.model.specs.Lists.{each}
 use Rattle.model.specs.Order.{Row}
-use Rattle.table.specs.Table.{cell, Filled, filled, fill, putRow}
-use Rattle.table.proofs.Rows.{length-put, cell-other}
-use Rattle.table.proofs.Fill.{fill-none, fill-count-least, fill-append, fill-append-full}
+use Rattle.table.specs.Table.{cell, Filled, filled, fill}
+use Rattle.table.proofs.Fill.{fill-none, fill-count-least, fill-append, fill-append-full, fill-kept, fill-length}
 use Rattle.closing.specs.Added.{Appendable, Appended, span}
 use Rattle.closing.proofs.Spans.{each-on, each-none, each-past}
 
 -- the first n rows of t are those of u
 abbrev pub Kept : ℕ → List ℤ → List ℤ → Type 0
 Kept n t u = (i k : ℕ) → i < n → k < 5 → cell t i k ≡ cell u i k
-
--- filling keeps the rows there were, and the length
-pub fill-kept : (room n : ℕ) (rs : List Row) (t : List ℤ) → Kept n ((fill room n rs t) .table) t
-unfolding fill
-fill-kept room n [] t i k h g = refl
-fill-kept room n (r ∷ rs) t i k h g = go (ltb n room) (fill-kept room (suc n) rs (putRow n r t) i k (omega arith) g)
-  where
-    go : (b : Bool) → cell ((fill room (suc n) rs (putRow n r t)) .table) i k ≡ cell (putRow n r t) i k → cell ((cond b (fill room (suc n) rs (putRow n r t)) (filled (suc room) t)) .table) i k ≡ cell t i k
-    go true e = e ∙ cell-other n i k r t g (λ p. omega arith)
-    go false e = refl
-
-pub fill-length : (room n : ℕ) (rs : List Row) (t : List ℤ) → length ((fill room n rs t) .table) ≡ length t
-unfolding fill
-fill-length room n [] t = refl
-fill-length room n (r ∷ rs) t = go (ltb n room) (fill-length room (suc n) rs (putRow n r t))
-  where
-    go : (b : Bool) → length ((fill room (suc n) rs (putRow n r t)) .table) ≡ length (putRow n r t) → length ((cond b (fill room (suc n) rs (putRow n r t)) (filled (suc room) t)) .table) ≡ length t
-    go true e = e ∙ length-put n r t
-    go false e = refl
 
 -- n rows in the table t and `rest` left to append, where `all` was to be appended to the n₀ rows of t₀
 pub record Filling (room n₀ : ℕ) (all : List Row) (t₀ : List ℤ) (n : ℕ) (rest : List Row) (t : List ℤ) : Type 0 where
@@ -45,6 +23,12 @@ pub record Filling (room n₀ : ℕ) (all : List Row) (t₀ : List ℤ) (n : ℕ
   pub size : length t ≡ length t₀
   pub kept : Kept n₀ t t₀
   pub on : fill room n rest t ≡ fill room n₀ all t₀
+
+-- nothing is to be appended
+pub nothing : (room n : ℕ) (all : List Row) (t : List ℤ) → all ≡ [] → Appended room n all t n t
+nothing room n all t e =
+    let z : filled n t ≡ fill room n all t = sym (fill-none room n t) ∙ ap (λ l. fill room n l t) (sym e) in
+    (ap (λ (x : Filled). x .count) z, ap (λ (x : Filled). x .table) z)
 
 pub begin : (room n : ℕ) (all : List Row) (t : List ℤ) → n ≤ room → Filling room n all t n all t
 begin room n all t h = record { least = omega arith; most = h; size = refl; kept = λ i k p q. refl; on = refl }
@@ -78,13 +62,7 @@ module _ {room n₀ : ℕ} {all : List Row} {t₀ : List ℤ} {n : ℕ} {rest : 
 
   -- nothing is left
   pub ended : rest ≡ [] → Appended room n₀ all t₀ n t
-  ended e =
-      let z : filled n t ≡ fill room n₀ all t₀ = sym (fill-none room n t) ∙ ap (λ l. fill room n l t) (sym e) ∙ f .on in
-      (ap (λ (x : Filled). x .count) z, ap (λ (x : Filled). x .table) z)
-
--- nothing is to be appended
-pub nothing : (room n : ℕ) (all : List Row) (t : List ℤ) → n ≤ room → all ≡ [] → Appended room n all t n t
-nothing room n all t h e = ended (begin room n all t h) e
+  ended e = last (nothing room n rest t e)
 
 -- a loop that appends h i at each number i from one on to before e
 module _ {room n₀ : ℕ} {all : List Row} {t₀ : List ℤ} {n : ℕ} {t : List ℤ} (h : ℕ → List Row) (i e : ℕ) (f : Filling room n₀ all t₀ n (each h (span i e)) t) where

@@ -10,10 +10,9 @@ use mathlib.Core.Bool.{Bool, true, false, cond, not, _&&_}
 use mathlib.Core.List.{List, [], _∷_, map, List·Memᴰ, List·Memᴰ·head, List·Memᴰ·tail, List·Memᴰ·not-nil, List·Memᴰ·eq-of-singleton, List·Memᴰ·append-cases}
 use lib.Dec.{eqb, leb}
 use lib.IntN.{ℤ, pos}
-use lib.ListN.{length, getD, take, set}
-use lib.Seq.{getD-set-same, getD-set-other}
+use lib.ListN.{length, getD, take}
 use Rattle.interval.specs.Instants.{eqZ, least, greatest}
-use Rattle.interval.specs.Conditions.{isRelated, hasLength}
+use Rattle.interval.specs.Conditions.{isRelated, leftMayEndEarlier, rightMayEndEarlier, hasLength}
 use Rattle.interval.specs.declared.Relation.{Relation}
 use Rattle.interval.proofs.Signed.{_≤ᶻ_, lt-true, le-true, is-le, eqZ→}
 use Rattle.interval.proofs.Laws.{start-le-end}
@@ -26,8 +25,8 @@ use Rattle.model.proofs.Sorted.{keep-mem, each-mem}
 use Rattle.model.proofs.Rows.{numbers-mem}
 use Rattle.table.specs.Table.{cell, rowsIn, putRow, putRows}
 use Rattle.table.specs.Ready.{Ready, EndBefore}
-use Rattle.table.proofs.Rows.{length-put, cell-other, row-put}
-use Rattle.closing.specs.Added.{span, when, eventRow, eventRows, partRow, armRow, armRows, orRows, lengthRow, lengthRows, isForbidden, absenceRow, absenceRows, topOf, leftMayBeOld, rightMayBeOld, hasRow, pairRow, rightFrom, pairsWith, leftFrom, pairRows, addedRows}
+use Rattle.table.proofs.Rows.{length-put, cell-other, cell-put, row-put, puts-none, puts-on}
+use Rattle.closing.specs.Added.{span, when, eventRow, eventRows, partRow, armRow, armRows, orRows, lengthRow, lengthRows, isForbidden, absenceRow, absenceRows, topOf, hasRow, pairRow, rightFrom, pairsWith, leftFrom, pairRows, addedRows}
 use Rattle.closing.proofs.Derived.{Grown, derived-is}
 
 -- before the first entry
@@ -40,23 +39,6 @@ grown-none chart o n t r b = record {
   ordered = λ i j h k. le-true (cell t i 4) (cell t j 4) (r .ordered i j h k);
   above = r .entryAbove;
 }
-
--- one row more
-entry-put : (n : ℕ) (r : Row) (t : List ℤ) → n * 5 + 5 ≤ length t → cell (putRow n r t) n 0 ≡ pos (r .entry)
-unfolding putRow
-entry-put n r t h =
-    let i = n * 5 in
-    let a = pos (r .entry) in
-    let t₁ = set t i a in
-    let t₂ = set t₁ (suc i) (r .left) in
-    let t₃ = set t₂ (suc (suc i)) (r .right) in
-    let t₄ = set t₃ (suc (suc (suc i))) (r .start) in
-    ap (λ k. getD (putRow n r t) k (pos 0)) (add-zero i)
-    ∙ getD-set-other t₄ (suc (suc (suc (suc i)))) i (r .end) (pos 0) (λ e. omega arith)
-    ∙ getD-set-other t₃ (suc (suc (suc i))) i (r .start) (pos 0) (λ e. omega arith)
-    ∙ getD-set-other t₂ (suc (suc i)) i (r .right) (pos 0) (λ e. omega arith)
-    ∙ getD-set-other t₁ (suc i) i (r .left) (pos 0) (λ e. omega arith)
-    ∙ getD-set-same t i a (pos 0) (omega arith)
 
 -- a row that ends at the instant and starts no later
 pub record Ending (o : ℤ) (r : Row) : Type 0 where
@@ -76,7 +58,7 @@ grown-one o m n t r g e h =
       new = λ i p q. at-last (ℕ-discrete i n) (λ z. rw z (w₄ ∙ e .at)) (λ z. same i 4 (omega arith) (omega arith) ∙ g .new i p (omega arith));
       proper = λ i q. at-last (ℕ-discrete i n) (λ z. rw (z, w₃, w₄) (e .proper)) (λ z. rw (same i 3 (omega arith) (omega arith), same i 4 (omega arith) (omega arith)) (g .proper i (omega arith)));
       ordered = λ i j p q. rw (same i 4 (omega (arith, g .few)) (omega arith), same j 4 (omega (arith, g .few)) (omega arith)) (g .ordered i j p q);
-      above = λ i q. at-last (ℕ-discrete i n) (λ z. rw (z, entry-put n r t h) (is-le (pos 0) (pos (r .entry)) (omega arith))) (λ z. rw (same i 0 (omega arith) (omega arith)) (g .above i (omega arith)));
+      above = λ i q. at-last (ℕ-discrete i n) (λ z. rw (z, cell-put n 0 r t (omega arith) h) (is-le (pos 0) (pos (r .entry)) (omega arith))) (λ z. rw (same i 0 (omega arith) (omega arith)) (g .above i (omega arith)));
     }
   where
     at-last : {P Q : Type 0} → Dec P → (P → Q) → ((P → ⊥) → Q) → Q
@@ -84,11 +66,10 @@ grown-one o m n t r g e h =
     at-last (no p) f g' = g' p
 
 pub grown-more : (o : ℤ) (m n : ℕ) (t : List ℤ) (rs : List Row) → Grown o m n t → ((r : Row) → List·Memᴰ r rs → Ending o r) → (n + length rs) * 5 ≤ length t → Grown o m (n + length rs) (putRows n rs t)
-unfolding putRows
-grown-more o m n t [] g e h = rw (add-zero n) g
+grown-more o m n t [] g e h = rw (add-zero n, puts-none) g
 grown-more o m n t (r ∷ rs) g e h =
     let z : suc n + length rs ≡ n + suc (length rs) = omega arith in
-    subst (λ k. Grown o m k (putRows (suc n) rs (putRow n r t))) z (grown-more o m (suc n) (putRow n r t) rs (grown-one o m n t r g (e r (List·Memᴰ·head refl)) (omega arith)) (λ q k. e q (List·Memᴰ·tail k)) (omega (arith, length-put n r t)))
+    rw puts-on (subst (λ k. Grown o m k (putRows (suc n) rs (putRow n r t))) z (grown-more o m (suc n) (putRow n r t) rs (grown-one o m n t r g (e r (List·Memᴰ·head refl)) (omega arith)) (λ q k. e q (List·Memᴰ·tail k)) (omega (arith, length-put n r t))))
 
 -- the rows that an entry adds
 when-mem : (b : Bool) (x r : Row) → List·Memᴰ r (when b x) → r ≡ x
@@ -123,7 +104,7 @@ module _ (o : ℤ) (m n : ℕ) (t : List ℤ) (g : Grown o m n t) (entry : ℕ) 
 
   right-low : (c : Relation) (r : ℕ) → rightFrom c m r ≤ n
   unfolding rightFrom
-  right-low c r = go (rightMayBeOld c && leb m r)
+  right-low c r = go (rightMayEndEarlier c && leb m r)
     where
       go : (b : Bool) → cond b 0 m ≤ n
       go true = omega arith
@@ -139,7 +120,7 @@ module _ (o : ℤ) (m n : ℕ) (t : List ℤ) (g : Grown o m n t) (entry : ℕ) 
 
   left-low : (c : Relation) (b : ℤ) → leftFrom c b m n t ≤ n
   unfolding leftFrom
-  left-low c b = go (hasRow b m n t) (leftMayBeOld c) (rightMayBeOld c)
+  left-low c b = go (hasRow b m n t) (leftMayEndEarlier c) (rightMayEndEarlier c)
     where
       go : (x y z : Bool) → cond x (cond y 0 m) (cond z m n) ≤ n
       go true true z = omega arith

@@ -12,13 +12,14 @@ use mir.Syntax.{w32}
 use mir.Val.{SFits, toZ, ofZ}
 use Rattle.interval.proofs.Machine.{same32}
 use Rattle.interval.specs.Instants.{eqZ}
+use Rattle.interval.specs.Conditions.{leftMayEndEarlier, rightMayEndEarlier}
 use Rattle.interval.proofs.Signed.{never}
 use Rattle.interval.specs.declared.Relation.{Relation}
 use Rattle.interval.specs.declared.Edges.{Edges}
 use Rattle.interval.specs.declared.LengthTest.{LengthTest}
 use Rattle.model.specs.Recognitions.{Arm, left}
 use Rattle.table.specs.Table.{cell}
-use Rattle.closing.specs.Added.{partRow, armRow, armRows, lengthRow, forbids, isWithin, isForbidden, absenceRow, absenceRows, pairRow, rightFrom, pairsWith, hasRow, leftMayBeOld, rightMayBeOld, leftFrom, topOf, NextOf}
+use Rattle.closing.specs.Added.{partRow, armRow, armRows, lengthRow, forbids, isWithin, isForbidden, absenceRow, absenceRows, pairRow, rightFrom, pairsWith, hasRow, leftFrom, topOf, NextOf}
 use Rattle.closing.proofs.Spans.{span-same, each-none-of, none-at}
 use Rattle.closing.proofs.Filling.{Kept}
 
@@ -75,7 +76,7 @@ pairs-none c entry a b m n t r e = rw e
 -- where the search for r begins
 pub left-le : (c : Relation) (b : ℤ) (m n : ℕ) (t : List ℤ) → m ≤ n → leftFrom c b m n t ≤ n
 unfolding leftFrom
-left-le c b m n t h = go (hasRow b m n t) (leftMayBeOld c) (rightMayBeOld c)
+left-le c b m n t h = go (hasRow b m n t) (leftMayEndEarlier c) (rightMayEndEarlier c)
   where
     go : (x y z : Bool) → cond x (cond y 0 m) (cond z m n) ≤ n
     go true true z = omega arith

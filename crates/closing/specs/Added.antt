@@ -10,9 +10,8 @@ use lib.IntN.{ℤ, pos}
 use lib.ListN.{length, getD}
 use lib.Signed.{leZ}
 use Rattle.interval.specs.Instants.{eqZ, least, greatest}
-use Rattle.interval.specs.Conditions.{isRelated, isForbidding, hasLength}
+use Rattle.interval.specs.Conditions.{isRelated, leftMayEndEarlier, rightMayEndEarlier, isForbidding, hasLength}
 use Rattle.interval.specs.declared.Relation.{Relation}
-use Rattle.interval.specs.declared.Relation.the-variants.{Seq, And, Meets, Overlaps, Starts, During, Finishes, Equals}
 use Rattle.interval.specs.declared.Edges.{Edges}
 use Rattle.interval.specs.declared.LengthTest.{LengthTest}
 use Rattle.model.specs.Lists.{some, each, numbers}
@@ -95,35 +94,15 @@ absenceRow e entry a b top t i = when (eqZ (cell t i 0) a && not (isForbidden e 
 unfoldable pub absenceRows : Edges → ℕ → ℤ → ℤ → ℕ → ℕ → List ℤ → List Row
 absenceRows e entry a b m n t = each (absenceRow e entry a b (topOf b n t) t) (span m n)
 
--- two operands: the pairs in which one row or both end at the instant. Whether r, and whether s, may be a row from before this closing:
-unfoldable pub leftMayBeOld : Relation → Bool
-leftMayBeOld Seq = true
-leftMayBeOld And = true
-leftMayBeOld Meets = true
-leftMayBeOld Overlaps = true
-leftMayBeOld Starts = true
-leftMayBeOld During = true
-leftMayBeOld Finishes = false
-leftMayBeOld Equals = false
-
-unfoldable pub rightMayBeOld : Relation → Bool
-rightMayBeOld Seq = false
-rightMayBeOld And = true
-rightMayBeOld Meets = false
-rightMayBeOld Overlaps = false
-rightMayBeOld Starts = false
-rightMayBeOld During = false
-rightMayBeOld Finishes = false
-rightMayBeOld Equals = false
-
+-- two operands: the pairs in which one row or both end at the instant
 unfoldable pub pairRow : Relation → ℕ → ℤ → ℕ → ℤ → ℤ → List ℤ → ℕ → List Row
 pairRow c entry b r start end t s =
     when (eqZ (cell t s 0) b && isRelated c start end (cell t s 3) (cell t s 4))
     (row entry (pos r) (pos s) (least start (cell t s 3)) (greatest end (cell t s 4)))
 
--- where the search for s begins, given r
+-- where the search for s begins, given r: a row that ends before the pair does is from before this closing
 unfoldable pub rightFrom : Relation → ℕ → ℕ → ℕ
-rightFrom c m r = cond (rightMayBeOld c && leb m r) 0 m
+rightFrom c m r = cond (rightMayEndEarlier c && leb m r) 0 m
 
 unfoldable pub pairsWith : Relation → ℕ → ℤ → ℤ → ℕ → ℕ → List ℤ → ℕ → List Row
 pairsWith c entry a b m n t r =
@@ -136,7 +115,7 @@ unfoldable pub hasRow : ℤ → ℕ → ℕ → List ℤ → Bool
 hasRow b m n t = some (λ i. eqZ (cell t i 0) b) (span m n)
 
 unfoldable pub leftFrom : Relation → ℤ → ℕ → ℕ → List ℤ → ℕ
-leftFrom c b m n t = cond (hasRow b m n t) (cond (leftMayBeOld c) 0 m) (cond (rightMayBeOld c) m n)
+leftFrom c b m n t = cond (hasRow b m n t) (cond (leftMayEndEarlier c) 0 m) (cond (rightMayEndEarlier c) m n)
 
 -- the rows from i to before k are none of a
 pub record NextOf (a : ℤ) (i n : ℕ) (t : List ℤ) (k : ℕ) : Type 0 where

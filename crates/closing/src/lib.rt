@@ -13,7 +13,7 @@ ghost use Rattle.model.specs.Capacity.{capacity};
 ghost use Rattle.table.specs.Table.{cell};
 ghost use Rattle.table.specs.Ready.{Ready, EndBefore};
 ghost use Rattle.table.specs.Operators.{entryOperator};
-ghost use Rattle.closing.specs.Added.{Appendable, Appended, eventRow, eventRows, partRow, armOf, armRow, armRows, orRows, lengthRow, lengthRows, forbids, isWithin, absenceRows, topOf, NextOf, leftMayBeOld, rightMayBeOld, pairRow, rightFrom, pairsWith, hasRow, leftFrom, pairRows, addedRows};
+ghost use Rattle.closing.specs.Added.{Appendable, Appended, eventRow, eventRows, partRow, armOf, armRow, armRows, orRows, lengthRow, lengthRows, forbids, isWithin, absenceRows, topOf, NextOf, pairRow, rightFrom, pairsWith, hasRow, leftFrom, pairRows, addedRows};
 ghost use Rattle.closing.specs.Closed.{rowsClosed, closedCount, closedTable};
 use chart::Chart;
 use chart::Entry;
@@ -233,7 +233,7 @@ fn is_within(t: &[i32], j: usize, start: i32) -> bool
     if j == 0 {
         return false;
     }
-    start <= end_of(t, j - 1)
+    interval::is_no_later(start, end_of(t, j - 1))
 }
 
 // The place behind the last of the first n rows that is one of b, or 0. One look at each row behind it.
@@ -294,38 +294,6 @@ fn absence_rows(
     count
 }
 
-// Whether r may be a row from before this closing.
-fn left_may_be_old(c: Relation) -> bool
-    ensures { λ r. ⌜ r ≡ leftMayBeOld c ⌝ }
-{
-    match c {
-        Relation::Seq => true,
-        Relation::And => true,
-        Relation::Meets => true,
-        Relation::Overlaps => true,
-        Relation::Starts => true,
-        Relation::During => true,
-        Relation::Finishes => false,
-        Relation::Equals => false,
-    }
-}
-
-// Whether s may be a row from before this closing.
-fn right_may_be_old(c: Relation) -> bool
-    ensures { λ r. ⌜ r ≡ rightMayBeOld c ⌝ }
-{
-    match c {
-        Relation::Seq => false,
-        Relation::And => true,
-        Relation::Meets => false,
-        Relation::Overlaps => false,
-        Relation::Starts => false,
-        Relation::During => false,
-        Relation::Finishes => false,
-        Relation::Equals => false,
-    }
-}
-
 // The row of r, which lasts from start to end, and s, if row s is one of the operand and they are related.
 fn push_pair(
     t: &mut [i32],
@@ -354,11 +322,11 @@ fn push_pair(
     n
 }
 
-// Where the search for s begins, given r.
+// Where the search for s begins, given r. A row that ends before the pair does is from before this closing.
 fn right_from(c: Relation, m: usize, r: usize) -> usize
     ensures { λ k. ⌜ k ≡ rightFrom c m r ⌝ }
 {
-    if right_may_be_old(c) {
+    if interval::right_may_end_earlier(c) {
         if m <= r {
             return 0;
         }
@@ -420,12 +388,12 @@ fn left_from(t: &[i32], m: usize, n: usize, c: Relation, b: i32) -> usize
     ensures { λ r. ⌜ r ≡ leftFrom c b m n (now (t .entry)) ⌝ }
 {
     if has_row(t, m, n, b) {
-        if left_may_be_old(c) {
+        if interval::left_may_end_earlier(c) {
             return 0;
         }
         return m;
     }
-    if right_may_be_old(c) {
+    if interval::right_may_end_earlier(c) {
         return m;
     }
     n

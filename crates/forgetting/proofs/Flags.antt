@@ -1,31 +1,22 @@
 -- The flags of a chart's entries: filled entry by entry, they say which entries are events'. No code here.
-use Prim.Native.Nat.{ℕ, zero, suc, _+_, _≤_, _<_}
+use Prim.Native.Nat.{ℕ, _+_, _≤_, _<_}
 use native.Mathlib.Omega.{arith}
-use native.Mathlib.Nat.{zero-add}
 use native.Mathlib.Decide.{ℕ-discrete, decLt}
-use mathlib.Core.Path.{_≡_, refl, sym, ap, _∙_}
+use mathlib.Core.Path.{_≡_, refl, sym, _∙_}
 use mathlib.Core.Bool.{Bool, false}
-use mathlib.Core.List.{List, map}
+use mathlib.Core.List.{List}
 use lib.ListN.{length, set, replicate, length-set, length-replicate, getD-replicate, List·getD-eq-default}
 use lib.Seq.{getD-set-same, getD-set-other}
 use Rattle.chart.specs.Charts.{entryAt}
 use Rattle.chart.specs.declared.Chart.{Chart}
-use Rattle.model.specs.Lists.{numbers}
-use Rattle.model.specs.Recognitions.{Operator}
 use Rattle.model.specs.RowSteps.{isEvent, isEventAt}
 use Rattle.table.specs.Operators.{operatorsOf, entryOperator}
+use Rattle.table.proofs.Operators.{Lookup, operator-at, operator-past}
 use Rattle.forgetting.specs.Walk.{eventIn, FlagsOf}
 
--- entry k of operators that are made from the numbers a on
-event-made : (f : ℕ → Operator) (a n k : ℕ) → k < n → isEventAt (map f (numbers a n)) k ≡ isEvent (f (a + k))
-event-made f a zero k h = absurd (omega arith)
-event-made f a (suc n) zero h = let e : a ≡ a + 0 = omega arith in ap (λ m. isEvent (f m)) e
-event-made f a (suc n) (suc k) h = let e : suc a + k ≡ a + suc k = omega arith in event-made f (suc a) n k (omega arith) ∙ ap (λ m. isEvent (f m)) e
-
-event-past : (f : ℕ → Operator) (a n k : ℕ) → n ≤ k → isEventAt (map f (numbers a n)) k ≡ false
-event-past f a zero k h = refl
-event-past f a (suc n) zero h = absurd (omega arith)
-event-past f a (suc n) (suc k) h = event-past f (suc a) n k (omega arith)
+-- whether an entry is an event's, looked up
+lookup : Lookup isEventAt isEvent false
+lookup = record { none = λ n. refl; first = λ op ops. refl; later = λ op ops n. refl }
 
 -- the flags of the first n entries
 pub record Flagged (chart : Chart) (n : ℕ) (events : List Bool) : Type 0 where
@@ -43,7 +34,6 @@ module _ (chart : Chart) where
 
   module _ (n : ℕ) (events : List Bool) (w : Flagged chart n events) (few : chart .count ≤ 32) where
     pub flags-more : n < chart .count → (b : Bool) → b ≡ isEvent (entryOperator (entryAt chart n)) → Flagged chart (n + 1) (set events n b)
-    unfolding operatorsOf
     flags-more h b e = record {
       size = length-set events n b ∙ w .size;
       told = λ k l. go k l (ℕ-discrete k n);
@@ -51,13 +41,12 @@ module _ (chart : Chart) where
     }
       where
         go : (k : ℕ) → k < n + 1 → Dec (k ≡ n) → eventIn (set events n b) k ≡ isEventAt (operatorsOf chart) k
-        go k l (yes q) = rw q (getD-set-same events n b false (omega (arith, w .size)) ∙ e ∙ sym (event-made (λ m. entryOperator (entryAt chart m)) 0 (chart .count) n h ∙ ap (λ m. isEvent (entryOperator (entryAt chart m))) (zero-add n)))
+        go k l (yes q) = rw q (getD-set-same events n b false (omega (arith, w .size)) ∙ e ∙ sym (operator-at isEventAt isEvent false lookup chart n h))
         go k l (no q) = getD-set-other events n k b false q ∙ w .told k (omega arith)
 
     pub flags-all : chart .count ≤ n → FlagsOf chart events
-    unfolding operatorsOf
     flags-all h k = go (decLt k n)
       where
         go : Dec (k < n) → eventIn events k ≡ isEventAt (operatorsOf chart) k
         go (yes l) = w .told k l
-        go (no l) = w .rest k (omega arith) ∙ sym (event-past (λ m. entryOperator (entryAt chart m)) 0 (chart .count) k (omega arith))
+        go (no l) = w .rest k (omega arith) ∙ sym (operator-past isEventAt isEvent false lookup chart k (omega arith))

@@ -1,8 +1,9 @@
-pub mod Table
 pub mod References
 pub mod Places
+pub mod Marks
 pub mod OneRow
 pub mod Walk
+pub mod Restored
 pub mod Flags
 pub mod Forgetting
 pub mod Ends

@@ -5,15 +5,14 @@ use native.Mathlib.Numerals.{add-one}
 use mathlib.Core.Path.{_≡_, sym, ap, _∙_}
 use mathlib.Core.Bool.{Bool, true, false, cond}
 use mathlib.Core.List.{List, [], _∷_, _++_, append-nil}
-use lib.IntN.{ℤ}
 use lib.ListN.{length, take, drop, length-append, length-take}
 use lib.Seq.{take-suc, take-add}
 use Rattle.model.specs.Lists.{keep}
 use Rattle.model.specs.Order.{Row}
-use Rattle.model.specs.RowSteps.{rowAt, isLate, moved}
+use Rattle.model.specs.RowSteps.{rowAt, placed}
 use Rattle.model.proofs.Sorted.{keep-append}
 
-pub keep-le : {A : Type 0} (p : A → Bool) (xs : List A) → length (keep p xs) ≤ length xs
+keep-le : {A : Type 0} (p : A → Bool) (xs : List A) → length (keep p xs) ≤ length xs
 keep-le p [] = omega arith
 keep-le p (x ∷ xs) = go (p x) (keep-le p xs)
   where
@@ -22,34 +21,38 @@ keep-le p (x ∷ xs) = go (p x) (keep-le p xs)
     go false h = omega arith
 
 -- where a row goes
-module _ (f : ℤ) (rs : List Row) where
-  keep-more : (i : ℕ) → i < length rs → keep (isLate f) (take (i + 1) rs) ≡ keep (isLate f) (take i rs) ++ keep (isLate f) (rowAt rs i ∷ [])
+module _ (test : Row → Bool) (rs : List Row) where
+  keep-more : (i : ℕ) → i < length rs → keep test (take (i + 1) rs) ≡ keep test (take i rs) ++ keep test (rowAt rs i ∷ [])
   keep-more i h =
       let e : take (i + 1) rs ≡ take i rs ++ (rowAt rs i ∷ []) = ap (λ k. take k rs) (add-one i) ∙ take-suc rs i _ h in
-      rw e (keep-append (isLate f) (take i rs) (rowAt rs i ∷ []))
+      rw e (keep-append test (take i rs) (rowAt rs i ∷ []))
 
-  pub keep-late : (i : ℕ) → i < length rs → isLate f (rowAt rs i) ≡ true → keep (isLate f) (take (i + 1) rs) ≡ keep (isLate f) (take i rs) ++ (rowAt rs i ∷ [])
-  keep-late i h e = keep-more i h ∙ rw e
+  pub keep-pass : (i : ℕ) → i < length rs → test (rowAt rs i) ≡ true → keep test (take (i + 1) rs) ≡ keep test (take i rs) ++ (rowAt rs i ∷ [])
+  keep-pass i h e = keep-more i h ∙ rw e
 
-  pub keep-early : (i : ℕ) → i < length rs → isLate f (rowAt rs i) ≡ false → keep (isLate f) (take (i + 1) rs) ≡ keep (isLate f) (take i rs)
-  keep-early i h e = keep-more i h ∙ rw e (append-nil (keep (isLate f) (take i rs)))
+  pub keep-fail : (i : ℕ) → i < length rs → test (rowAt rs i) ≡ false → keep test (take (i + 1) rs) ≡ keep test (take i rs)
+  keep-fail i h e = keep-more i h ∙ rw e (append-nil (keep test (take i rs)))
 
-  pub moved-late : (i : ℕ) → i < length rs → isLate f (rowAt rs i) ≡ true → moved f rs (i + 1) ≡ moved f rs i + 1
-  moved-late i h e = ap length (keep-late i h e) ∙ length-append (keep (isLate f) (take i rs)) (rowAt rs i ∷ [])
+  pub placed-pass : (i : ℕ) → i < length rs → test (rowAt rs i) ≡ true → placed test rs (i + 1) ≡ placed test rs i + 1
+  placed-pass i h e = ap length (keep-pass i h e) ∙ length-append (keep test (take i rs)) (rowAt rs i ∷ [])
 
-  pub moved-early : (i : ℕ) → i < length rs → isLate f (rowAt rs i) ≡ false → moved f rs (i + 1) ≡ moved f rs i
-  moved-early i h e = ap length (keep-early i h e)
+  pub placed-fail : (i : ℕ) → i < length rs → test (rowAt rs i) ≡ false → placed test rs (i + 1) ≡ placed test rs i
+  placed-fail i h e = ap length (keep-fail i h e)
 
-  pub moved-le : (i : ℕ) → moved f rs i ≤ i
-  moved-le i = omega (arith, keep-le (isLate f) (take i rs), length-take i rs)
+  pub placed-le : (i : ℕ) → placed test rs i ≤ i
+  placed-le i = omega (arith, keep-le test (take i rs), length-take i rs)
 
-  moved-part : (j k : ℕ) → moved f rs (j + k) ≤ moved f rs j + k
-  moved-part j k =
-      let e : moved f rs (j + k) ≡ moved f rs j + length (keep (isLate f) (take k (drop j rs))) = ap (λ l. length (keep (isLate f) l)) (take-add j k rs) ∙ ap length (keep-append (isLate f) (take j rs) (take k (drop j rs))) ∙ length-append (keep (isLate f) (take j rs)) (keep (isLate f) (take k (drop j rs))) in
-      omega (arith, keep-le (isLate f) (take k (drop j rs)), length-take k (drop j rs))
+  placed-add : (j k : ℕ) → placed test rs (j + k) ≡ placed test rs j + length (keep test (take k (drop j rs)))
+  placed-add j k = ap (λ l. length (keep test l)) (take-add j k rs) ∙ ap length (keep-append test (take j rs) (take k (drop j rs))) ∙ length-append (keep test (take j rs)) (keep test (take k (drop j rs)))
+
+  -- a later row goes no lower
+  pub placed-grows : (i j : ℕ) → j ≤ i → placed test rs j ≤ placed test rs i
+  placed-grows i j h =
+      let s : i ≡ j + (i - j) = omega arith in
+      omega (arith, placed-add j (i - j), ap (placed test rs) s)
 
   -- where a row stays, so do those before it
-  pub moved-still : (i j : ℕ) → j ≤ i → moved f rs i ≡ i → moved f rs j ≡ j
-  moved-still i j h e =
+  pub placed-still : (i j : ℕ) → j ≤ i → placed test rs i ≡ i → placed test rs j ≡ j
+  placed-still i j h e =
       let s : i ≡ j + (i - j) = omega arith in
-      omega (arith, moved-part j (i - j), moved-le j, sym (ap (moved f rs) s))
+      omega (arith, placed-add j (i - j), keep-le test (take (i - j) (drop j rs)), length-take (i - j) (drop j rs), placed-le j, ap (placed test rs) s)

@@ -1,5 +1,5 @@
 -- Laws of references: -1 stays, and another goes where its row went. No code here.
-use Prim.Native.Nat.{ℕ, _≤_, _<_}
+use Prim.Native.Nat.{ℕ, _<_}
 use native.Mathlib.Omega.{arith}
 use mathlib.Core.Path.{_≡_, refl, sym, ap}
 use mathlib.Core.Logic.{inl, inr}
@@ -29,11 +29,6 @@ pub refers-below : (n : ℕ) (z : ℤ) → Refers n z → ltZ z (pos 0) ≡ fals
 refers-below n (pos k) (inl p) e = let z : _≡_ {A = ℕ} 0 1 = cc in absurd (omega arith)
 refers-below n (pos k) (inr p) e = p .1
 refers-below n (negsuc k) p e = never (sym e)
-
--- a higher bound is as good
-pub refers-more : (m n : ℕ) (z : ℤ) → m ≤ n → Refers m z → Refers n z
-refers-more m n z h (inl p) = inl p
-refers-more m n z h (inr p) = inr (p .0, omega arith)
 
 -- two numberings that agree below i
 renumber-same : (g h : ℕ → ℕ) (i : ℕ) (z : ℤ) → Refers i z → ((j : ℕ) → j < i → g j ≡ h j) → renumber g z ≡ renumber h z

@@ -1,23 +1,24 @@
 -- The walk over the rows: before the first, one row more, past the last. No code here.
-use Prim.Native.Nat.{ℕ, _+_, _≤_, _<_}
+use Prim.Native.Nat.{ℕ, zero, suc, _+_, _*_, _-_, _/_, _%_, _≤_, _<_}
 use native.Mathlib.Omega.{arith}
 use native.Mathlib.Decide.{ℕ-discrete}
+use native.Mathlib.Numerals.{add-one}
 use mathlib.Core.Path.{_≡_, refl, sym, ap, _∙_}
 use mathlib.Core.Bool.{Bool, true, false, cond}
 use mathlib.Core.List.{List, [], _∷_, _++_, map, map-append}
-use lib.IntN.{ℤ}
-use lib.ListN.{length, take, set, length-map}
-use lib.Seq.{take-all, getD-set-same, getD-set-other}
+use lib.IntN.{ℤ, pos, natAbs}
+use lib.ListN.{length, getD, take, drop, set, length-map, length-set}
+use lib.Seq.{take-all, getD-set-same, getD-drop, drop-drop, drop-set-lt}
 use lib.Signed.{leZ}
 use Rattle.model.specs.Lists.{keep}
-use Rattle.model.specs.Order.{Row}
+use Rattle.model.specs.Order.{Row, row}
 use Rattle.model.specs.RowSteps.{rowAt, isLate, moved}
-use Rattle.table.specs.Table.{cell, tableRow, rowsIn, putRow, putRows}
-use Rattle.forgetting.specs.Walk.{eventIn, placeIn, withReferences, movedRow, keptAfter, afterRow, keptBy, RowReady, RowsReady, Movable}
-use Rattle.table.proofs.Rows.{length-rows, row-at}
-use Rattle.forgetting.proofs.References.{references-same}
-use Rattle.forgetting.proofs.Table.{cell-behind, puts-snoc, row-same}
-use Rattle.forgetting.proofs.Places.{keep-late, keep-early, moved-late, moved-early, moved-le, moved-still}
+use Rattle.table.specs.Table.{cell, tableRow, rowsIn, putRow}
+use Rattle.table.proofs.Rows.{rows-none, rows-snoc, length-rows, row-at, length-put, rows-put, drop-put}
+use Rattle.forgetting.specs.Walk.{eventIn, entryCell, shiftAt, placeAt, plain, plainRows, marked, withReferences, movedRow, keptAfter, afterRow, keptBy, RowReady, RowsReady, AllLate, Markable, HasMark, Movable, Restorable, Sifted}
+use Rattle.forgetting.proofs.References.{references-same, references-id}
+use Rattle.forgetting.proofs.Places.{keep-pass, keep-fail, placed-pass, placed-fail, placed-le, placed-grows, placed-still}
+use Rattle.forgetting.proofs.Marks.{low-of, shift-of, plain-low, plain-references, pos-above, entry-cell, set-own, set-entry, set-rows, put-shift, put-above}
 
 -- a row as forgetting writes it, and the rows written before row i is looked at
 abbrev written : List Bool → ℤ → List Row → Row → Row
@@ -26,118 +27,222 @@ written events f rs r = withReferences (eventIn events (r .entry)) (moved f rs) 
 abbrev pub doneRows : List Bool → ℤ → List Row → ℕ → List Row
 doneRows events f rs i = map (written events f rs) (keep (isLate f) (take i rs))
 
-length-done : (events : List Bool) (f : ℤ) (rs : List Row) (i : ℕ) → length (doneRows events f rs i) ≡ moved f rs i
-length-done events f rs i = length-map (keep (isLate f) (take i rs)) (written events f rs)
-
--- the walk at row i: how many rows are kept, the table, and where each row passed went
-pub record Walked (events : List Bool) (f : ℤ) (rows : ℕ) (t₀ : List ℤ) (i p : ℕ) (places : List ℕ) (t : List ℤ) : Type 0 where
+-- the walk at row i: how many rows are kept, which those are, what lies behind, and the marks of the rows passed
+pub record Walked (events : List Bool) (f : ℤ) (rows : ℕ) (t₀ : List ℤ) (i p : ℕ) (t : List ℤ) : Type 0 where
   pub count : p ≡ moved f (rowsIn rows t₀) i
-  pub table : t ≡ putRows 0 (doneRows events f (rowsIn rows t₀) i) t₀
-  pub told : (j : ℕ) → j < i → placeIn places j ≡ moved f (rowsIn rows t₀) j
+  pub size : length t ≡ length t₀
+  pub done : plainRows p t ≡ doneRows events f (rowsIn rows t₀) i
+  pub behind : drop (i * 5) t ≡ drop (i * 5) t₀
+  pub above : (j : ℕ) → j < i → leZ (pos 0) (entryCell t j) ≡ true
+  pub shift : (j : ℕ) → j < i → shiftAt t j + moved f (rowsIn rows t₀) j ≡ j
 
-ready-same : (event : ℕ → Bool) (i : ℕ) (s t : List ℤ) → ((k : ℕ) → k < 5 → cell s i k ≡ cell t i k) → RowReady event i t → RowReady event i s
-ready-same event i s t same r = record {
-  above = rw (same 0 (omega arith)) (r .above);
-  below = rw (same 0 (omega arith)) (r .below);
-  left = rw (same 0 (omega arith), same 1 (omega arith)) (r .left);
-  right = rw (same 2 (omega arith)) (r .right);
-}
+-- what lies behind one row more
+drop-more : (i : ℕ) (s t : List ℤ) → drop (i * 5) s ≡ drop (i * 5) t → drop ((i + 1) * 5) s ≡ drop ((i + 1) * 5) t
+drop-more i s t e =
+    let q : (i + 1) * 5 ≡ i * 5 + 5 = omega arith in
+    rw q (sym (drop-drop 5 (i * 5) s) ∙ ap (drop 5) e ∙ drop-drop 5 (i * 5) t)
 
 module _ (events : List Bool) (f : ℤ) (rows : ℕ) (t₀ : List ℤ) (ok : RowsReady (eventIn events) rows t₀) where
-  -- before the first row
-  pub walk-holds : (places : List ℕ) → Walked events f rows t₀ 0 0 places t₀
-  unfolding putRows
-  walk-holds places = record { count = refl; table = refl; told = λ j h. absurd (omega arith) }
+  abbrev moves : Row → Row
+  moves = written events f (rowsIn rows t₀)
 
-  module _ (i p : ℕ) (places : List ℕ) (t : List ℤ) (w : Walked events f rows t₀ i p places t) (h : i < rows) (g : i < length places) where
-    same-cells : (k : ℕ) → k < 5 → cell t i k ≡ cell t₀ i k
-    same-cells k l =
-        let rs = rowsIn rows t₀ in
-        rw (w .table) (cell-behind 0 (doneRows events f rs i) t₀ i k (omega (arith, moved-le f rs i, length-done events f rs i)) l)
-
-    told-more : (j : ℕ) → j < i + 1 → placeIn (set places i p) j ≡ moved f (rowsIn rows t₀) j
-    told-more j l = go (ℕ-discrete j i)
-      where
-        go : Dec (j ≡ i) → placeIn (set places i p) j ≡ moved f (rowsIn rows t₀) j
-        go (yes e) = rw e (getD-set-same places i p 0 g ∙ w .count)
-        go (no n) = getD-set-other places i j p 0 n ∙ w .told j (omega arith)
-
-    pub walk-low : p ≤ i
-    walk-low = omega (arith, w .count, moved-le f (rowsIn rows t₀) i)
-
-    pub walk-asks : length t ≡ length t₀ → Movable events places i p t
-    walk-asks e = record {
-      few = omega (arith, ok .few);
-      fit = omega (arith, ok .fit);
-      lower = walk-low;
-      lent = omega arith;
-      ready = ready-same (eventIn events) i t t₀ same-cells (ok .each i h);
-      still = λ q j l. w .told j l ∙ moved-still f (rowsIn rows t₀) i j (omega arith) (sym (w .count) ∙ q);
-    }
-
-    -- row i as it was at entry, which starts as the row there now
-    abbrev former : Row
-    former = tableRow t₀ i
-
-    row-now : rowAt (rowsIn rows t₀) i ≡ former
+  module _ (i : ℕ) (h : i < rows) where
+    row-now : rowAt (rowsIn rows t₀) i ≡ tableRow t₀ i
     row-now = row-at rows i t₀ h
 
     inside : i < length (rowsIn rows t₀)
     inside = rw (length-rows rows t₀) h
 
-    start : (b : Bool) → leZ f (cell t i 3) ≡ b → isLate f (rowAt (rowsIn rows t₀) i) ≡ b
-    start b e = ap (isLate f) row-now ∙ sym (ap (leZ f) (same-cells 3 (omega arith))) ∙ e
+    start : (b : Bool) → leZ f (cell t₀ i 3) ≡ b → isLate f (rowAt (rowsIn rows t₀) i) ≡ b
+    start b e = ap (isLate f) row-now ∙ e
 
-    abbrev moves : Row → Row
-    moves = written events f (rowsIn rows t₀)
-
-    -- the row as it is written is the one that forgetting asks for
-    row-moved : movedRow events places t i ≡ moves former
-    row-moved =
-        ap (λ r. withReferences (eventIn events (r .entry)) (placeIn places) r) (row-same t t₀ i same-cells)
-        ∙ references-same (eventIn events (former .entry)) (placeIn places) (moved f (rowsIn rows t₀)) i former (ok .each i h .left) (ok .each i h .right) (w .told)
-
-    done-late : leZ f (cell t i 3) ≡ true → doneRows events f (rowsIn rows t₀) (i + 1) ≡ doneRows events f (rowsIn rows t₀) i ++ (moves former ∷ [])
+    done-late : leZ f (cell t₀ i 3) ≡ true → doneRows events f (rowsIn rows t₀) (i + 1) ≡ doneRows events f (rowsIn rows t₀) i ++ (moves (tableRow t₀ i) ∷ [])
     done-late e =
-        ap (map moves) (keep-late f (rowsIn rows t₀) i inside (start true e) ∙ ap (λ r. keep (isLate f) (take i (rowsIn rows t₀)) ++ (r ∷ [])) row-now)
-        ∙ map-append moves (keep (isLate f) (take i (rowsIn rows t₀))) (former ∷ [])
+        ap (map moves) (keep-pass (isLate f) (rowsIn rows t₀) i inside (start true e) ∙ ap (λ r. keep (isLate f) (take i (rowsIn rows t₀)) ++ (r ∷ [])) row-now)
+        ∙ map-append moves (keep (isLate f) (take i (rowsIn rows t₀))) (tableRow t₀ i ∷ [])
+
+    done-early : leZ f (cell t₀ i 3) ≡ false → doneRows events f (rowsIn rows t₀) (i + 1) ≡ doneRows events f (rowsIn rows t₀) i
+    done-early e = ap (map moves) (keep-fail (isLate f) (rowsIn rows t₀) i inside (start false e))
+
+    -- a row that keeps its number, as do those before it
+    moves-still : ((j : ℕ) → j < i → moved f (rowsIn rows t₀) j ≡ j) → moves (tableRow t₀ i) ≡ tableRow t₀ i
+    moves-still still =
+        let r = tableRow t₀ i in
+        references-same (eventIn events (r .entry)) (moved f (rowsIn rows t₀)) (λ j. j) i r (ok .each i h .left) (ok .each i h .right) still
+        ∙ references-id (eventIn events (r .entry)) r
+
+    walk-still : Walked events f rows t₀ i i t₀ → leZ f (cell t₀ i 3) ≡ true → Walked events f rows t₀ (i + 1) (i + 1) t₀
+    walk-still w e =
+        let rs = rowsIn rows t₀ in
+        let r = tableRow t₀ i in
+        let still : (j : ℕ) → j ≤ i → moved f rs j ≡ j = λ j l. placed-still (isLate f) rs i j l (sym (w .count)) in
+        record {
+          count = omega (arith, w .count, placed-pass (isLate f) rs i inside (start true e));
+          size = refl;
+          done = rw (add-one i, rows-snoc i t₀, map-append plain (rowsIn i t₀) (r ∷ []), ← add-one i, done-late e, w .done, moves-still (λ j l. still j (omega arith)), plain-low r (ok .each i h .below));
+          behind = refl;
+          above = λ j l. rw (entry-cell t₀ j) at (ok .each j (omega arith) .above);
+          shift = λ j l. omega (arith, still j (omega arith), rw (entry-cell t₀ j) at (ok .each j (omega arith) .below));
+        }
+
+  -- before the first row that is dropped
+  pub walk-holds : (n : ℕ) → n ≤ rows → AllLate f n t₀ → Walked events f rows t₀ n n t₀
+  walk-holds zero h late = record { count = refl; size = refl; done = ap (map plain) (rows-none t₀); behind = refl; above = λ j g. absurd (omega arith); shift = λ j g. absurd (omega arith) }
+  walk-holds (suc n) h late = rw (add-one n) at (walk-still n (omega arith) (walk-holds n (omega arith) (λ j g. late j (omega arith))) (late n (omega arith)))
+
+  module _ (i p : ℕ) (t : List ℤ) (w : Walked events f rows t₀ i p t) (h : i < rows) where
+    -- row i is as it was
+    cells : (k : ℕ) → cell t i k ≡ cell t₀ i k
+    cells k = sym (getD-drop (i * 5) t k (pos 0)) ∙ ap (λ l. getD l k (pos 0)) (w .behind) ∙ getD-drop (i * 5) t₀ k (pos 0)
+
+    head : entryCell t i ≡ cell t₀ i 0
+    head = sym (entry-cell t i) ∙ cells 0
+
+    walk-low : p ≤ i
+    walk-low = omega (arith, w .count, placed-le (isLate f) (rowsIn rows t₀) i)
+
+    pub walk-marks : Markable i p t
+    walk-marks = record {
+      few = omega (arith, ok .few);
+      fit = omega (arith, ok .fit, w .size);
+      lower = walk-low;
+      above = rw head (ok .each i h .above);
+      below = rw head (ok .each i h .below);
+    }
+
+    -- the mark, and the table with it
+    abbrev mark : ℤ
+    mark = pos (natAbs (entryCell t i) + (i - p) * 32)
+
+    abbrev after : List ℤ
+    after = marked i p t
+
+    own-mark : entryCell after i ≡ mark
+    own-mark = getD-set-same t (i * 5) mark (pos 0) (omega (arith, ok .fit, w .size))
+
+    own : (k : ℕ) → 0 < k → cell after i k ≡ cell t₀ i k
+    own k l = set-own t i mark k l ∙ cells k
+
+    small : natAbs (entryCell t i) < 32
+    small = rw head (ok .each i h .below)
+
+    above-all : (j : ℕ) → j < i + 1 → leZ (pos 0) (entryCell after j) ≡ true
+    above-all j l = go (ℕ-discrete j i)
+      where
+        go : Dec (j ≡ i) → leZ (pos 0) (entryCell after j) ≡ true
+        go (yes q) = rw (q, own-mark) (pos-above (natAbs (entryCell t i) + (i - p) * 32))
+        go (no d) = rw (set-entry t i mark j d) (w .above j (omega arith))
+
+    shift-all : (j : ℕ) → j < i + 1 → shiftAt after j + moved f (rowsIn rows t₀) j ≡ j
+    shift-all j l = go (ℕ-discrete j i)
+      where
+        go : Dec (j ≡ i) → shiftAt after j + moved f (rowsIn rows t₀) j ≡ j
+        go (yes q) = rw (q, own-mark, shift-of (natAbs (entryCell t i)) (i - p) small) (omega (arith, w .count, walk-low))
+        go (no d) = rw (set-entry t i mark j d) (w .shift j (omega arith))
+
+    pub walk-asks : (e : ℕ) (u : List ℤ) → e ≡ natAbs (entryCell t i) → u ≡ after → Movable events i p e u
+    walk-asks e u x y = rw (x, y) (record {
+      few = omega (arith, ok .few);
+      fit = omega (arith, ok .fit, w .size, length-set t (i * 5) mark);
+      lower = walk-low;
+      small = small;
+      left = λ q. rw (own 1 (omega arith)) (ok .each i h .left (ap (λ z. eventIn events (natAbs z)) (sym head) ∙ q));
+      right = rw (own 2 (omega arith)) (ok .each i h .right);
+      marks = λ j l. record {
+        few = omega (arith, ok .few);
+        fit = omega (arith, ok .fit, w .size, length-set t (i * 5) mark);
+        above = above-all j l;
+        lower = omega (arith, shift-all j l);
+      };
+    })
+
+    abbrev put : Row
+    put = movedRow events i p (natAbs (entryCell t i)) after
+
+    -- the row as it is written is the one that forgetting asks for, but for the mark
+    row-moved : plain put ≡ moves (tableRow t₀ i)
+    row-moved =
+        let e = natAbs (entryCell t i) in
+        let g = placeAt after in
+        let r = tableRow t₀ i in
+        let same : e ≡ r .entry = ap natAbs head in
+        let is : row ((e + shiftAt after p * 32) % 32) (cell after i 1) (cell after i 2) (cell after i 3) (cell after i 4) ≡ r = rw (low-of e (shiftAt after p) small, own 1 (omega arith), own 2 (omega arith), own 3 (omega arith), own 4 (omega arith), same) in
+        plain-references (eventIn events e) g (row (e + shiftAt after p * 32) (cell after i 1) (cell after i 2) (cell after i 3) (cell after i 4))
+        ∙ ap (withReferences (eventIn events e) g) is
+        ∙ ap (λ k. withReferences (eventIn events k) g r) same
+        ∙ references-same (eventIn events (r .entry)) g (moved f (rowsIn rows t₀)) i r (ok .each i h .left) (ok .each i h .right) (λ j l. omega (arith, shift-all j (omega arith)))
+
+    put-is : put .entry ≡ natAbs (entryCell t i) + shiftAt after p * 32
+    put-is = go (eventIn events (natAbs (entryCell t i)))
+      where
+        go : (b : Bool) → withReferences b (placeAt after) (row (natAbs (entryCell t i) + shiftAt after p * 32) (cell after i 1) (cell after i 2) (cell after i 3) (cell after i 4)) .entry ≡ natAbs (entryCell t i) + shiftAt after p * 32
+        go true = refl
+        go false = refl
+
+    room : p * 5 + 5 ≤ length after
+    room = omega (arith, ok .fit, w .size, length-set t (i * 5) mark, walk-low)
+
+    behind-mark : drop ((i + 1) * 5) after ≡ drop ((i + 1) * 5) t₀
+    behind-mark = drop-set-lt ((i + 1) * 5) t (i * 5) mark (omega arith) ∙ drop-more i t t₀ (w .behind)
 
     -- one row more
-    walk-late : leZ f (cell t i 3) ≡ true → Walked events f rows t₀ (i + 1) (p + 1) (set places i p) (putRow p (movedRow events places t i) t)
-    walk-late e =
+    walk-late : leZ f (cell after i 3) ≡ true → Walked events f rows t₀ (i + 1) (p + 1) (putRow p put after)
+    walk-late q =
         let rs = rowsIn rows t₀ in
-        let done = doneRows events f rs i in
-        let size : p ≡ 0 + length done = omega (arith, w .count, length-done events f rs i) in
+        let e = natAbs (entryCell t i) in
+        let late : leZ f (cell t₀ i 3) ≡ true = rw (own 3 (omega arith)) at q in
         record {
-          count = omega (arith, w .count, moved-late f rs i inside (start true e));
-          table = rw (row-moved, size, done-late e) (ap (putRow (0 + length done) (moves former)) (w .table) ∙ sym (puts-snoc 0 done (moves former) t₀));
-          told = told-more;
+          count = omega (arith, w .count, placed-pass (isLate f) rs i (inside i h) (start i h true late));
+          size = length-put p put after ∙ length-set t (i * 5) mark ∙ w .size;
+          done =
+              ap (λ k. plainRows k (putRow p put after)) (add-one p)
+              ∙ ap (map plain) (rows-put p put after room)
+              ∙ map-append plain (rowsIn p after) (put ∷ [])
+              ∙ rw (set-rows t i mark p walk-low, w .done, row-moved) (sym (done-late i h late));
+          behind = drop-put p ((i + 1) * 5) put after (omega (arith, walk-low)) ∙ behind-mark;
+          above = λ j l. put-above after p put e small put-is room j (above-all j l);
+          shift = λ j l. rw (put-shift after p put e small put-is room j) (shift-all j l);
         }
 
-    walk-early : leZ f (cell t i 3) ≡ false → Walked events f rows t₀ (i + 1) p (set places i p) t
-    walk-early e =
+    walk-early : leZ f (cell after i 3) ≡ false → Walked events f rows t₀ (i + 1) p after
+    walk-early q =
         let rs = rowsIn rows t₀ in
+        let early : leZ f (cell t₀ i 3) ≡ false = rw (own 3 (omega arith)) at q in
         record {
-          count = w .count ∙ sym (moved-early f rs i inside (start false e));
-          table = w .table ∙ ap (λ l. putRows 0 (map moves l) t₀) (sym (keep-early f rs i inside (start false e)));
-          told = told-more;
+          count = w .count ∙ sym (placed-fail (isLate f) rs i (inside i h) (start i h false early));
+          size = length-set t (i * 5) mark ∙ w .size;
+          done = ap (map plain) (set-rows t i mark p walk-low) ∙ w .done ∙ sym (done-early i h early);
+          behind = behind-mark;
+          above = above-all;
+          shift = shift-all;
         }
 
-    pub walk-step : (q : ℕ) (u : List ℤ) → q ≡ keptAfter f i p t → u ≡ afterRow events places f i p t → Walked events f rows t₀ (i + 1) q (set places i p) u
-    walk-step q u a b = rw (a, b) (go (leZ f (cell t i 3)) refl)
+    pub walk-step : (e q : ℕ) (u v : List ℤ) → e ≡ natAbs (entryCell t i) → u ≡ after → q ≡ keptAfter f i p u → v ≡ afterRow events f i p e u → Walked events f rows t₀ (i + 1) q v
+    walk-step e q u v x y a b = rw (a, b, x, y) (go (leZ f (cell after i 3)) refl)
       where
-        go : (late : Bool) → leZ f (cell t i 3) ≡ late → Walked events f rows t₀ (i + 1) (cond late (p + 1) p) (set places i p) (cond late (putRow p (movedRow events places t i) t) t)
-        go true e = walk-late e
-        go false e = walk-early e
+        go : (late : Bool) → leZ f (cell after i 3) ≡ late → Walked events f rows t₀ (i + 1) (cond late (p + 1) p) (cond late (putRow p put after) after)
+        go true g = walk-late g
+        go false g = walk-early g
 
--- past the last row
-module _ (events : List Bool) (f : ℤ) (rows : ℕ) (t₀ : List ℤ) (i p : ℕ) (places : List ℕ) (t : List ℤ) (w : Walked events f rows t₀ i p places t) (h : rows ≤ i) where
-  all-done : doneRows events f (rowsIn rows t₀) i ≡ keptBy (eventIn events) f (rowsIn rows t₀)
-  unfolding keptBy
-  all-done = rw (take-all i (rowsIn rows t₀) (omega (arith, length-rows rows t₀)))
+  -- past the last row
+  module _ (first i p : ℕ) (t : List ℤ) (w : Walked events f rows t₀ i p t) (e : i ≡ rows) (few : first ≤ rows) (late : AllLate f first t₀) where
+    all-done : doneRows events f (rowsIn rows t₀) i ≡ keptBy (eventIn events) f (rowsIn rows t₀)
+    unfolding keptBy
+    all-done = rw (take-all i (rowsIn rows t₀) (omega (arith, length-rows rows t₀)))
 
-  pub walk-table : t ≡ putRows 0 (keptBy (eventIn events) f (rowsIn rows t₀)) t₀
-  walk-table = w .table ∙ ap (λ l. putRows 0 l t₀) all-done
-
-  pub walk-count : p ≡ length (keptBy (eventIn events) f (rowsIn rows t₀))
-  walk-count = w .count ∙ sym (length-done events f (rowsIn rows t₀) i) ∙ ap length all-done
+    pub walk-ends : Sifted (eventIn events) f first rows t₀ p t
+    walk-ends =
+        let rs = rowsIn rows t₀ in
+        let start = walk-holds first few late .count in
+        record {
+          most = omega (arith, w .count, placed-le (isLate f) rs i);
+          kept = w .done ∙ all-done;
+          rest = rw (← e) (w .behind);
+          ready = record {
+            low = omega (arith, w .count, placed-grows (isLate f) rs i first (omega arith), start);
+            few = omega (arith, w .count, placed-le (isLate f) rs i, ok .few);
+            fit = omega (arith, w .count, placed-le (isLate f) rs i, ok .fit, w .size);
+            above = λ j l. w .above j (omega (arith, w .count, placed-le (isLate f) rs i));
+            plain = λ j l. omega (arith, w .shift j (omega arith), placed-still (isLate f) rs first j (omega arith) (sym start));
+          };
+        }

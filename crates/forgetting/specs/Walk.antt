@@ -1,12 +1,12 @@
 -- The walk over the rows that forgetting is: one row, the rows kept, and what the walk asks of a table. Only contracts of inner functions
--- cite this file.
-use Prim.Native.Nat.{ℕ, _*_, _+_, _≤_, _<_}
+-- cite this file. During the walk the entry column of row j holds an entry and, 32 times, how far the row that stood there at first moves.
+use Prim.Native.Nat.{ℕ, _*_, _+_, _-_, _/_, _%_, _≤_, _<_}
 use mathlib.Core.Path.{_≡_}
 use mathlib.Core.Bool.{Bool, true, false, cond}
 use mathlib.Core.List.{List, map}
 use lib.IntN.{ℤ, pos, natAbs}
-use lib.ListN.{length, getD}
-use lib.Signed.{leZ}
+use lib.ListN.{length, getD, set, drop}
+use lib.Signed.{ltZ, leZ}
 use Rattle.chart.specs.declared.Chart.{Chart}
 use Rattle.model.specs.Lists.{keep}
 use Rattle.model.specs.Order.{Row, row}
@@ -15,28 +15,46 @@ use Rattle.table.specs.Table.{cell, tableRow, rowsIn, putRow, putRows}
 use Rattle.table.specs.Operators.{operatorsOf}
 use Rattle.table.specs.Ready.{Refers}
 
--- whether entry n is an event's, and where row j went, as the walk has them in arrays
+-- whether entry n is an event's, as the walk has it in an array
 abbrev pub eventIn : List Bool → ℕ → Bool
 eventIn events n = getD events n false
-
-abbrev pub placeIn : List ℕ → ℕ → ℕ
-placeIn places j = getD places j 0
 
 -- the flags of a chart's entries
 abbrev pub FlagsOf : Chart → List Bool → Type 0
 FlagsOf chart events = (n : ℕ) → eventIn events n ≡ isEventAt (operatorsOf chart) n
 
+-- the entry column of row j, and how far the row moves that stood there at first, and where to
+abbrev pub entryCell : List ℤ → ℕ → ℤ
+entryCell t j = getD t (j * 5) (pos 0)
+
+abbrev pub shiftAt : List ℤ → ℕ → ℕ
+shiftAt t j = natAbs (entryCell t j) / 32
+
+abbrev pub placeAt : List ℤ → ℕ → ℕ
+placeAt t j = j - shiftAt t j
+
+-- a row without the mark, and the first n rows so
+abbrev pub plain : Row → Row
+plain r = row (r .entry % 32) (r .left) (r .right) (r .start) (r .end)
+
+abbrev pub plainRows : ℕ → List ℤ → List Row
+plainRows n t = map plain (rowsIn n t)
+
+-- the table with the mark of row i, where p rows are kept before it
+abbrev pub marked : ℕ → ℕ → List ℤ → List ℤ
+marked i p t = set t (i * 5) (pos (natAbs (entryCell t i) + (i - p) * 32))
+
 -- a row with its references renumbered by g; the left number of an event's row is a serial
 abbrev pub withReferences : Bool → (ℕ → ℕ) → Row → Row
 withReferences event g r = cond event r (row (r .entry) (renumber g (r .left)) (renumber g (r .right)) (r .start) (r .end))
 
--- row i as it is written at its new place
-abbrev pub movedRow : List Bool → List ℕ → List ℤ → ℕ → Row
-movedRow events places t i = withReferences (eventIn events (natAbs (cell t i 0))) (placeIn places) (tableRow t i)
+-- row i, of entry e, as it is written at place p, which keeps its mark
+abbrev pub movedRow : List Bool → ℕ → ℕ → ℕ → List ℤ → Row
+movedRow events i p e t = withReferences (eventIn events e) (placeAt t) (row (e + shiftAt t p * 32) (cell t i 1) (cell t i 2) (cell t i 3) (cell t i 4))
 
 -- the table after row i, where p rows are kept before it
-abbrev pub afterRow : List Bool → List ℕ → ℤ → ℕ → ℕ → List ℤ → List ℤ
-afterRow events places floor i p t = cond (leZ floor (cell t i 3)) (putRow p (movedRow events places t i) t) t
+abbrev pub afterRow : List Bool → ℤ → ℕ → ℕ → ℕ → List ℤ → List ℤ
+afterRow events floor i p e t = cond (leZ floor (cell t i 3)) (putRow p (movedRow events i p e t) t) t
 
 abbrev pub keptAfter : ℤ → ℕ → ℕ → List ℤ → ℕ
 keptAfter floor i p t = cond (leZ floor (cell t i 3)) (p + 1) p
@@ -44,10 +62,6 @@ keptAfter floor i p t = cond (leZ floor (cell t i 3)) (p + 1) p
 -- the rows kept, entries being told by a test
 unfoldable pub keptBy : (ℕ → Bool) → ℤ → List Row → List Row
 keptBy event floor rs = map (λ r. withReferences (event (r .entry)) (moved floor rs) r) (keep (isLate floor) rs)
-
--- n rows are kept of the first rows of the table t, and u is the table with them
-abbrev pub Kept : (ℕ → Bool) → ℤ → ℕ → List ℤ → ℕ → List ℤ → Type 0
-Kept event floor rows t n u = (n ≡ length (keptBy event floor (rowsIn rows t))) × (u ≡ putRows 0 (keptBy event floor (rowsIn rows t)) t)
 
 -- row i has an entry of a chart, and references to lower rows or none
 pub record RowReady (event : ℕ → Bool) (i : ℕ) (t : List ℤ) : Type 0 where
@@ -62,11 +76,46 @@ pub record RowsReady (event : ℕ → Bool) (rows : ℕ) (t : List ℤ) : Type 0
   pub fit : rows * 5 ≤ length t
   pub each : (i : ℕ) → i < rows → RowReady event i t
 
--- what moving row i to place p asks: the places of the lower rows are there, and where row i stays so do they
-pub record Movable (events : List Bool) (places : List ℕ) (i p : ℕ) (t : List ℤ) : Type 0 where
+-- the first n rows start at the floor or later
+abbrev pub AllLate : ℤ → ℕ → List ℤ → Type 0
+AllLate floor n t = (j : ℕ) → j < n → leZ floor (cell t j 3) ≡ true
+
+-- what marking row i asks
+pub record Markable (i p : ℕ) (t : List ℤ) : Type 0 where
   pub few : i < 65535
   pub fit : i * 5 + 5 ≤ length t
   pub lower : p ≤ i
-  pub lent : i ≤ length places
-  pub ready : RowReady (eventIn events) i t
-  pub still : p ≡ i → (j : ℕ) → j < i → placeIn places j ≡ j
+  pub above : leZ (pos 0) (entryCell t i) ≡ true
+  pub below : natAbs (entryCell t i) < 32
+
+-- row j has its mark
+pub record HasMark (t : List ℤ) (j : ℕ) : Type 0 where
+  pub few : j < 65535
+  pub fit : j * 5 + 5 ≤ length t
+  pub above : leZ (pos 0) (entryCell t j) ≡ true
+  pub lower : shiftAt t j ≤ j
+
+-- what moving row i, of entry e, to place p asks
+pub record Movable (events : List Bool) (i p e : ℕ) (t : List ℤ) : Type 0 where
+  pub few : i < 65535
+  pub fit : i * 5 + 5 ≤ length t
+  pub lower : p ≤ i
+  pub small : e < 32
+  pub left : eventIn events e ≡ false → Refers i (cell t i 1)
+  pub right : Refers i (cell t i 2)
+  pub marks : (j : ℕ) → j < i + 1 → HasMark t j
+
+-- what taking the marks off the rows from first to before n asks: the rows before have none
+pub record Restorable (first n : ℕ) (t : List ℤ) : Type 0 where
+  pub low : first ≤ n
+  pub few : n ≤ 65535
+  pub fit : n * 5 ≤ length t
+  pub above : (j : ℕ) → j < n → leZ (pos 0) (entryCell t j) ≡ true
+  pub plain : (j : ℕ) → j < first → natAbs (entryCell t j) < 32
+
+-- n rows are kept of the first rows of the table t, and u is the table with them, still marked
+pub record Sifted (event : ℕ → Bool) (floor : ℤ) (first rows : ℕ) (t : List ℤ) (n : ℕ) (u : List ℤ) : Type 0 where
+  pub most : n ≤ rows
+  pub kept : plainRows n u ≡ keptBy event floor (rowsIn rows t)
+  pub rest : drop (rows * 5) u ≡ drop (rows * 5) t
+  pub ready : Restorable first n u

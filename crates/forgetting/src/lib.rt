@@ -1,30 +1,33 @@
 // Forgetting on the caller's table, and how many rows end before an instant. Inner functions of the watch: each asks what its callers have shown.
 ghost use mathlib.Core.Path.{_≡_};
 ghost use mathlib.Core.Bool.{true, false};
-ghost use Prim.Native.Nat.{_*_, _≤_};
-ghost use lib.IntN.{pos};
+ghost use Prim.Native.Nat.{_+_, _*_, _≤_, _<_};
+ghost use lib.IntN.{pos, natAbs};
 ghost use lib.ListN.{length};
+ghost use lib.Signed.{ltZ};
 ghost use Rattle.chart.specs.Charts.{isUsable};
 ghost use Rattle.model.specs.RowSteps.{renumber, isEvent};
-ghost use Rattle.table.specs.Table.{putRow};
+ghost use Rattle.table.specs.Table.{cell, putRow, putRows};
 ghost use Rattle.table.specs.Operators.{entryOperator};
-ghost use Rattle.table.specs.Ready.{Ready, Refers};
+ghost use Rattle.table.specs.Ready.{Ready};
 ghost use Rattle.forgetting.specs.Forgetting.{keptRows, forgottenTable};
-ghost use Rattle.forgetting.specs.Walk.{eventIn, placeIn, FlagsOf, movedRow, afterRow, keptAfter, Kept, RowsReady, Movable};
+ghost use Rattle.forgetting.specs.Walk.{eventIn, FlagsOf, entryCell, shiftAt, placeAt, plainRows, marked, movedRow, afterRow, keptAfter, RowsReady, AllLate, Markable, HasMark, Movable, Restorable, Sifted};
 ghost use Rattle.forgetting.specs.Ends.{Ordered, endsBefore, countEnding, endingBefore, endingBy};
 use chart::Chart;
 use chart::Entry;
 use chart::operator::Kind;
 
 // Keeps the rows that start at the floor or later, in their order, with their references renumbered; zeros follow. Returns how many are
-// kept. One walk over the rows; those before the first dropped row are only read. 2, 16 or 131 kB of stack for up to 1,024, 8,192 or
-// 65,535 rows.
+// kept. The rows before the first dropped one are only read; then one walk over the rows, in which each row's new place is kept in its
+// entry column, and one over those kept, which takes it out again.
 pub fn forget(chart: Chart, table: &mut [i32], rows: usize, floor: i32) -> usize
     requires { ⌜ Ready chart rows (now table) ⌝ }
     ensures { λ r. ⌜ (r ≡ length (keptRows chart floor rows (now (table .entry)))) × (now (table .exit) ≡ forgottenTable chart floor rows (now (table .entry))) ⌝ }
 {
     let events = event_entries(chart);
-    let kept = keep_late(events, table, rows, floor);
+    let first = first_early(table, rows, floor);
+    let kept = keep_rows(events, table, first, rows, floor);
+    restore(table, first, kept);
     table::zero_part(table, kept * 5, rows * 5);
     kept
 }
@@ -60,131 +63,131 @@ fn is_event(e: Entry) -> bool
     }
 }
 
-// Moves the rows that are kept, with places for as many rows as there may be: three sizes, since setting 65,535 of them to 0 would cost
-// more than the walk over a small table. Linear in the rows.
-fn keep_late(events: [bool; 32], table: &mut [i32], rows: usize, floor: i32) -> usize
-    requires { ⌜ RowsReady (eventIn events) rows (now table) ⌝ }
-    ensures { λ r. ⌜ Kept (eventIn events) floor rows (now (table .entry)) r (now (table .exit)) ⌝ }
+// The first row that starts before the floor, or how many rows there are. One look at each row before it.
+fn first_early(table: &[i32], rows: usize, floor: i32) -> usize
+    requires { ⌜ (rows ≤ 65535) × (rows * 5 ≤ length (now table)) ⌝ }
+    ensures { λ r. ⌜ (r ≤ rows) × AllLate floor r (now (table .entry)) ⌝ }
 {
-    if rows <= 1024 {
-        return with_1024_places(events, table, rows, floor);
-    }
-    if rows <= 8192 {
-        return with_8192_places(events, table, rows, floor);
-    }
-    with_65535_places(events, table, rows, floor)
-}
-
-// The walk with places for 1,024 rows: they are set to 0, then one look at each row.
-fn with_1024_places(events: [bool; 32], table: &mut [i32], rows: usize, floor: i32) -> usize
-    requires { ⌜ RowsReady (eventIn events) rows (now table) × (rows ≤ 1024) ⌝ }
-    ensures { λ r. ⌜ Kept (eventIn events) floor rows (now (table .entry)) r (now (table .exit)) ⌝ }
-{
-    let mut places = [0u16; 1024];
-    keep_rows(events, table, rows, floor, &mut places)
-}
-
-// The walk with places for 8,192 rows: they are set to 0, then one look at each row.
-fn with_8192_places(events: [bool; 32], table: &mut [i32], rows: usize, floor: i32) -> usize
-    requires { ⌜ RowsReady (eventIn events) rows (now table) × (rows ≤ 8192) ⌝ }
-    ensures { λ r. ⌜ Kept (eventIn events) floor rows (now (table .entry)) r (now (table .exit)) ⌝ }
-{
-    let mut places = [0u16; 8192];
-    keep_rows(events, table, rows, floor, &mut places)
-}
-
-// The walk with places for 65,535 rows: they are set to 0, then one look at each row.
-fn with_65535_places(events: [bool; 32], table: &mut [i32], rows: usize, floor: i32) -> usize
-    requires { ⌜ RowsReady (eventIn events) rows (now table) × (rows ≤ 65535) ⌝ }
-    ensures { λ r. ⌜ Kept (eventIn events) floor rows (now (table .entry)) r (now (table .exit)) ⌝ }
-{
-    let mut places = [0u16; 65535];
-    keep_rows(events, table, rows, floor, &mut places)
-}
-
-// The walk: a row's place is how many rows are kept before it, and is remembered for the references to it. One look at each row.
-fn keep_rows(
-    events: [bool; 32],
-    table: &mut [i32],
-    rows: usize,
-    floor: i32,
-    places: &mut [u16],
-) -> usize
-    requires { ⌜ RowsReady (eventIn events) rows (now table) × (rows ≤ length (now places)) ⌝ }
-    ensures { λ r. ⌜ Kept (eventIn events) floor rows (now (table .entry)) r (now (table .exit)) ⌝ }
-{
-    let mut p: usize = 0;
     let mut i: usize = 0;
     while i < rows {
-        let next = keep_row(events, table, i, p, floor, places);
-        places[i] = p as u16;
-        p = next;
+        if is_early(table, i, floor) {
+            return i;
+        }
+        i += 1;
+    }
+    i
+}
+
+// Whether row i starts before the floor. Constant cost.
+fn is_early(table: &[i32], i: usize, floor: i32) -> bool
+    requires { ⌜ (i < 65535) × (i * 5 + 5 ≤ length (now table)) ⌝ }
+    ensures { λ r. ⌜ r ≡ ltZ (cell (now (table .entry)) i 3) floor ⌝ }
+{
+    let start = table[i * 5 + 3];
+    interval::is_before(start, floor)
+}
+
+// The walk: a row's place is how many rows are kept before it. Every row passed is marked with how far it moves, for the references to
+// it. One look at each row from the first on.
+fn keep_rows(events: [bool; 32], table: &mut [i32], first: usize, rows: usize, floor: i32) -> usize
+    requires { ⌜ RowsReady (eventIn events) rows (now table) × (first ≤ rows) × AllLate floor first (now table) ⌝ }
+    ensures { λ r. ⌜ Sifted (eventIn events) floor first rows (now (table .entry)) r (now (table .exit)) ⌝ }
+{
+    let mut p = first;
+    let mut i = first;
+    while i < rows {
+        let entry = mark_row(table, i, p);
+        p = keep_row(events, table, i, p, entry, floor);
         i += 1;
     }
     p
 }
 
-// Keeps or drops row i, with p rows kept before it; returns how many are kept then. A row that keeps its number is left as it is: so do
-// all rows before it, so no reference changes. Constant cost.
+// Marks row i, with p rows kept before it; returns its entry. Constant cost.
+fn mark_row(table: &mut [i32], i: usize, p: usize) -> usize
+    requires { ⌜ Markable i p (now table) ⌝ }
+    ensures { λ r. ⌜ (r ≡ natAbs (entryCell (now (table .entry)) i)) × (now (table .exit) ≡ marked i p (now (table .entry))) ⌝ }
+{
+    let at = i * 5;
+    let entry = table[at] as usize;
+    table[at] = (entry + (i - p) * 32) as i32;
+    entry
+}
+
+// Keeps or drops row i, of this entry, with p rows kept before it; returns how many are kept then. Constant cost.
 fn keep_row(
     events: [bool; 32],
     table: &mut [i32],
     i: usize,
     p: usize,
+    entry: usize,
     floor: i32,
-    places: &[u16],
 ) -> usize
-    requires { ⌜ Movable events (now places) i p (now table) ⌝ }
-    ensures { λ r. ⌜ (r ≡ keptAfter floor i p (now (table .entry))) × (now (table .exit) ≡ afterRow events (now (places .entry)) floor i p (now (table .entry))) ⌝ }
+    requires { ⌜ Movable events i p entry (now table) ⌝ }
+    ensures { λ r. ⌜ (r ≡ keptAfter floor i p (now (table .entry))) × (now (table .exit) ≡ afterRow events floor i p entry (now (table .entry))) ⌝ }
 {
-    let start = table[i * 5 + 3];
-    if start < floor {
+    if is_early(table, i, floor) {
         return p;
     }
-    if p == i {
-        return p + 1;
-    }
-    move_row(events, table, i, p, places);
+    move_row(events, table, i, p, entry);
     p + 1
 }
 
-// Writes row i, with its references renumbered, at place p. The left number of an event's row is a serial and stays. Constant cost.
-fn move_row(events: [bool; 32], table: &mut [i32], i: usize, p: usize, places: &[u16])
-    requires { ⌜ Movable events (now places) i p (now table) ⌝ }
-    ensures { λ _. ⌜ now (table .exit) ≡ putRow p (movedRow events (now (places .entry)) (now (table .entry)) i) (now (table .entry)) ⌝ }
+// Writes row i, with its references renumbered, at place p, which keeps its mark. The left number of an event's row is a serial and
+// stays. Constant cost.
+fn move_row(events: [bool; 32], table: &mut [i32], i: usize, p: usize, entry: usize)
+    requires { ⌜ Movable events i p entry (now table) ⌝ }
+    ensures { λ _. ⌜ now (table .exit) ≡ putRow p (movedRow events i p entry (now (table .entry))) (now (table .entry)) ⌝ }
 {
     let at = i * 5;
-    let entry = table[at] as usize;
     let left = table[at + 1];
     let right = table[at + 2];
     let start = table[at + 3];
     let end = table[at + 4];
+    let e = entry + shift_at(table, p) * 32;
     if events[entry] {
-        table::put_row(table, p, entry, left, right, start, end);
+        table::put_row(table, p, e, left, right, start, end);
         return;
     }
-    let a = place_of(left, places);
-    let b = place_of(right, places);
-    table::put_row(table, p, entry, a, b, start, end);
+    let a = place_of(left, table);
+    let b = place_of(right, table);
+    table::put_row(table, p, e, a, b, start, end);
 }
 
 // Where a reference goes; -1 stays. Constant cost.
-fn place_of(z: i32, places: &[u16]) -> i32
-    requires { ⌜ Refers (length (now places)) z ⌝ }
-    ensures { λ r. ⌜ r ≡ renumber (placeIn (now (places .entry))) z ⌝ }
+fn place_of(z: i32, table: &[i32]) -> i32
+    requires { ⌜ (ltZ z (pos 0) ≡ false → HasMark (now table) (natAbs z)) ⌝ }
+    ensures { λ r. ⌜ r ≡ renumber (placeAt (now (table .entry))) z ⌝ }
 {
     if z < 0 {
         return z;
     }
     let j = z as usize;
-    wide(places[j])
+    let shift = shift_at(table, j);
+    (j - shift) as i32
 }
 
-// A place as a reference. Constant cost.
-fn wide(x: u16) -> i32
-    ensures { λ r. ⌜ r ≡ pos x ⌝ }
+// How far row j moves, by its mark. Constant cost.
+fn shift_at(table: &[i32], j: usize) -> usize
+    requires { ⌜ HasMark (now table) j ⌝ }
+    ensures { λ r. ⌜ r ≡ shiftAt (now (table .entry)) j ⌝ }
 {
-    x as i32
+    let mark = table[j * 5] as usize;
+    mark / 32
+}
+
+// Takes the marks off the rows from the first to before row n. One look at each of them.
+fn restore(table: &mut [i32], first: usize, n: usize)
+    requires { ⌜ Restorable first n (now table) ⌝ }
+    ensures { λ _. ⌜ now (table .exit) ≡ putRows 0 (plainRows n (now (table .entry))) (now (table .entry)) ⌝ }
+{
+    let mut i = first;
+    while i < n {
+        let at = i * 5;
+        let mark = table[at] as usize;
+        table[at] = (mark % 32) as i32;
+        i += 1;
+    }
 }
 
 // How many of the rows end before e; they stand by end. Binary search: at most 16 of 65,535 rows are looked at.
@@ -208,9 +211,9 @@ fn ends_before(end: i32, e: i32, included: bool) -> bool
     ensures { λ r. ⌜ r ≡ endsBefore included e end ⌝ }
 {
     if included {
-        return end <= e;
+        return interval::is_no_later(end, e);
     }
-    end < e
+    interval::is_before(end, e)
 }
 
 // The search behind both: the rows below low pass, those from high on do not. A logarithm of the rows.

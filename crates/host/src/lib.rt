@@ -1,15 +1,24 @@
 // The C interface: each call of the watch, the chart reader, and the listing of a whole input, under the name and the layout that include/chronicle.h declares.
 // A call has the contract of the call that it makes. Costs are those of that call.
 ghost use mathlib.Core.Path.{_≡_};
-ghost use Rattle.chart.specs.Charts.{readChart};
+ghost use Rattle.chart.specs.Charts.{readChart, verdictOf};
 ghost use Rattle.program.specs.Statements.{listedLength, listedTable, listedOutput};
 ghost use Rattle.watch.specs.Steps.{openingStep, checkNumber, eventStep, clockStep, forgetStep, endRows, treeStep};
 use chart::Chart;
 use chart::ChartAnswer;
+use chart::Verdict;
 use watch::Answer;
 use watch::Part;
 use watch::TreeAnswer;
 use watch::Watch;
+
+// Checks a chart on paper: refusal and line, both 0 for a chart taken. Linear in the bytes of the first 33 lines.
+#[no_mangle]
+pub extern "C" fn chronicle_check_chart(bytes: &[u8]) -> Verdict
+    ensures { λ r. ⌜ r ≡ verdictOf (readChart (now (bytes .entry))) ⌝ }
+{
+    chart::check(bytes)
+}
 
 // Reads a chart on paper. Linear in the bytes of the first 33 lines.
 #[no_mangle]

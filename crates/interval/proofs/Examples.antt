@@ -1,12 +1,14 @@
--- Each condition at its boundaries, computed by the checker: which of fifteen intervals s are related to r, or forbid it, and which
--- lengths a length test takes. What must come out was found by hand from document 01. No law and no contract says as much, since the code
--- and its contract share the conditions.
+-- Each condition at its boundaries, computed by the checker: which of fifteen intervals s are related to r, or forbid it, which lengths a
+-- length test takes, and which instants, lengths, clock marks and forgets are taken. What must come out was found by hand from document 01.
+-- No law and no contract says as much, since the code and its contract share the conditions.
 use Prim.Native.Nat.{ℕ}
 use mathlib.Core.Path.{_≡_, refl}
-use mathlib.Core.Bool.{Bool, cond}
-use mathlib.Core.List.{List, [], _∷_, map}
+use mathlib.Core.Bool.{Bool, true, false, cond, not, _&&_}
+use mathlib.Core.List.{List, [], _∷_, _++_, map}
 use lib.IntN.{ℤ, pos, negsuc}
-use Rattle.interval.specs.Conditions.{isRelated, isForbidding, hasLength}
+use lib.Signed.{ltZ}
+use Rattle.interval.specs.Instants.{isInstant, isLength, firstFloor, isMarkRefused, isForgetRefused, least, greatest}
+use Rattle.interval.specs.Conditions.{isRelated, leftMayEndEarlier, rightMayEndEarlier, isForbidding, hasLength}
 use Rattle.interval.specs.declared.Relation.{Relation}
 use Rattle.interval.specs.declared.Relation.the-variants.{Seq, And, Meets, Overlaps, Starts, During, Finishes, Equals}
 use Rattle.interval.specs.declared.Edges.{Edges}
@@ -18,14 +20,17 @@ record Interval : Type 0 where
   start : ℤ
   end : ℤ
 
-abbrev keep : (Interval → Bool) → List Interval → List Interval
+abbrev keep : {A : Type 0} → (A → Bool) → List A → List A
 keep p [] = []
 keep p (s ∷ ss) = cond (p s) (s ∷ keep p ss) (keep p ss)
+
+abbrev some : {A : Type 0} → (A → Bool) → List A → Bool
+some p [] = false
+some p (s ∷ ss) = cond (p s) true (some p ss)
 
 abbrev from-to : ℤ → ℤ → Interval
 from-to a b = record { start = a; end = b }
 
--- r is from -1 to 1
 abbrev minus2 : ℤ
 minus2 = negsuc 1
 
@@ -45,10 +50,20 @@ two = pos 2
 abbrev intervals : List Interval
 intervals = from-to minus2 minus2 ∷ from-to minus2 minus1 ∷ from-to minus2 zero ∷ from-to minus2 one ∷ from-to minus2 two ∷ from-to minus1 minus1 ∷ from-to minus1 zero ∷ from-to minus1 one ∷ from-to minus1 two ∷ from-to zero zero ∷ from-to zero one ∷ from-to zero two ∷ from-to one one ∷ from-to one two ∷ from-to two two ∷ []
 
-abbrev relatedTo : Relation → List Interval
-relatedTo relation = keep (λ s. isRelated relation minus1 one (s .start) (s .end)) intervals
+-- r is an interval with a length, and one of length 0
+abbrev long : Interval
+long = from-to minus1 one
 
-relations : map relatedTo (Seq ∷ And ∷ Meets ∷ Overlaps ∷ Starts ∷ During ∷ Finishes ∷ Equals ∷ []) ≡
+abbrev point : Interval
+point = from-to zero zero
+
+abbrev relatedTo : Interval → Relation → List Interval
+relatedTo r relation = keep (λ s. isRelated relation (r .start) (r .end) (s .start) (s .end)) intervals
+
+abbrev allRelations : List Relation
+allRelations = Seq ∷ And ∷ Meets ∷ Overlaps ∷ Starts ∷ During ∷ Finishes ∷ Equals ∷ []
+
+relations : map (relatedTo long) allRelations ≡
     (from-to two two ∷ []) ∷
     intervals ∷
     (from-to one one ∷ from-to one two ∷ []) ∷
@@ -60,10 +75,34 @@ relations : map relatedTo (Seq ∷ And ∷ Meets ∷ Overlaps ∷ Starts ∷ Dur
 unfolding isRelated
 relations = refl
 
-abbrev forbidding : Edges → List Interval
-forbidding edges = keep (λ s. isForbidding edges minus1 one (s .start) (s .end)) intervals
+point-relations : map (relatedTo point) allRelations ≡
+    (from-to one one ∷ from-to one two ∷ from-to two two ∷ []) ∷
+    intervals ∷
+    (from-to zero zero ∷ from-to zero one ∷ from-to zero two ∷ []) ∷
+    [] ∷
+    (from-to zero one ∷ from-to zero two ∷ []) ∷
+    (from-to minus2 one ∷ from-to minus2 two ∷ from-to minus1 one ∷ from-to minus1 two ∷ []) ∷
+    (from-to minus2 zero ∷ from-to minus1 zero ∷ []) ∷
+    (from-to zero zero ∷ []) ∷ []
+unfolding isRelated
+point-relations = refl
 
-absences : map forbidding (ClosedClosed ∷ OpenOpen ∷ ClosedOpen ∷ OpenClosed ∷ []) ≡
+-- an operand may end earlier just where two of the intervals are related and it does
+abbrev someRelated : (Interval → Interval → Bool) → Relation → Bool
+someRelated p c = some (λ r. some (λ s. isRelated c (r .start) (r .end) (s .start) (s .end) && p r s) intervals) intervals
+
+left-earlier : map leftMayEndEarlier allRelations ≡ map (someRelated (λ r s. ltZ (r .end) (s .end))) allRelations
+unfolding isRelated leftMayEndEarlier
+left-earlier = refl
+
+right-earlier : map rightMayEndEarlier allRelations ≡ map (someRelated (λ r s. ltZ (s .end) (r .end))) allRelations
+unfolding isRelated rightMayEndEarlier
+right-earlier = refl
+
+abbrev forbidding : Interval → Edges → List Interval
+forbidding r edges = keep (λ s. isForbidding edges (r .start) (r .end) (s .start) (s .end)) intervals
+
+absences : map (forbidding long) (ClosedClosed ∷ OpenOpen ∷ ClosedOpen ∷ OpenClosed ∷ []) ≡
     (from-to minus1 minus1 ∷ from-to minus1 zero ∷ from-to minus1 one ∷ from-to zero zero ∷ from-to zero one ∷ from-to one one ∷ []) ∷
     (from-to zero zero ∷ []) ∷
     (from-to minus1 minus1 ∷ from-to minus1 zero ∷ from-to zero zero ∷ []) ∷
@@ -71,13 +110,71 @@ absences : map forbidding (ClosedClosed ∷ OpenOpen ∷ ClosedOpen ∷ OpenClos
 unfolding isForbidding
 absences = refl
 
--- 5, on lengths 4, 5 and 6
-abbrev lasting : LengthTest → List Interval
-lasting test = keep (λ s. hasLength test 5 (s .start) (s .end)) (from-to minus2 (pos 2) ∷ from-to minus2 (pos 3) ∷ from-to minus2 (pos 4) ∷ [])
+point-absences : map (forbidding point) (ClosedClosed ∷ OpenOpen ∷ ClosedOpen ∷ OpenClosed ∷ []) ≡ (from-to zero zero ∷ []) ∷ [] ∷ [] ∷ [] ∷ []
+unfolding isForbidding
+point-absences = refl
 
-lengths : map lasting (Lasts ∷ AtMost ∷ AtLeast ∷ []) ≡
+abbrev lasting : ℕ → List Interval → LengthTest → List Interval
+lasting d rs test = keep (λ r. hasLength test d (r .start) (r .end)) rs
+
+-- 5, on lengths 4, 5 and 6
+lengths : map (lasting 5 (from-to minus2 (pos 2) ∷ from-to minus2 (pos 3) ∷ from-to minus2 (pos 4) ∷ [])) (Lasts ∷ AtMost ∷ AtLeast ∷ []) ≡
     (from-to minus2 (pos 3) ∷ []) ∷
     (from-to minus2 (pos 2) ∷ []) ∷
     (from-to minus2 (pos 4) ∷ []) ∷ []
 unfolding hasLength
 lengths = refl
+
+-- 0, on lengths 0 and 1; and the greatest length, on one less and on itself
+abbrev longest : Interval
+longest = from-to (negsuc 999999999) (pos 1000000000)
+
+abbrev oneShorter : Interval
+oneShorter = from-to (negsuc 999999999) (pos 999999999)
+
+extreme-lengths : map (lasting 0 (point ∷ from-to zero one ∷ [])) (Lasts ∷ AtMost ∷ AtLeast ∷ []) ++ map (lasting 2000000000 (oneShorter ∷ longest ∷ [])) (Lasts ∷ AtMost ∷ AtLeast ∷ []) ≡
+    (point ∷ []) ∷ [] ∷ (from-to zero one ∷ []) ∷
+    (longest ∷ []) ∷ (oneShorter ∷ []) ∷ [] ∷ []
+unfolding hasLength
+extreme-lengths = refl
+
+-- "a signed whole number from -1,000,000,000 to 1,000,000,000"; "A length is 0 to 2,000,000,000."
+instants : map isInstant (negsuc 1000000000 ∷ negsuc 999999999 ∷ minus1 ∷ zero ∷ pos 1000000000 ∷ pos 1000000001 ∷ []) ≡ false ∷ true ∷ true ∷ true ∷ true ∷ false ∷ []
+unfolding isInstant
+instants = refl
+
+length-range : map isLength (0 ∷ 2000000000 ∷ 2000000001 ∷ []) ≡ true ∷ true ∷ false ∷ []
+unfolding isLength
+length-range = refl
+
+first : firstFloor ≡ negsuc 999999999
+unfolding firstFloor
+first = refl
+
+-- marks while -1 is open, and while the last instant is
+abbrev marksTaken : ℤ → List ℤ → List ℤ
+marksTaken opened xs = keep (λ x. not (isMarkRefused opened x)) xs
+
+marks : marksTaken minus1 (negsuc 1000000000 ∷ minus2 ∷ minus1 ∷ zero ∷ pos 1000000000 ∷ pos 1000000001 ∷ []) ≡ zero ∷ pos 1000000000 ∷ []
+unfolding isMarkRefused isInstant
+marks = refl
+
+marks-last : marksTaken (pos 1000000000) (pos 1000000000 ∷ pos 1000000001 ∷ []) ≡ []
+unfolding isMarkRefused isInstant
+marks-last = refl
+
+-- forgets with floor -1 and open instant 1, and where only the range refuses
+abbrev forgetsTaken : ℤ → ℤ → List ℤ → List ℤ
+forgetsTaken floor opened fs = keep (λ f. not (isForgetRefused floor opened f)) fs
+
+forgets : forgetsTaken minus1 one (minus2 ∷ minus1 ∷ zero ∷ one ∷ two ∷ []) ≡ minus1 ∷ zero ∷ one ∷ []
+unfolding isForgetRefused isInstant
+forgets = refl
+
+forgets-range : forgetsTaken (negsuc 1000000000) (pos 1000000001) (negsuc 1000000000 ∷ negsuc 999999999 ∷ pos 1000000000 ∷ pos 1000000001 ∷ []) ≡ negsuc 999999999 ∷ pos 1000000000 ∷ []
+unfolding isForgetRefused isInstant
+forgets-range = refl
+
+-- "the least start and the greatest end"
+spans : least minus1 one ∷ least one minus1 ∷ greatest minus1 one ∷ greatest one minus1 ∷ [] ≡ minus1 ∷ minus1 ∷ one ∷ one ∷ []
+spans = refl

@@ -4,16 +4,17 @@ use Prim.Native.Nat.{ℕ, _+_, _<_, _≤_}
 use native.Mathlib.Omega.{arith}
 use mathlib.Core.Path.{_≡_, refl, sym, _∙_}
 use mathlib.Core.Logic.{_⊎_, inl, inr}
-use mathlib.Core.Bool.{Bool, true, false, _&&_}
+use mathlib.Core.Bool.{Bool, true, false, not, _&&_, _||_, or-true}
+use borrow.Author.Tests.{leb-true, le-leb}
 use lib.IntN.{ℤ}
 use lib.Signed.{ltZ, leZ}
-use Rattle.interval.specs.Instants.{eqZ, least, greatest}
-use Rattle.interval.specs.Conditions.{isRelated, isForbidding}
+use Rattle.interval.specs.Instants.{isInstant, isLength, firstFloor, isMarkRefused, isForgetRefused, eqZ, least, greatest}
+use Rattle.interval.specs.Conditions.{isRelated, leftMayEndEarlier, rightMayEndEarlier, isForbidding}
 use Rattle.interval.specs.declared.Relation.{Relation}
 use Rattle.interval.specs.declared.Relation.the-variants.{Seq, And, Meets, Overlaps, Starts, During, Finishes, Equals}
 use Rattle.interval.specs.declared.Edges.{Edges}
 use Rattle.interval.specs.declared.Edges.the-variants.{ClosedClosed, OpenOpen, ClosedOpen, OpenClosed}
-use Rattle.interval.proofs.Signed.{_≤ᶻ_, _<ᶻ_, posPart, negPart, signed, and-first, and-second, antisym, least-is, greatest-is, lt-true, le-true, eq-true, eq-told, eq-fact}
+use Rattle.interval.proofs.Signed.{_≤ᶻ_, _<ᶻ_, posPart, negPart, signed, never, and-first, and-second, antisym, least-is, greatest-is, lt-true, lt-false, le-true, le-false, is-lt, not-lt, is-le, not-le, instant-told, is-instant, eq-true, eq-told, eq-fact}
 
 -- the order of instants
 pub lt-irrefl : (a : ℤ) → ltZ a a ≡ true → ⊥
@@ -27,6 +28,97 @@ le-trans a b c p q = omega (arith, signed)
 
 pub lt-total : (a b : ℤ) → ltZ a b ≡ false → ltZ b a ≡ false → a ≡ b
 lt-total a b p q = antisym a b (omega (arith, signed)) (omega (arith, signed))
+
+-- the lengths
+pub length-told : (d : ℕ) → isLength d ≡ true → d ≤ 2000000000
+unfolding isLength
+length-told d e = leb-true d 2000000000 e
+
+pub is-length : (d : ℕ) → d ≤ 2000000000 → isLength d ≡ true
+unfolding isLength
+is-length d h = le-leb d 2000000000 h
+
+-- the first floor is the least instant
+pub floor-instant : isInstant firstFloor ≡ true
+unfolding firstFloor
+floor-instant = is-instant firstFloor (omega arith)
+
+pub floor-least : (x : ℤ) → isInstant x ≡ true → firstFloor ≤ᶻ x
+unfolding firstFloor
+floor-least x e = omega (arith, instant-told x e)
+
+-- what a clock mark that is taken is, and one that is refused
+pub record MarkTaken (opened x : ℤ) : Type 0 where
+  pub inRange : isInstant x ≡ true
+  pub later : opened <ᶻ x
+
+module _ (opened x : ℤ) where
+  pub mark-taken : isMarkRefused opened x ≡ false → MarkTaken opened x
+  unfolding isMarkRefused
+  mark-taken e = go (isInstant x) refl e
+    where
+      go : (b : Bool) → isInstant x ≡ b → (not b || leZ x opened) ≡ false → MarkTaken opened x
+      go true i h = record { inRange = i; later = le-false x opened h }
+      go false i h = never (sym h)
+
+  pub mark-refused : isMarkRefused opened x ≡ true → (isInstant x ≡ false) ⊎ (x ≤ᶻ opened)
+  unfolding isMarkRefused
+  mark-refused e = go (isInstant x) refl e
+    where
+      go : (b : Bool) → isInstant x ≡ b → (not b || leZ x opened) ≡ true → (isInstant x ≡ false) ⊎ (x ≤ᶻ opened)
+      go true i h = inr (le-true x opened h)
+      go false i h = inl i
+
+  pub takes-mark : MarkTaken opened x → isMarkRefused opened x ≡ false
+  unfolding isMarkRefused
+  takes-mark h = rw (h .inRange) (not-le x opened (h .later))
+
+  pub refuses-mark : (isInstant x ≡ false) ⊎ (x ≤ᶻ opened) → isMarkRefused opened x ≡ true
+  unfolding isMarkRefused
+  refuses-mark (inl i) = rw i
+  refuses-mark (inr h) = rw (is-le x opened h) (or-true (not (isInstant x)))
+
+-- what a forget that is taken is, and one that is refused
+pub record ForgetTaken (floor opened f : ℤ) : Type 0 where
+  pub inRange : isInstant f ≡ true
+  pub above : floor ≤ᶻ f
+  pub below : f ≤ᶻ opened
+
+pub data ForgetRefused (floor opened f : ℤ) : Type 0 where
+  below-floor : f <ᶻ floor → ForgetRefused floor opened f
+  above-open : opened <ᶻ f → ForgetRefused floor opened f
+  out-of-range : isInstant f ≡ false → ForgetRefused floor opened f
+
+module _ (floor opened f : ℤ) where
+  pub forget-taken : isForgetRefused floor opened f ≡ false → ForgetTaken floor opened f
+  unfolding isForgetRefused
+  forget-taken e = go (ltZ f floor) refl (ltZ opened f) refl (isInstant f) refl e
+    where
+      go : (a : Bool) → ltZ f floor ≡ a → (b : Bool) → ltZ opened f ≡ b → (c : Bool) → isInstant f ≡ c → (a || (b || not c)) ≡ false → ForgetTaken floor opened f
+      go false p false q true i h = record { inRange = i; above = lt-false f floor p; below = lt-false opened f q }
+      go false p false q false i h = never (sym h)
+      go false p true q c i h = never (sym h)
+      go true p b q c i h = never (sym h)
+
+  pub forget-refused : isForgetRefused floor opened f ≡ true → ForgetRefused floor opened f
+  unfolding isForgetRefused
+  forget-refused e = go (ltZ f floor) refl (ltZ opened f) refl (isInstant f) refl e
+    where
+      go : (a : Bool) → ltZ f floor ≡ a → (b : Bool) → ltZ opened f ≡ b → (c : Bool) → isInstant f ≡ c → (a || (b || not c)) ≡ true → ForgetRefused floor opened f
+      go false p false q true i h = never h
+      go false p false q false i h = out-of-range i
+      go false p true q c i h = above-open (lt-true opened f q)
+      go true p b q c i h = below-floor (lt-true f floor p)
+
+  pub takes-forget : ForgetTaken floor opened f → isForgetRefused floor opened f ≡ false
+  unfolding isForgetRefused
+  takes-forget h = rw (not-lt f floor (h .above), not-lt opened f (h .below), h .inRange)
+
+  pub refuses-forget : ForgetRefused floor opened f → isForgetRefused floor opened f ≡ true
+  unfolding isForgetRefused
+  refuses-forget (below-floor h) = rw (is-lt f floor h)
+  refuses-forget (above-open h) = rw (is-lt opened f h) (or-true (ltZ f floor))
+  refuses-forget (out-of-range i) = rw (i, or-true (ltZ opened f)) (or-true (ltZ f floor))
 
 -- the whole of two intervals starts no later than it ends
 pub start-le-end : (rs re ss se : ℤ) → rs ≤ᶻ re → ss ≤ᶻ se → least rs ss ≤ᶻ greatest re se
@@ -82,6 +174,26 @@ related-ends Starts rs re ss se p q h = ends-second re se (omega (arith, lt-true
 related-ends During rs re ss se p q h = ends-second re se (omega (arith, lt-true re se (and-second (ltZ ss rs) (ltZ re se) h)))
 related-ends Finishes rs re ss se p q h = ends-both re se (eq-true re se (and-second (ltZ ss rs) (eqZ re se) h))
 related-ends Equals rs re ss se p q h = ends-both re se (eq-true re se (and-second (eqZ rs ss) (eqZ re se) h))
+
+-- which of two related intervals end where the whole does
+pub record EndsAt (c : Relation) (re se e : ℤ) : Type 0 where
+  pub left : leftMayEndEarlier c ≡ false → re ≡ e
+  pub right : rightMayEndEarlier c ≡ false → se ≡ e
+  pub one : (re ≡ e) ⊎ (se ≡ e)
+
+ends-at : (c : Relation) (re se e : ℤ) → Ends (endingOf c) re se e → EndsAt c re se e
+unfolding leftMayEndEarlier rightMayEndEarlier
+ends-at Seq re se e h = record { left = λ z. never (sym z); right = λ z. h; one = inr h }
+ends-at And re se e h = record { left = λ z. never (sym z); right = λ z. never (sym z); one = h }
+ends-at Meets re se e h = record { left = λ z. never (sym z); right = λ z. h; one = inr h }
+ends-at Overlaps re se e h = record { left = λ z. never (sym z); right = λ z. h; one = inr h }
+ends-at Starts re se e h = record { left = λ z. never (sym z); right = λ z. h; one = inr h }
+ends-at During re se e h = record { left = λ z. never (sym z); right = λ z. h; one = inr h }
+ends-at Finishes re se e h = record { left = λ z. h .0; right = λ z. h .1; one = inr (h .1) }
+ends-at Equals re se e h = record { left = λ z. h .0; right = λ z. h .1; one = inr (h .1) }
+
+pub related-ends-at : (c : Relation) (rs re ss se e : ℤ) → rs ≤ᶻ re → ss ≤ᶻ se → isRelated c rs re ss se ≡ true → greatest re se ≡ e → EndsAt c re se e
+related-ends-at c rs re ss se e p q h g = ends-at c re se e (rw g at (related-ends c rs re ss se p q h))
 
 -- a forbidding s starts no earlier and ends no later than r
 pub record Inside (rs re ss se : ℤ) : Type 0 where

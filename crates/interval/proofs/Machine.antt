@@ -10,8 +10,8 @@ use lib.Signed.{leZ, mag, nonNeg}
 use mir.Syntax.{Width, w32, w64}
 use mir.Val.{SFits, Fits, toZ, ofZ}
 use mir.ValLaws.{toZ-ofZ}
-use Rattle.interval.specs.Instants.{eqZ}
-use Rattle.interval.proofs.Signed.{posPart, negPart, never, eq-true, eq-false}
+use Rattle.interval.specs.Instants.{isInstant, eqZ}
+use Rattle.interval.proofs.Signed.{posPart, negPart, never, instant-told, eq-true, eq-false}
 
 -- a bound on the sum is one on both, since one of the two is 0
 fits32′ : (z : ℤ) → mag z < 2 ^ 31 → posPart z + negPart z ≤ 2 ^ 31
@@ -28,6 +28,10 @@ is-fit32 (negsuc n) h = record { sfits = omega arith }
 pub is-fit64 : (z : ℤ) → (posPart z < negPart z + 2 ^ 63) × (negPart z ≤ posPart z + 2 ^ 63) → SFits w64 z
 is-fit64 (pos n) h = record { sfits = omega arith }
 is-fit64 (negsuc n) h = record { sfits = omega arith }
+
+-- an instant is an i32
+pub instant-fits : (z : ℤ) → isInstant z ≡ true → SFits w32 z
+instant-fits z e = is-fit32 z (omega (arith, instant-told z e))
 
 pub same32 : (z : ℤ) → SFits w32 z → toZ w32 (ofZ w32 z) ≡ z
 same32 z f = toZ-ofZ w32 z f

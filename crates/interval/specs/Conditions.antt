@@ -1,6 +1,6 @@
 -- The conditions of document 01's operator table, a line for each operator. rs and re are the start and end of r, ss and se those of s.
 use Prim.Native.Nat.{ℕ}
-use mathlib.Core.Bool.{Bool, true, _&&_}
+use mathlib.Core.Bool.{Bool, true, false, _&&_}
 use lib.IntN.{ℤ, pos, _-ℤ_}
 use lib.Signed.{ltZ, leZ}
 use Rattle.interval.specs.Instants.{eqZ}
@@ -23,6 +23,28 @@ isRelated Starts rs re ss se = eqZ rs ss && ltZ re se
 isRelated During rs re ss se = ltZ ss rs && ltZ re se
 isRelated Finishes rs re ss se = ltZ ss rs && eqZ re se
 isRelated Equals rs re ss se = eqZ rs ss && eqZ re se
+
+-- Whether r, and whether s, may end before the whole of two related intervals, whose end is "the greatest end of the rows referred to":
+-- for seq, meets, overlaps, starts and during s ends last; for finishes and equals both do; for and either may
+unfoldable pub leftMayEndEarlier : Relation → Bool
+leftMayEndEarlier Seq = true
+leftMayEndEarlier And = true
+leftMayEndEarlier Meets = true
+leftMayEndEarlier Overlaps = true
+leftMayEndEarlier Starts = true
+leftMayEndEarlier During = true
+leftMayEndEarlier Finishes = false
+leftMayEndEarlier Equals = false
+
+unfoldable pub rightMayEndEarlier : Relation → Bool
+rightMayEndEarlier Seq = false
+rightMayEndEarlier And = true
+rightMayEndEarlier Meets = false
+rightMayEndEarlier Overlaps = false
+rightMayEndEarlier Starts = false
+rightMayEndEarlier During = false
+rightMayEndEarlier Finishes = false
+rightMayEndEarlier Equals = false
 
 -- "s forbids r when start r <= start s (early `[`) or start r < start s (early `]`), and end s <= end r (late `]`) or end s < end r (late `[`)."
 -- The edges are, in this order, -[] -][ -[[ -]]

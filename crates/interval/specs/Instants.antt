@@ -1,9 +1,9 @@
--- Instants, lengths, the least start and the greatest end. Document 01, "Instants, events, rows".
+-- Instants, lengths, which clock marks and forgets are refused, the least start and the greatest end. Document 01, "Instants, events, rows".
 use Prim.Native.Nat.{ℕ}
-use mathlib.Core.Bool.{Bool, false, cond, _&&_}
+use mathlib.Core.Bool.{Bool, false, cond, not, _&&_, _||_}
 use lib.Dec.{eqb, leb}
 use lib.IntN.{ℤ, pos, negsuc}
-use lib.Signed.{leZ}
+use lib.Signed.{ltZ, leZ}
 
 -- "An instant is a signed whole number from -1,000,000,000 to 1,000,000,000."
 unfoldable pub isInstant : ℤ → Bool
@@ -12,6 +12,18 @@ isInstant z = leZ (negsuc 999999999) z && leZ z (pos 1000000000)
 -- "A length is 0 to 2,000,000,000."
 unfoldable pub isLength : ℕ → Bool
 isLength d = leb d 2000000000
+
+-- "a floor (at first -1,000,000,000)"
+unfoldable pub firstFloor : ℤ
+firstFloor = negsuc 999999999
+
+-- "8 ... a clock mark out of range or not after the open instant"
+unfoldable pub isMarkRefused : ℤ → ℤ → Bool
+isMarkRefused opened x = not (isInstant x) || leZ x opened
+
+-- "11 a forget below the floor, above the open instant or out of range"
+unfoldable pub isForgetRefused : ℤ → ℤ → ℤ → Bool
+isForgetRefused floor opened f = ltZ f floor || (ltZ opened f || not (isInstant f))
 
 -- two whole numbers are equal
 abbrev pub eqZ : ℤ → ℤ → Bool

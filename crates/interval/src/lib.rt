@@ -1,9 +1,11 @@
-// Instants, lengths and the conditions on intervals. The lowest crate: every other crate goes by these contracts and by the laws
-// of `proofs/Laws.antt`, and looks at no inequality itself. Every function takes constant time and accepts every input.
+// Instants and lengths, which clock marks and forgets are refused, and the conditions on intervals. The lowest crate: every other crate
+// goes by these contracts and by the laws of `proofs/Laws.antt`, and looks at no inequality itself. Every function takes constant time and
+// accepts every input.
 ghost use mathlib.Core.Path.{_≡_};
 ghost use lib.IntN.{_-ℤ_};
-ghost use Rattle.interval.specs.Instants.{isInstant, isLength, least, greatest};
-ghost use Rattle.interval.specs.Conditions.{isRelated, isForbidding, hasLength};
+ghost use lib.Signed.{ltZ, leZ};
+ghost use Rattle.interval.specs.Instants.{isInstant, isLength, firstFloor, isMarkRefused, isForgetRefused, eqZ, least, greatest};
+ghost use Rattle.interval.specs.Conditions.{isRelated, leftMayEndEarlier, rightMayEndEarlier, isForbidding, hasLength};
 
 // The operators of two operands that ask a condition of both intervals.
 pub enum Relation {
@@ -39,11 +41,71 @@ pub fn is_instant(x: i32) -> bool
     -1000000000 <= x && x <= 1000000000
 }
 
-// Whether d is in the range of the lengths.
-pub fn is_length(d: u32) -> bool
+// The same of a number that was read and is not known to fit an i32.
+pub fn is_wide_instant(z: i64) -> bool
+    ensures { λ r. ⌜ r ≡ isInstant z ⌝ }
+{
+    -1000000000 <= z && z <= 1000000000
+}
+
+// Whether d is in the range of the lengths; as wide as numbers are read.
+pub fn is_length(d: u64) -> bool
     ensures { λ r. ⌜ r ≡ isLength d ⌝ }
 {
     d <= 2000000000
+}
+
+// The floor of a watch before any forget: the least instant.
+const FIRST_FLOOR: i32 = -1000000000;
+
+pub fn first_floor() -> i32
+    ensures { λ r. ⌜ r ≡ firstFloor ⌝ }
+{
+    FIRST_FLOOR
+}
+
+// Whether a is before b.
+pub fn is_before(a: i32, b: i32) -> bool
+    ensures { λ r. ⌜ r ≡ ltZ a b ⌝ }
+{
+    a < b
+}
+
+// Whether a is before b or b itself.
+pub fn is_no_later(a: i32, b: i32) -> bool
+    ensures { λ r. ⌜ r ≡ leZ a b ⌝ }
+{
+    a <= b
+}
+
+// Whether a and b are one instant.
+pub fn is_same(a: i32, b: i32) -> bool
+    ensures { λ r. ⌜ r ≡ eqZ a b ⌝ }
+{
+    a == b
+}
+
+// Whether a clock mark at x is refused while `opened` is the open instant: it is out of range or not after it.
+pub fn is_mark_refused(opened: i32, x: i32) -> bool
+    ensures { λ r. ⌜ r ≡ isMarkRefused opened x ⌝ }
+{
+    if !is_instant(x) {
+        return true;
+    }
+    x <= opened
+}
+
+// Whether a forget of what starts before f is refused: f is below the floor, above the open instant or out of range.
+pub fn is_forget_refused(floor: i32, opened: i32, f: i32) -> bool
+    ensures { λ r. ⌜ r ≡ isForgetRefused floor opened f ⌝ }
+{
+    if f < floor {
+        return true;
+    }
+    if opened < f {
+        return true;
+    }
+    !is_instant(f)
 }
 
 // The least of two starts.
@@ -92,6 +154,38 @@ fn overlaps(rs: i32, re: i32, ss: i32, se: i32) -> bool
         }
     }
     false
+}
+
+// Whether r may end before the whole of r and s does, where they meet the condition of c.
+pub fn left_may_end_earlier(c: Relation) -> bool
+    ensures { λ r. ⌜ r ≡ leftMayEndEarlier c ⌝ }
+{
+    match c {
+        Relation::Seq => true,
+        Relation::And => true,
+        Relation::Meets => true,
+        Relation::Overlaps => true,
+        Relation::Starts => true,
+        Relation::During => true,
+        Relation::Finishes => false,
+        Relation::Equals => false,
+    }
+}
+
+// Whether s may end before the whole of r and s does, where they meet the condition of c.
+pub fn right_may_end_earlier(c: Relation) -> bool
+    ensures { λ r. ⌜ r ≡ rightMayEndEarlier c ⌝ }
+{
+    match c {
+        Relation::Seq => false,
+        Relation::And => true,
+        Relation::Meets => false,
+        Relation::Overlaps => false,
+        Relation::Starts => false,
+        Relation::During => false,
+        Relation::Finishes => false,
+        Relation::Equals => false,
+    }
 }
 
 // Whether the interval s forbids the interval r under an absence with these edges.

@@ -1,30 +1,65 @@
--- The definition of specs/Log.antt at the edges of the form, computed.
+-- Log lines as text, without their byte 10, and the call that each asks for, computed. What must come out was found by hand from document 01.
+use Prim.Native.Nat.{ℕ}
 use mathlib.Core.Path.{_≡_, refl}
 use mathlib.Core.List.{List, [], _∷_, _++_, map}
-use Prim.Native.Nat.{ℕ}
 use lib.IntN.{pos, negsuc}
 use Rattle.text.specs.Text.{split}
+use Rattle.text.specs.Quoted.{bytes, tabbed, unended}
 use Rattle.decimal.specs.Spelling.{isDigit, allDigits, valueFrom, hasLeadingZero, isNumber, numberOf, withoutMinus, withMinus, instantOf}
 use Rattle.chart.specs.Operators.{sameBytes, placeOf}
 use Rattle.log.specs.declared.Call.{Call}
-use Rattle.log.specs.Log.{openWord, eventWord, clockWord, forgetWord, callWords, eventCall, instantCall, wordCall, fieldsCall, callOf}
+use Rattle.log.specs.declared.Call.the-variants.{Open, Event, Clock, Forget, Malformed}
+use Rattle.log.specs.Log.{callWords, eventCall, instantCall, wordCall, fieldsCall, callOf}
 
--- a word, a tab and what follows
-abbrev line : List ℕ → List ℕ → List ℕ
-line w t = w ++ (9 ∷ t)
+-- a line, and the call that it asks for
+record Case : Type 0 where
+  line : List ℕ
+  call : Call
 
--- "open -2", "event 255", "clock 9999999999", "forget 0"
-taken : map callOf (
-    line openWord (45 ∷ 50 ∷ []) ∷ line eventWord (50 ∷ 53 ∷ 53 ∷ []) ∷
-    line clockWord (57 ∷ 57 ∷ 57 ∷ 57 ∷ 57 ∷ 57 ∷ 57 ∷ 57 ∷ 57 ∷ 57 ∷ []) ∷ line forgetWord (48 ∷ []) ∷ [])
-    ≡ Call.Open (negsuc 1) ∷ Call.Event 255 ∷ Call.Clock (pos 9999999999) ∷ Call.Forget (pos 0) ∷ []
-unfolding split isDigit allDigits valueFrom hasLeadingZero isNumber numberOf withoutMinus withMinus instantOf sameBytes placeOf callWords eventCall instantCall wordCall fieldsCall callOf
-taken = refl
+infix 80 _⇒_
+abbrev _⇒_ : List ℕ → Call → Case
+l ⇒ c = record { line = l; call = c }
 
--- "event 256", "event -1", "event 01", "clock -0", "clock 1" with a tab behind it, "forget" with two tabs, "open", nothing, " open 1"
-malformed : map callOf (
-    line eventWord (50 ∷ 53 ∷ 54 ∷ []) ∷ line eventWord (45 ∷ 49 ∷ []) ∷ line eventWord (48 ∷ 49 ∷ []) ∷ line clockWord (45 ∷ 48 ∷ []) ∷
-    line clockWord (49 ∷ 9 ∷ []) ∷ line forgetWord (9 ∷ 49 ∷ []) ∷ openWord ∷ [] ∷ (32 ∷ line openWord (49 ∷ [])) ∷ [])
-    ≡ Call.Malformed ∷ Call.Malformed ∷ Call.Malformed ∷ Call.Malformed ∷ Call.Malformed ∷ Call.Malformed ∷ Call.Malformed ∷ Call.Malformed ∷ Call.Malformed ∷ []
-unfolding split isDigit allDigits valueFrom hasLeadingZero isNumber numberOf withoutMinus withMinus instantOf sameBytes placeOf callWords eventCall instantCall wordCall fieldsCall callOf
-malformed = refl
+-- "Log lines: `open` instant (first line only), `event` code, `clock` instant, `forget` instant".
+-- An instant out of range is refused by the call, with 8 or 11.
+abbrev taken : List Case
+taken =
+    unended "open -2" ⇒ Open (negsuc 1) ∷
+    unended "event 0" ⇒ Event 0 ∷
+    unended "event 255" ⇒ Event 255 ∷
+    unended "clock 9999999999" ⇒ Clock (pos 9999999999) ∷
+    unended "clock -9999999999" ⇒ Clock (negsuc 9999999998) ∷
+    unended "forget 0" ⇒ Forget (pos 0) ∷ []
+
+-- "7 a log line not of its form, a code above 255"
+abbrev malformed : List Case
+malformed =
+    -- code
+    unended "event 256" ⇒ Malformed ∷
+    unended "event -1" ⇒ Malformed ∷
+    unended "event 01" ⇒ Malformed ∷
+    -- instant: a minus before 0, two of them, a leading zero behind it, a plus, 11 digits
+    unended "clock -0" ⇒ Malformed ∷
+    unended "clock --1" ⇒ Malformed ∷
+    unended "clock -01" ⇒ Malformed ∷
+    unended "clock +1" ⇒ Malformed ∷
+    unended "clock 10000000000" ⇒ Malformed ∷
+    -- fields: a tab behind, in front, two of them, a space for a tab, one field too many, too few, none
+    unended "clock 1 " ⇒ Malformed ∷
+    unended " open 1" ⇒ Malformed ∷
+    unended "forget  1" ⇒ Malformed ∷
+    bytes "open 1" ⇒ Malformed ∷
+    unended "event 1 1" ⇒ Malformed ∷
+    unended "open" ⇒ Malformed ∷
+    unended "" ⇒ Malformed ∷
+    -- word: none, in capitals, with a letter too many
+    unended "close 1" ⇒ Malformed ∷
+    unended "Event 1" ⇒ Malformed ∷
+    unended "events 1" ⇒ Malformed ∷ []
+
+cases : List Case
+cases = taken ++ malformed
+
+examples : map (λ (c : Case). callOf (c .line)) cases ≡ map (λ (c : Case). c .call) cases
+unfolding cases bytes tabbed unended split isDigit allDigits valueFrom hasLeadingZero isNumber numberOf withoutMinus withMinus instantOf sameBytes placeOf callWords eventCall instantCall wordCall fieldsCall callOf
+examples = refl

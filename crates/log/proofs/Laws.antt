@@ -1,13 +1,13 @@
 -- Laws of a line of the log: what has a tab is no number, a text that starts with a word and its tab is that word's call, and any
 -- other is malformed.
-use Prim.Native.Nat.{ℕ, suc, _+_, _^_, _≤_, _<_}
+use Prim.Native.Nat.{ℕ, zero, suc, _+_, _^_, _≤_, _<_}
 use native.Mathlib.Omega.{arith}
 use native.Mathlib.Numerals.{add-one}
 use mathlib.Core.Path.{_≡_, refl, sym, ap, _∙_}
 use mathlib.Core.Bool.{Bool, true, false, cond, _&&_}
-use mathlib.Core.List.{List, [], _∷_, _++_}
-use borrow.Author.Tests.{eq-eqb, ne-eqb, eqb-true, eqb-false}
-use lib.Dec.{eqb}
+use mathlib.Core.List.{List, [], _∷_, _++_, append-assoc}
+use borrow.Author.Tests.{eq-eqb, ne-eqb, eqb-true, eqb-false, le-leb}
+use lib.Dec.{eqb, leb}
 use lib.IntN.{ℤ, pos, negsuc, natAbs}
 use lib.ListN.{length, getD, take, drop, drop-of-length-le}
 use lib.Seq.{drop-cons}
@@ -15,36 +15,30 @@ use mir.Syntax.{w64}
 use mir.Val.{SFits, toZ, ofZ}
 use mir.ValLaws.{toZ-ofZ}
 use Rattle.interval.proofs.Signed.{never, and-first, and-second}
-use Rattle.text.specs.Text.{indexOf, split, fields}
-use Rattle.text.proofs.Laws.{index-le, split-some}
+use Rattle.text.specs.Text.{indexOf, fields}
+use Rattle.text.proofs.Laws.{index-le, index-without, lacks, index-lacks, index-cut, split-some, split-word}
 use Rattle.decimal.specs.Spelling.{numberOf, instantOf, spelled}
 use Rattle.decimal.specs.declared.Number.{Number}
 use Rattle.decimal.specs.declared.Instant.{Instant}
-use Rattle.decimal.proofs.Laws.{number-one-spelling, instant-one-spelling, instant-below, spelled-byte-least}
+use Rattle.decimal.proofs.Laws.{number-one-spelling, instant-one-spelling, instant-below, spelled-plain, spelled-byte-least}
 use Rattle.chart.specs.Operators.{sameBytes, placeOf}
 use Rattle.chart.proofs.Records.{one-field, cut-field}
+use Rattle.chart.proofs.Words.{same-eq, same-not, same-lengths, place-hit, place-on, place-none}
+use Rattle.chart.proofs.Places.{same-self, place-le}
 use Rattle.log.specs.declared.Call.{Call}
-use Rattle.log.specs.Log.{openWord, eventWord, clockWord, forgetWord, callWords, eventCall, instantCall, wordCall, fieldsCall, callOf, startsWith}
+use Rattle.log.specs.Log.{openWord, eventWord, clockWord, forgetWord, callWords, eventCall, instantCall, wordCall, fieldsCall, callOf, startsWith, answerOf, takenLine, refusedLine, codeAnswer, instantAnswer, wordAnswer, fieldsAnswer, lineAnswer}
 
--- a text all of whose bytes are above x has no x
-no-byte : (x : ℕ) (s : List ℕ) → ((i : ℕ) → i < length s → x < getD s i 0) → indexOf x s ≡ length s
-unfolding indexOf
-no-byte x [] h = refl
-no-byte x (b ∷ s) h =
-    let above : x < b = h 0 (omega arith) in
-    rw (ne-eqb b x (λ e. omega arith)) (ap suc (no-byte x s (λ i k. h (suc i) (omega arith))))
-
+-- a number has no tab
 no-tab : (z : ℤ) → indexOf 9 (spelled z) ≡ length (spelled z)
-no-tab z = no-byte 9 (spelled z) (λ i k. omega (arith, spelled-byte-least z i k))
+no-tab z = index-without 9 (spelled z) (λ i k e. omega (arith, spelled-byte-least z i k, e))
 
 -- what has a tab is no number and no instant
 module _ (s : List ℕ) (tab : indexOf 9 s ≡ length s → ⊥) where
   pub number-tab : numberOf s ≡ Number.Malformed
-  unfolding spelled
   number-tab = go (numberOf s) refl
     where
       go : (r : Number) → numberOf s ≡ r → r ≡ Number.Malformed
-      go (Number.Value n) e = absurd (tab (rw (number-one-spelling s n e) (no-tab (pos n))))
+      go (Number.Value n) e = absurd (tab (rw (number-one-spelling s n e, ← spelled-plain (pos n) (le-leb 0 n (omega arith))) (no-tab (pos n))))
       go Number.Malformed e = refl
 
   pub instant-tab : instantOf s ≡ Instant.Malformed
@@ -129,49 +123,63 @@ starts-length (a ∷ p) (b ∷ s) e = omega (arith, starts-length p s (and-secon
 abbrev pub tabbed : List ℕ → List ℕ
 tabbed w = w ++ (9 ∷ [])
 
-module _ (t : List ℕ) where
-  opening-line : callOf (tabbed openWord ++ t) ≡ instantCall Call.Open (instantOf t)
-  unfolding callOf split callWords placeOf sameBytes wordCall
-  opening-line = behind-word openWord t
+-- the places of the words
+open-place : placeOf openWord callWords ≡ 0
+unfolding callWords
+open-place = place-hit openWord callWords 0 (omega arith) (same-self openWord)
 
-  event-line : callOf (tabbed eventWord ++ t) ≡ eventCall (numberOf t)
-  unfolding callOf split callWords placeOf sameBytes wordCall
-  event-line = behind-word eventWord t
+event-place : placeOf eventWord callWords ≡ 1
+unfolding callWords
+event-place = place-on eventWord callWords 0 (omega arith) (same-lengths eventWord openWord (λ e. omega (arith, e))) ∙ ap suc (place-hit eventWord callWords 1 (omega arith) (same-self eventWord))
 
-  clock-line : callOf (tabbed clockWord ++ t) ≡ instantCall Call.Clock (instantOf t)
-  unfolding callOf split callWords placeOf sameBytes wordCall
-  clock-line = behind-word clockWord t
+clock-place : placeOf clockWord callWords ≡ 2
+unfolding callWords
+clock-place =
+    place-on clockWord callWords 0 (omega arith) (same-lengths clockWord openWord (λ e. omega (arith, e)))
+    ∙ ap suc (place-on clockWord callWords 1 (omega arith) (same-not clockWord eventWord 0 (omega arith) (omega arith) (λ e. omega (arith, e)))
+    ∙ ap suc (place-hit clockWord callWords 2 (omega arith) (same-self clockWord)))
 
-  forget-line : callOf (tabbed forgetWord ++ t) ≡ instantCall Call.Forget (instantOf t)
-  unfolding callOf split callWords placeOf sameBytes wordCall
-  forget-line = behind-word forgetWord t
+forget-place : placeOf forgetWord callWords ≡ 3
+unfolding callWords
+forget-place =
+    place-on forgetWord callWords 0 (omega arith) (same-lengths forgetWord openWord (λ e. omega (arith, e)))
+    ∙ ap suc (place-on forgetWord callWords 1 (omega arith) (same-lengths forgetWord eventWord (λ e. omega (arith, e)))
+    ∙ ap suc (place-on forgetWord callWords 2 (omega arith) (same-lengths forgetWord clockWord (λ e. omega (arith, e)))
+    ∙ ap suc (place-hit forgetWord callWords 3 (omega arith) (same-self forgetWord))))
+
+-- a line that begins with a word of place n, which has no tab
+word-line : (w t : List ℕ) (n : ℕ) → lacks 9 w ≡ true → placeOf w callWords ≡ n → callOf (w ++ 9 ∷ t) ≡ wordCall n t
+unfolding callOf
+word-line w t n h e = ap fieldsCall (split-word 9 w t (index-lacks 9 w h)) ∙ behind-word w t ∙ ap (λ k. wordCall k t) e
 
 module _ (s : List ℕ) where
   pub opening-call : startsWith (tabbed openWord) s ≡ true → callOf s ≡ instantCall Call.Open (instantOf (drop 5 s))
-  opening-call e = ap callOf (starts-cut (tabbed openWord) s e) ∙ opening-line (drop 5 s)
+  unfolding wordCall
+  opening-call e = ap callOf (starts-cut (tabbed openWord) s e) ∙ word-line openWord (drop 5 s) 0 refl open-place
 
   pub event-call : startsWith (tabbed eventWord) s ≡ true → callOf s ≡ eventCall (numberOf (drop 6 s))
-  event-call e = ap callOf (starts-cut (tabbed eventWord) s e) ∙ event-line (drop 6 s)
+  unfolding wordCall
+  event-call e = ap callOf (starts-cut (tabbed eventWord) s e) ∙ word-line eventWord (drop 6 s) 1 refl event-place
 
   pub clock-call : startsWith (tabbed clockWord) s ≡ true → callOf s ≡ instantCall Call.Clock (instantOf (drop 6 s))
-  clock-call e = ap callOf (starts-cut (tabbed clockWord) s e) ∙ clock-line (drop 6 s)
+  unfolding wordCall
+  clock-call e = ap callOf (starts-cut (tabbed clockWord) s e) ∙ word-line clockWord (drop 6 s) 2 refl clock-place
 
   pub forget-call : startsWith (tabbed forgetWord) s ≡ true → callOf s ≡ instantCall Call.Forget (instantOf (drop 7 s))
-  forget-call e = ap callOf (starts-cut (tabbed forgetWord) s e) ∙ forget-line (drop 7 s)
+  unfolding wordCall
+  forget-call e = ap callOf (starts-cut (tabbed forgetWord) s e) ∙ word-line forgetWord (drop 7 s) 3 refl forget-place
 
 -- a text whose first field is w starts with w and its tab
+starts-self : (p t : List ℕ) → startsWith p (p ++ t) ≡ true
+unfolding startsWith
+starts-self [] t = refl
+starts-self (a ∷ p) t = rw (eq-eqb a a refl) (starts-self p t)
+
 field-starts : (s w : List ℕ) → indexOf 9 s < length s → sameBytes (take (indexOf 9 s) s) w ≡ true → startsWith (tabbed w) s ≡ true
-unfolding indexOf sameBytes startsWith
-field-starts [] w h e = absurd (omega arith)
-field-starts (b ∷ s) w h e = go w (eqb b 9) refl h e (λ v. field-starts s v)
-  where
-    go : (w : List ℕ) (t : Bool) → eqb b 9 ≡ t → cond t 0 (suc (indexOf 9 s)) < suc (length s) → sameBytes (take (cond t 0 (suc (indexOf 9 s))) (b ∷ s)) w ≡ true → ((v : List ℕ) → indexOf 9 s < length s → sameBytes (take (indexOf 9 s) s) v ≡ true → startsWith (tabbed v) s ≡ true) → startsWith (tabbed w) (b ∷ s) ≡ true
-    go [] true q h e f = rw q
-    go (a ∷ w) true q h e f = never e
-    go [] false q h e f = never e
-    go (a ∷ w) false q h e f =
-        let same = sameBytes (take (indexOf 9 s) s) w in
-        rw (and-first (eqb b a) same e) (f w (omega arith) (and-second (eqb b a) same e))
+field-starts s w h e =
+    let rest = drop (suc (indexOf 9 s)) s in
+    let cut : s ≡ tabbed w ++ rest = index-cut 9 s h ∙ ap (λ v. v ++ 9 ∷ rest) (same-eq (take (indexOf 9 s) s) w e) ∙ sym (append-assoc w (9 ∷ []) rest) in
+    ap (startsWith (tabbed w)) cut ∙ starts-self (tabbed w) rest
 
 other-field : (s w : List ℕ) → indexOf 9 s < length s → startsWith (tabbed w) s ≡ false → sameBytes (take (indexOf 9 s) s) w ≡ false
 other-field s w h e = go (sameBytes (take (indexOf 9 s) s) w) refl
@@ -182,7 +190,7 @@ other-field s w h e = go (sameBytes (take (indexOf 9 s) s) w) refl
 
 -- no word in front
 pub no-call : (s : List ℕ) → startsWith (tabbed openWord) s ≡ false → startsWith (tabbed eventWord) s ≡ false → startsWith (tabbed clockWord) s ≡ false → startsWith (tabbed forgetWord) s ≡ false → callOf s ≡ Call.Malformed
-unfolding callOf fieldsCall callWords placeOf wordCall
+unfolding callOf fieldsCall callWords wordCall
 no-call s o e c f = go (eqb (indexOf 9 s) (length s)) refl
   where
     go : (b : Bool) → eqb (indexOf 9 s) (length s) ≡ b → fieldsCall (fields s) ≡ Call.Malformed
@@ -192,4 +200,44 @@ no-call s o e c f = go (eqb (indexOf 9 s) (length s)) refl
         let h : indexOf 9 s < length s = omega (arith, index-le 9 s) in
         let w = take (indexOf 9 s) s in
         rw (cut-field s d)
-        (behind-word w (drop (indexOf 9 s + 1) s) ∙ rw (other-field s openWord h o, other-field s eventWord h e, other-field s clockWord h c, other-field s forgetWord h f))
+        (behind-word w (drop (indexOf 9 s + 1) s)
+        ∙ ap (λ k. wordCall k (drop (indexOf 9 s + 1) s)) (place-on w callWords 0 (omega arith) (other-field s openWord h o)
+        ∙ ap suc (place-on w callWords 1 (omega arith) (other-field s eventWord h e)
+        ∙ ap suc (place-on w callWords 2 (omega arith) (other-field s clockWord h c)
+        ∙ ap suc (place-on w callWords 3 (omega arith) (other-field s forgetWord h f)
+        ∙ ap suc (place-none w callWords 4 (omega arith)))))))
+
+-- the enum's answer is that of the line
+code-answer : (n : Number) → answerOf (eventCall n) ≡ codeAnswer n
+unfolding eventCall codeAnswer
+code-answer Number.Malformed = refl
+code-answer (Number.Value k) = go (leb k 255)
+  where
+    go : (b : Bool) → answerOf (cond b (Call.Event k) Call.Malformed) ≡ cond b (takenLine 1 (pos k)) refusedLine
+    go true = refl
+    go false = refl
+
+instant-answer : (w : ℕ) (make : ℤ → Call) → ((z : ℤ) → answerOf (make z) ≡ takenLine w z) → (i : Instant) → answerOf (instantCall make i) ≡ instantAnswer w i
+unfolding instantCall instantAnswer
+instant-answer w make h Instant.Malformed = refl
+instant-answer w make h (Instant.Value z) = h z
+
+word-answer : (w : ℕ) (x : List ℕ) → w ≤ 4 → answerOf (wordCall w x) ≡ wordAnswer w x
+unfolding wordCall wordAnswer callWords
+word-answer zero x h = instant-answer 0 Call.Open (λ z. refl) (instantOf x)
+word-answer (suc zero) x h = code-answer (numberOf x)
+word-answer (suc (suc zero)) x h = instant-answer 2 Call.Clock (λ z. refl) (instantOf x)
+word-answer (suc (suc (suc zero))) x h = instant-answer 3 Call.Forget (λ z. refl) (instantOf x)
+word-answer (suc (suc (suc (suc zero)))) x h = refl
+word-answer (suc (suc (suc (suc (suc n))))) x h = absurd (omega arith)
+
+fields-answer : (fs : List (List ℕ)) → answerOf (fieldsCall fs) ≡ fieldsAnswer fs
+unfolding fieldsCall fieldsAnswer callWords
+fields-answer [] = refl
+fields-answer (w ∷ []) = refl
+fields-answer (w ∷ x ∷ []) = word-answer (placeOf w callWords) x (place-le w callWords)
+fields-answer (w ∷ x ∷ y ∷ ys) = refl
+
+pub answered : (r : Call) (s : List ℕ) → r ≡ callOf s → (r ≡ callOf s) × (answerOf r ≡ lineAnswer s)
+unfolding callOf lineAnswer
+answered r s e = (e, ap answerOf e ∙ fields-answer (fields s))

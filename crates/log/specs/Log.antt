@@ -5,7 +5,8 @@ use Prim.Native.Nat.{ℕ}
 use mathlib.Core.Bool.{Bool, true, false, cond, _&&_}
 use mathlib.Core.List.{List, [], _∷_}
 use lib.Dec.{eqb, leb}
-use lib.IntN.{ℤ}
+use lib.IntN.{ℤ, pos}
+use lib.ListN.{length}
 use Rattle.text.specs.Text.{fields}
 use Rattle.decimal.specs.Spelling.{numberOf, instantOf}
 use Rattle.decimal.specs.declared.Number.{Number}
@@ -56,6 +57,52 @@ fieldsCall (w ∷ x ∷ y ∷ ys) = Call.Malformed
 -- the call of a line without its byte 10
 unfoldable pub callOf : List ℕ → Call
 callOf s = fieldsCall (fields s)
+
+-- What a line hands over: the place of its word among the words, and the code or instant behind the word.
+pub record Asked : Type 0 where
+  pub word : ℕ
+  pub value : ℤ
+
+-- A line's answer: the refusal's number, 0 for none, and what the line hands over. "A line refused with 7 yields the number alone."
+pub record LineAnswer : Type 0 where
+  pub refusal : ℕ
+  pub asked : List Asked
+
+abbrev pub refusedLine : LineAnswer
+refusedLine = record { refusal = 7; asked = [] }
+
+abbrev pub takenLine : ℕ → ℤ → LineAnswer
+takenLine w z = record { refusal = 0; asked = record { word = w; value = z } ∷ [] }
+
+-- "Where an answer is an enum, a definition gives this paper's number and values for each case of the enum."
+abbrev pub answerOf : Call → LineAnswer
+answerOf Call.Malformed = refusedLine
+answerOf (Call.Open o) = takenLine 0 o
+answerOf (Call.Event k) = takenLine 1 (pos k)
+answerOf (Call.Clock x) = takenLine 2 x
+answerOf (Call.Forget f) = takenLine 3 f
+
+-- The answer from the line alone, with no enum of calls: 7 unless it is one of the words, a tab, and behind `event` a code to 255, behind each other
+-- word an instant, as they are spelled.
+unfoldable pub codeAnswer : Number → LineAnswer
+codeAnswer (Number.Value k) = cond (leb k 255) (takenLine 1 (pos k)) refusedLine
+codeAnswer Number.Malformed = refusedLine
+
+unfoldable pub instantAnswer : ℕ → Instant → LineAnswer
+instantAnswer w (Instant.Value z) = takenLine w z
+instantAnswer w Instant.Malformed = refusedLine
+
+unfoldable pub wordAnswer : ℕ → List ℕ → LineAnswer
+wordAnswer w x = cond (eqb w (length callWords)) refusedLine (cond (eqb w 1) (codeAnswer (numberOf x)) (instantAnswer w (instantOf x)))
+
+unfoldable pub fieldsAnswer : List (List ℕ) → LineAnswer
+fieldsAnswer [] = refusedLine
+fieldsAnswer (w ∷ []) = refusedLine
+fieldsAnswer (w ∷ x ∷ []) = wordAnswer (placeOf w callWords) x
+fieldsAnswer (w ∷ x ∷ y ∷ ys) = refusedLine
+
+unfoldable pub lineAnswer : List ℕ → LineAnswer
+lineAnswer s = fieldsAnswer (fields s)
 
 -- As the code finds a word with its tab: whether s has p in front
 unfoldable pub startsWith : List ℕ → List ℕ → Bool

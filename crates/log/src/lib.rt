@@ -1,7 +1,7 @@
 // The log on paper: one line, read as the call that it asks for. The definitions are in `specs/Log.antt`.
 ghost use mathlib.Core.Path.{_≡_};
 ghost use Rattle.decimal.specs.Spelling.{numberOf, instantOf};
-ghost use Rattle.log.specs.Log.{callOf, eventCall, instantCall, startsWith};
+ghost use Rattle.log.specs.Log.{callOf, eventCall, instantCall, answerOf, lineAnswer, startsWith};
 use decimal::Instant;
 use decimal::Number;
 
@@ -26,7 +26,7 @@ const FORGET: [u8; 7] = *b"forget\t";
 // The call of a line without its byte 10. The words differ in their first byte, so that only one is compared further; then one pass
 // over a number of at most 11 bytes. No second tab is looked for: what has a tab is no number.
 pub fn read_call(s: &[u8]) -> Call
-    ensures { λ r. ⌜ r ≡ callOf (now (s .entry)) ⌝ }
+    ensures { λ r. ⌜ (r ≡ callOf (now (s .entry))) × (answerOf r ≡ lineAnswer (now (s .entry))) ⌝ }
 {
     let event = EVENT;
     if starts_with(s, &event) {

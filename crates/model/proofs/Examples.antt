@@ -1,12 +1,12 @@
--- P1 to P8, each operator at its boundary, the misreadings that document 01 forbids, and each refusal: one list of cases, one theorem
--- that the checker computes. What must come out was found by hand from document 01.
+-- Each operator at its boundary, the misreadings that document 01 forbids, and each refusal: one list of cases, one theorem that the checker
+-- computes. What must come out was found by hand from document 01. P1 to P8 are computed from text in crate `program`.
 use Prim.Native.Nat.{ℕ, suc, _<_, _≤_}
 use mathlib.Core.Path.{_≡_, refl}
 use mathlib.Core.List.{List, [], _∷_, _++_, map}
 use borrow.Author.Tests.{le-leb, lt-leb}
 use lib.IntN.{ℤ, pos, negsuc}
-use lib.ListN.{length, getD, replicate}
-use Rattle.interval.specs.Instants.{isInstant}
+use lib.ListN.{length, replicate}
+use Rattle.interval.specs.Instants.{isInstant, firstFloor, isMarkRefused, isForgetRefused}
 use Rattle.interval.specs.Conditions.{isRelated, isForbidding, hasLength}
 use Rattle.interval.specs.declared.Relation.the-variants.{Seq, And, Meets, Overlaps, Starts, During, Finishes, Equals}
 use Rattle.interval.specs.declared.Edges.{Edges}
@@ -15,9 +15,10 @@ use Rattle.interval.specs.declared.LengthTest.{LengthTest}
 use Rattle.interval.specs.declared.LengthTest.the-variants.{Lasts, AtMost, AtLeast}
 use Rattle.model.specs.Lists.{keep}
 use Rattle.model.specs.Recognitions as R
-use Rattle.model.specs.Recognitions.{Operator, related, or, absence, lasting, only, ofEvent, ofOne, ofTwo, recognitionsOf, withEntries, recognitions}
+use Rattle.model.specs.Recognitions.{Operator, related, or, absence, lasting, recognitionsOf, withEntries, recognitions}
+use Rattle.model.specs.Capacity.{capacity}
 use Rattle.model.specs.Order.{compare, listing, Row, row, none}
-use Rattle.model.specs.Reference.{Model, firstFloor, opening, Call, event, clock, forget, isAt, eventStep, clockStep, forgetStep, step, run, numbersOf, rowsOf}
+use Rattle.model.specs.Reference.{Model, opening, Call, event, clock, forget, isAt, eventStep, clockStep, forgetStep, step, run, numbersOf, rowsOf}
 
 -- A chart, the number of rows the table can hold, the opening instant and the calls; what must come out: the number that the opening and
 -- each call is answered with, and the rows at the end.
@@ -57,52 +58,6 @@ row-lr n l r s e = row n (pos l) (pos r) (pos s) (pos e)
 
 abbrev row-r : ℕ → ℕ → ℕ → ℕ → Row
 row-r n r s e = row n none (pos r) (pos s) (pos e)
-
--- "Given chart 0 event 1, 1 event 2, 2 event 3, 3 seq 0 1, 4 -[[ 3 2 and log open -2, event 1, clock 0, event 2, clock 3, event 3, event 2, clock 4"
-abbrev chart1 : Edges → List Operator
-chart1 edges = R.event 1 ∷ R.event 2 ∷ R.event 3 ∷ related Seq 0 1 ∷ absence edges 3 2 ∷ []
-
-abbrev log1 : List Call
-log1 = event 1 ∷ clock (pos 0) ∷ event 2 ∷ clock (pos 3) ∷ event 3 ∷ event 2 ∷ clock (pos 4) ∷ []
-
-abbrev rows1-4 : List Row
-rows1-4 =
-    row 0 (pos 1) none (negsuc 1) (negsuc 1) ∷
-    row-l 1 2 0 0 ∷
-    row 3 (pos 0) (pos 1) (negsuc 1) (pos 0) ∷
-    row 4 (pos 2) none (negsuc 1) (pos 0) ∷ []
-
-abbrev rows1-7 : List Row
-rows1-7 =
-    rows1-4 ++
-    row-l 1 4 3 3 ∷
-    row-l 2 3 3 3 ∷
-    row 3 (pos 0) (pos 4) (negsuc 1) (pos 3) ∷ []
-
-abbrev rows1-8 : List Row
-rows1-8 = rows1-7 ++ row 4 (pos 6) none (negsuc 1) (pos 3) ∷ []
-
--- "P1 this listing; P2 with -[] row 7 is gone; P3 with forget 0 last, three rows stay". P3 also tells forgetting by start from forgetting by end.
-abbrev P1-P3 : List Case
-P1-P3 =
-    case (chart1 ClosedOpen) 3000 (negsuc 1) log1 (taken 7) rows1-8 ∷
-    case (chart1 ClosedClosed) 3000 (negsuc 1) log1 (taken 7) rows1-7 ∷
-    case (chart1 ClosedOpen) 3000 (negsuc 1) (log1 ++ forget (pos 0) ∷ []) (taken 8) (row-l 1 2 0 0 ∷ row-l 1 4 3 3 ∷ row-l 2 3 3 3 ∷ []) ∷ []
-
--- "P4 meets 0 0 on one event gives a row; P5 seq 0 0 on two events of one instant gives none; P6 or 0 0 gives two per event": the two
--- arms of P6 would fall together in trees flattened to sets of events
-abbrev P4-P6 : List Case
-P4-P6 =
-    case (R.event 1 ∷ related Meets 0 0 ∷ []) 3000 (pos 0) (event 1 ∷ clock (pos 1) ∷ []) (taken 2) (row-l 0 1 0 0 ∷ row-lr 1 0 0 0 0 ∷ []) ∷
-    case (R.event 1 ∷ related Seq 0 0 ∷ []) 3000 (pos 0) (event 1 ∷ event 1 ∷ clock (pos 1) ∷ []) (taken 3) (row-l 0 1 0 0 ∷ row-l 0 2 0 0 ∷ []) ∷
-    case (R.event 1 ∷ or 0 0 ∷ []) 3000 (pos 0) (event 1 ∷ clock (pos 1) ∷ []) (taken 2) (row-l 0 1 0 0 ∷ row-l 1 0 0 0 ∷ row-r 1 0 0 0 ∷ []) ∷ []
-
--- "P7 atmost 5 drops length 5; P8 a table of 7 rows refuses P1's last mark with 12, one of 8 takes it"
-abbrev P7-P8 : List Case
-P7-P8 =
-    case (R.event 1 ∷ R.event 2 ∷ related Seq 0 1 ∷ lasting AtMost 2 5 ∷ []) 3000 (pos 0) (event 1 ∷ clock (pos 5) ∷ event 2 ∷ clock (pos 6) ∷ []) (taken 4) (row-l 0 1 0 0 ∷ row-l 1 2 5 5 ∷ row-lr 2 0 1 0 5 ∷ []) ∷
-    case (chart1 ClosedOpen) 7 (negsuc 1) log1 (taken 6 ++ 12 ∷ []) rows1-4 ∷
-    case (chart1 ClosedOpen) 8 (negsuc 1) log1 (taken 7) rows1-8 ∷ []
 
 -- Row 1, of entry 0, is r, from 1 to 1; the rows of entry 3 are s: from 0 to 1, from 1 to 1, from 0 to 2, from 1 to 2. Entry 4 is looked at.
 abbrev nearPoint : Operator → List Row → Case
@@ -158,8 +113,8 @@ lengths =
 abbrev codes : List Case
 codes = case (R.event 1 ∷ R.event 3 ∷ related And 0 1 ∷ or 0 1 ∷ []) 3000 (pos 0) (event 0 ∷ event 1 ∷ event 2 ∷ clock (pos 1) ∷ []) (taken 4) (row-l 0 2 0 0 ∷ row-l 3 0 0 0 ∷ []) ∷ []
 
--- One entry's rows of one end: left row, then right row; the left arm first, each arm by row. And one row may be both r and s: -[] 0 0 keeps
--- none, -][ 0 0 each row of length 0.
+-- One entry's rows of one end: left row, then right row; the left arm first, each arm by row. The two arms would fall together in trees flattened to
+-- sets of events. And one row may be both r and s: -[] 0 0 keeps none, -][ 0 0 each row of length 0.
 abbrev orders : List Case
 orders =
     twice (related And 0 0) (row-lr 1 0 0 0 0 ∷ row-lr 1 0 1 0 0 ∷ row-lr 1 1 0 0 0 ∷ row-lr 1 1 1 0 0 ∷ []) ∷
@@ -181,6 +136,25 @@ openInstants =
     waiting : List Call → ℕ → List Row → Case
     waiting calls n rows = case (R.event 1 ∷ R.event 2 ∷ absence ClosedClosed 0 1 ∷ []) 3000 (pos 0) calls (taken n) rows
 
+-- "A forget f raises the floor to f, drops every row that starts before f, moves the others down in order, renumbers their references": not those that
+-- end before f. There are events at 0, 2 and 4.
+abbrev floors : List Case
+floors =
+    forgotten (pos 0) (row-l 0 1 0 0 ∷ row-l 0 2 2 2 ∷ row-lr 1 0 1 0 2 ∷ row-l 0 3 4 4 ∷ row-lr 1 0 3 0 4 ∷ row-lr 1 1 3 2 4 ∷ []) ∷
+    forgotten (pos 1) (row-l 0 2 2 2 ∷ row-l 0 3 4 4 ∷ row-lr 1 0 1 2 4 ∷ []) ∷
+    forgotten (pos 2) (row-l 0 2 2 2 ∷ row-l 0 3 4 4 ∷ row-lr 1 0 1 2 4 ∷ []) ∷
+    forgotten (pos 3) (row-l 0 3 4 4 ∷ []) ∷ []
+  where
+    forgotten : ℤ → List Row → Case
+    forgotten f rows = case (R.event 1 ∷ related Seq 0 0 ∷ []) 3000 (pos 0) (event 1 ∷ clock (pos 2) ∷ event 1 ∷ clock (pos 4) ∷ event 1 ∷ clock (pos 5) ∷ forget f ∷ []) (taken 7) rows
+
+-- "12 table full: the due rows, old and new together, exceed the rows the table can hold": one row fits, two do not; after a forget the second
+-- one fits. "8 before 12": where a mark in range is refused with 12, one out of range or not after the open instant is refused with 8.
+abbrev fullTables : List Case
+fullTables =
+    case (R.event 1 ∷ []) 1 (pos 0) (event 1 ∷ clock (pos 1) ∷ event 1 ∷ clock (pos 2) ∷ forget (pos 1) ∷ clock (pos 2) ∷ []) (0 ∷ 0 ∷ 0 ∷ 0 ∷ 12 ∷ 0 ∷ 0 ∷ []) (row-l 0 2 1 1 ∷ []) ∷
+    case (R.event 1 ∷ []) 0 (pos 0) (event 1 ∷ clock (pos 1) ∷ clock (pos 1000000001) ∷ clock (pos 0) ∷ clock (pos 1000000000) ∷ []) (0 ∷ 0 ∷ 12 ∷ 8 ∷ 8 ∷ 12 ∷ []) [] ∷ []
+
 -- Refusals. 8: an opening out of range; a clock mark not after the open instant or out of range.
 -- 9: a 65th event in one instant. 11: a forget above the open instant, below the floor or out of range; at the open instant and at the floor it is
 -- taken, and the pending event stays.
@@ -193,11 +167,16 @@ refusals =
     case (R.event 1 ∷ []) 3000 (pos 0) (event 1 ∷ forget (negsuc 1000000000) ∷ forget (negsuc 999999999) ∷ forget (pos 1) ∷ forget (pos 0) ∷ forget (pos 0) ∷ forget (negsuc 0) ∷ clock (pos 1) ∷ []) (0 ∷ 0 ∷ 11 ∷ 0 ∷ 11 ∷ 0 ∷ 0 ∷ 11 ∷ 0 ∷ []) (row-l 0 1 0 0 ∷ []) ∷ []
 
 pub cases : List Case
-cases = P1-P3 ++ P4-P6 ++ P7-P8 ++ relations ++ overlaps ++ absences ++ lengths ++ codes ++ orders ++ openInstants ++ refusals
+cases = relations ++ overlaps ++ absences ++ lengths ++ codes ++ orders ++ openInstants ++ floors ++ fullTables ++ refusals
 
 pub examples : map outcome cases ≡ map expected cases
-unfolding cases opening eventStep clockStep forgetStep run numbersOf listing compare recognitions withEntries recognitionsOf isInstant isRelated isForbidding hasLength
+unfolding cases opening eventStep clockStep forgetStep run numbersOf listing compare recognitions withEntries recognitionsOf isInstant firstFloor isMarkRefused isForgetRefused isRelated isForbidding hasLength
 examples = refl
+
+-- "length divided by 5 rows, rounded down, and never more than 65,535"
+pub capacities : map capacity (0 ∷ 4 ∷ 5 ∷ 9 ∷ 10 ∷ 327674 ∷ 327675 ∷ 327680 ∷ []) ≡ 0 ∷ 0 ∷ 1 ∷ 1 ∷ 2 ∷ 65534 ∷ 65535 ∷ 65535 ∷ []
+unfolding capacity
+capacities = refl
 
 -- 10: "if there are 1,000,000 events; else 9"
 pub serials-spent : (m : Model) (k : ℕ) → 1000000 ≤ length (m .events) → (eventStep m k) .number ≡ 10
@@ -207,8 +186,3 @@ serials-spent m k h = rw (le-leb 1000000 (length (m .events)) h)
 pub serials-left : (m : Model) (k : ℕ) → length (m .events) < 1000000 → length (keep (isAt (m .openInstant)) (m .events)) < 64 → (eventStep m k) .number ≡ 0
 unfolding eventStep
 serials-left m k h l = rw (lt-leb 1000000 (length (m .events)) h, lt-leb 64 (length (keep (isAt (m .openInstant)) (m .events))) l)
-
--- "Row 7's tree is <<e1,e4>>"
-pub tree-of-row-7 : getD (listing (chart1 ClosedOpen) (record { serial = 1; code = 1; instant = negsuc 1 } ∷ record { serial = 2; code = 2; instant = pos 0 } ∷ record { serial = 3; code = 3; instant = pos 3 } ∷ record { serial = 4; code = 2; instant = pos 3 } ∷ []) firstFloor (pos 4)) 7 (ofEvent 0 0 (pos 0)) ≡ ofOne 4 only (ofTwo 3 (ofEvent 0 1 (negsuc 1)) (ofEvent 1 4 (pos 3)))
-unfolding listing compare recognitions withEntries recognitionsOf isRelated isForbidding
-tree-of-row-7 = refl

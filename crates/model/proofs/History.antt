@@ -3,19 +3,19 @@ use Prim.Native.Nat.{ℕ, zero, suc, _+_, _-_, _<_, _≤_}
 use native.Mathlib.Omega.{arith}
 use mathlib.Core.Path.{_≡_, refl, sym, ap, ap₂, _∙_, subst}
 use mathlib.Core.Logic.{_⊎_, inl, inr}
-use mathlib.Core.Bool.{Bool, true, false, cond, not, _||_}
+use mathlib.Core.Bool.{Bool, true, false, cond, not}
 use mathlib.Core.List.{List, [], _∷_, _++_, map, map-append, append-assoc, append-nil, List·Memᴰ, List·Memᴰ·not-nil, List·Memᴰ·append-cases}
 use lib.Dec.{T, ltb, leb, nltb→le, nleb→lt}
 use lib.IntN.{ℤ, pos}
 use lib.ListN.{length, length-map, length-append}
-use lib.Signed.{ltZ, leZ}
-use Rattle.interval.specs.Instants.{isInstant, eqZ}
-use Rattle.interval.proofs.Signed.{_≤ᶻ_, _<ᶻ_, eq-fact, nleZ→, nltZ→, eqZ→, eqZ-refl, holds→, →holds, instant-told, is-instant}
+use Rattle.interval.specs.Instants.{isInstant, firstFloor, isMarkRefused, isForgetRefused, eqZ}
+use Rattle.interval.proofs.Signed.{_≤ᶻ_, _<ᶻ_, eq-fact, eqZ→, eqZ-refl, holds→, →holds, fails→, is-instant}
+use Rattle.interval.proofs.Laws.{floor-instant, floor-least, mark-taken, forget-taken}
 use Rattle.model.specs.Lists.{keep, numbers}
 use Rattle.model.specs.Recognitions.{Event, Operator}
 use Rattle.model.specs.Order.{Row, listing, asRow, asRows}
-use Rattle.model.specs.Reference.{Model, model, Answer, accepted, refused, firstFloor, opening, Call, event, clock, forget, isAt, eventStep, clockStep, forgetStep, step, run, numbersOf, rowsOf}
-use Rattle.model.specs.RowSteps.{closeRows, isLate, forgetRows, Watch, watch, numbered, closedRows, watchOpening, watchEvent, watchClock, watchForget, watchStep, shown}
+use Rattle.model.specs.Reference.{Model, model, Answer, accepted, refused, opening, Call, event, clock, forget, isAt, eventStep, clockStep, forgetStep, step, run, numbersOf, rowsOf}
+use Rattle.model.specs.RowSteps.{closeRows, keepRows, isLate, forgetRows, Watch, watch, numbered, closedRows, watchOpening, watchEvent, watchClock, watchForget, watchStep, shown}
 use Rattle.model.proofs.Sorted.{cond-T, keep-append}
 use Rattle.model.proofs.Local.{Chart}
 use Rattle.model.proofs.Place.{keep-none}
@@ -87,14 +87,6 @@ module _ {chart : List Operator} {capacity : ℕ} {m : Model} (g : Good chart ca
   later : (t : ℤ) → m .openInstant <ᶻ t → keep (isAt t) (m .events) ≡ []
   later t lt = keep-none (isAt t) (m .events) (λ e n h. let p : e .instant <ᶻ t = sooner t lt e n in omega (arith, eq-fact (eqZ→ (e .instant) t h)))
 
-not-or : (b c : Bool) → T (not (b || c)) → T (not b) × T (not c)
-not-or true c t = absurd t
-not-or false c t = (tt, t)
-
-not-not : (b : Bool) → T (not (not b)) → T b
-not-not true t = tt
-not-not false t = absurd t
-
 -- both steps take the same way through a test
 abbrev lift : List Operator → Answer Model → Answer Watch
 lift chart a = record { number = a .number; state = shown chart (a .state) }
@@ -149,14 +141,14 @@ module _ (chart : List Operator) (c : Chart 0 chart) (capacity : ℕ) where
       cond-lift chart (leb 64 (length (keep (isAt (m .openInstant)) (m .events)))) _ _ _ _ _ (ap (leb 64) (length-map (keep (isAt (m .openInstant)) (m .events)) (λ e. e .code))) refl (λ h'.
       ap accepted (watch-path (m .openInstant) (m .floor) (simp length-append (omega arith)) (sym (ap (map (λ e. e .code)) (keep-new m k) ∙ map-append (λ e. e .code) (keep (isAt (m .openInstant)) (m .events)) (newEvent m k ∷ []))) (ap asRows (sym (listing-event chart c (m .events) (m .floor) (m .openInstant) (newEvent m k) refl))))))
   step-shown m g (clock t) =
-      cond-lift chart (not (isInstant t) || leZ t (m .openInstant)) (not (isInstant t) || leZ t (m .openInstant)) _ _ _ _ refl refl (λ h.
-      let lt : m .openInstant <ᶻ t = nleZ→ t (m .openInstant) (not-or (not (isInstant t)) (leZ t (m .openInstant)) h .1) in
+      cond-lift chart (isMarkRefused (m .openInstant) t) (isMarkRefused (m .openInstant) t) _ _ _ _ refl refl (λ h.
+      let lt : m .openInstant <ᶻ t = (mark-taken (m .openInstant) t (fails→ _ h)) .later in
       let e : closedRows chart (shown chart m) ≡ asRows (listing chart (m .events) (m .floor) t) = closed-is m g t lt in
       cond-lift chart (ltb capacity (length (listing chart (m .events) (m .floor) t))) _ _ _ _ _ (ap (ltb capacity) (ap length e ∙ rows-length chart (m .events) (m .floor) t)) refl (λ h'.
       ap accepted (watch-path t (m .floor) refl (sym (ap (map (λ e. e .code)) (later g t lt))) e)))
   step-shown m g (forget f) =
-      cond-lift chart (ltZ f (m .floor) || (ltZ (m .openInstant) f || not (isInstant f))) (ltZ f (m .floor) || (ltZ (m .openInstant) f || not (isInstant f))) _ _ _ _ refl refl (λ h.
-      ap accepted (watch-path (m .openInstant) f refl refl (listing-forget chart c (m .events) (m .floor) f (m .openInstant) (nltZ→ f (m .floor) (not-or (ltZ f (m .floor)) (ltZ (m .openInstant) f || not (isInstant f)) h .0)))))
+      cond-lift chart (isForgetRefused (m .floor) (m .openInstant) f) (isForgetRefused (m .floor) (m .openInstant) f) _ _ _ _ refl refl (λ h.
+      ap accepted (watch-path (m .openInstant) f refl refl (listing-forget chart c (m .events) (m .floor) f (m .openInstant) ((forget-taken (m .floor) (m .openInstant) f (fails→ _ h)) .above))))
 
   good-event : (m : Model) → Good chart capacity m → (k : ℕ) → length (m .events) < 1000000 → length (keep (isAt (m .openInstant)) (m .events)) < 64 → Good chart capacity (model (m .openInstant) (m .floor) (m .events ++ newEvent m k ∷ []))
   good-event m g k l l' = record {
@@ -200,7 +192,7 @@ module _ (chart : List Operator) (c : Chart 0 chart) (capacity : ℕ) where
       }
 
   good-forget : (m : Model) → Good chart capacity m → (f : ℤ) → T (isInstant f) → m .floor ≤ᶻ f → f ≤ᶻ m .openInstant → Good chart capacity (model (m .openInstant) f (m .events))
-  unfolding forgetRows
+  unfolding forgetRows keepRows
   good-forget m g f r lo hi = record { old = g .old; pending = g .pending; is = g .is; past = g .past; serials = g .serials; low = hi; openRange = g .openRange; floorRange = r; count = g .count; few = g .few; fits = shorter }
     where
       shorter : length (listing chart (m .events) f (m .openInstant)) ≤ capacity
@@ -219,15 +211,14 @@ module _ (chart : List Operator) (c : Chart 0 chart) (capacity : ℕ) where
       cond-state (Good chart capacity) (leb 64 (length (keep (isAt (m .openInstant)) (m .events)))) _ _ g (λ h'.
       good-event m g k (nleb→lt 1000000 (length (m .events)) h) (nleb→lt 64 (length (keep (isAt (m .openInstant)) (m .events))) h')))
   good-step m g (clock t) =
-      cond-state (Good chart capacity) (not (isInstant t) || leZ t (m .openInstant)) _ _ g (λ h.
-      let p = not-or (not (isInstant t)) (leZ t (m .openInstant)) h in
+      cond-state (Good chart capacity) (isMarkRefused (m .openInstant) t) _ _ g (λ h.
+      let p = mark-taken (m .openInstant) t (fails→ _ h) in
       cond-state (Good chart capacity) (ltb capacity (length (listing chart (m .events) (m .floor) t))) _ _ g (λ h'.
-      good-clock m g t (not-not (isInstant t) (p .0)) (nleZ→ t (m .openInstant) (p .1)) (nltb→le capacity (length (listing chart (m .events) (m .floor) t)) h')))
+      good-clock m g t (→holds (isInstant t) (p .inRange)) (p .later) (nltb→le capacity (length (listing chart (m .events) (m .floor) t)) h')))
   good-step m g (forget f) =
-      cond-state (Good chart capacity) (ltZ f (m .floor) || (ltZ (m .openInstant) f || not (isInstant f))) _ _ g (λ h.
-      let p = not-or (ltZ f (m .floor)) (ltZ (m .openInstant) f || not (isInstant f)) h in
-      let q = not-or (ltZ (m .openInstant) f) (not (isInstant f)) (p .1) in
-      good-forget m g f (not-not (isInstant f) (q .1)) (nltZ→ f (m .floor) (p .0)) (nltZ→ (m .openInstant) f (q .0)))
+      cond-state (Good chart capacity) (isForgetRefused (m .floor) (m .openInstant) f) _ _ g (λ h.
+      let p = forget-taken (m .floor) (m .openInstant) f (fails→ _ h) in
+      good-forget m g f (→holds (isInstant f) (p .inRange)) (p .above) (p .below))
 
   pub good-run : (calls : List Call) (m : Model) → Good chart capacity m → Good chart capacity (run (step chart capacity) m calls)
   unfolding run
@@ -251,9 +242,9 @@ module _ (chart : List Operator) (c : Chart 0 chart) (capacity : ℕ) where
     is = refl;
     past = λ e n. absurd (List·Memᴰ·not-nil n);
     serials = refl;
-    low = omega (arith, instant-told o (holds→ (isInstant o) r));
+    low = floor-least o (holds→ (isInstant o) r);
     openRange = r;
-    floorRange = →holds (isInstant firstFloor) (is-instant firstFloor (omega arith));
+    floorRange = →holds (isInstant firstFloor) floor-instant;
     count = omega arith;
     few = omega arith;
     fits = rw (listing-empty chart firstFloor o) (omega arith);

@@ -13,9 +13,12 @@ pub mod Forget
 pub mod Listing
 pub mod History
 pub mod Follow
-pub mod Joint
+pub mod Consistency
 pub mod Meaning
 pub mod Capacity
 pub mod Theorems
 pub mod Examples
 pub mod Range
+pub mod Steps
+pub mod RowStepLaws
+pub mod ReferenceLaws

@@ -13,8 +13,8 @@ use Rattle.model.specs.Recognitions.{Recognition, startOf, endOf}
 use Rattle.model.specs.Order.{before, listing, place, asRows}
 use Rattle.model.specs.Reference.{opening, step, run, numbersOf}
 use Rattle.model.specs.RowSteps.{watchStep}
-use Rattle.model.specs.Joint.{isInJoint}
-use Rattle.model.specs.Statements.{Reads, RecognitionHolds, RecognitionUnique, StrictOrder, ListingHolds, ListingUnique, FloorHolds, LaterEventHolds, ReferencesHold, SerialsHold, HistoryHolds, JointHolds}
+use Rattle.model.specs.Consistency.{isConsistent}
+use Rattle.model.specs.Statements.{Reads, RecognitionHolds, RecognitionUnique, StrictOrder, ListingHolds, ListingUnique, FloorHolds, LaterEventHolds, ReferencesHold, SerialsHold, HistoryHolds, ConsistencyHolds}
 use Rattle.model.proofs.Sorted.{same, T-em}
 use Rattle.model.proofs.Order.{before-irrefl, before-trans, before-total}
 use Rattle.model.proofs.Local.{Chart, chart-lower}
@@ -26,7 +26,7 @@ use Rattle.model.proofs.Closing.{listing-lists}
 use Rattle.model.proofs.Listing.{listing-floor}
 use Rattle.model.proofs.History.{good-run, good-opening, opening-shown, history-from}
 use Rattle.model.proofs.Follow.{reads}
-use Rattle.model.proofs.Joint.{good-joint}
+use Rattle.model.proofs.Consistency.{good-consistent}
 
 pub recognition-is : RecognitionHolds
 recognition-is chart h = recognition-line chart (chart-lower 0 chart h)
@@ -82,7 +82,7 @@ history chart h capacity o calls =
     let r = history-from chart c capacity calls ((opening o) .state) (good-opening chart c capacity o) in
     record { opened = ap (λ a. a .number) e; state = ap (λ a. run (watchStep chart capacity) (a .state) calls) e ∙ r .0; answers = ap (λ a. numbersOf (watchStep chart capacity) (a .state) calls) e ∙ r .1 }
 
-pub in-joint : JointHolds
-in-joint chart h capacity o calls =
+pub consistent : ConsistencyHolds
+consistent chart h capacity o calls =
     let c : Chart 0 chart = chart-lower 0 chart h in
-    →holds _ (ap (isInJoint chart capacity) (history chart h capacity o calls .state) ∙ good-joint chart c capacity (run (step chart capacity) ((opening o) .state) calls) (good-run chart c capacity calls ((opening o) .state) (good-opening chart c capacity o)))
+    →holds _ (ap (isConsistent chart capacity) (history chart h capacity o calls .state) ∙ good-consistent chart c capacity (run (step chart capacity) ((opening o) .state) calls) (good-run chart c capacity calls ((opening o) .state) (good-opening chart c capacity o)))

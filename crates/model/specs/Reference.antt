@@ -1,13 +1,12 @@
 -- The reference model, which document 01 calls the book: "fed the chart, the code or instant of each call and the number of rows the
 -- table can hold; no answer, and nothing out of watch or table".
 use Prim.Native.Nat.{ℕ, suc}
-use mathlib.Core.Bool.{Bool, cond, not, _||_}
+use mathlib.Core.Bool.{Bool, cond}
 use mathlib.Core.List.{List, [], _∷_, _++_}
 use lib.Dec.{ltb, leb}
-use lib.IntN.{ℤ, pos, negsuc}
+use lib.IntN.{ℤ, pos}
 use lib.ListN.{length}
-use lib.Signed.{ltZ, leZ}
-use Rattle.interval.specs.Instants.{isInstant, eqZ}
+use Rattle.interval.specs.Instants.{isInstant, firstFloor, isMarkRefused, isForgetRefused, eqZ}
 use Rattle.model.specs.Lists.{keep}
 use Rattle.model.specs.Recognitions.{Event, Operator}
 use Rattle.model.specs.Order.{Row, listing, asRows}
@@ -31,10 +30,6 @@ accepted s = record { number = 0; state = s }
 
 abbrev pub refused : {S : Type 0} → ℕ → S → Answer S
 refused n s = record { number = n; state = s }
-
--- "a floor (at first -1,000,000,000)"
-abbrev pub firstFloor : ℤ
-firstFloor = negsuc 999999999
 
 -- "Accepted opening at o: open instant o, floor -1,000,000,000, no events."
 -- Refused, 8, "an opening instant out of range": "an empty watch at instant 0: floor -1,000,000,000, counts 0, no events".
@@ -61,14 +56,14 @@ eventStep m k =
 -- or later are more than the rows the table can hold; else t is the open instant."
 unfoldable pub clockStep : List Operator → ℕ → Model → ℤ → Answer Model
 clockStep chart capacity m t =
-    cond (not (isInstant t) || leZ t (m .openInstant)) (refused 8 m)
+    cond (isMarkRefused (m .openInstant) t) (refused 8 m)
     (cond (ltb capacity (length (listing chart (m .events) (m .floor) t))) (refused 12 m)
     (accepted (model t (m .floor) (m .events))))
 
 -- "Forget f: 11 if below the floor, above the open instant or out of range; else f is the floor."
 unfoldable pub forgetStep : Model → ℤ → Answer Model
 forgetStep m f =
-    cond (ltZ f (m .floor) || (ltZ (m .openInstant) f || not (isInstant f))) (refused 11 m)
+    cond (isForgetRefused (m .floor) (m .openInstant) f) (refused 11 m)
     (accepted (model (m .openInstant) f (m .events)))
 
 abbrev pub step : List Operator → ℕ → Model → Call → Answer Model

@@ -1,20 +1,20 @@
 -- What the watch does on rows: opening, an event, closing an instant, forgetting. Nothing here has to be believed for the reference
 -- model; the theorems say that these steps give the reference model's rows and numbers.
 use Prim.Native.Nat.{ℕ, zero, suc, _-_}
-use mathlib.Core.Bool.{Bool, true, false, cond, not, _||_}
+use mathlib.Core.Bool.{Bool, true, false, cond, not}
 use mathlib.Core.List.{List, [], _∷_, _++_, map}
 use lib.Dec.{eqb, ltb, leb}
 use lib.IntN.{ℤ, pos, negsuc}
 use lib.ListN.{length, getD, take}
-use lib.Signed.{ltZ, leZ}
-use Rattle.interval.specs.Instants.{isInstant, eqZ, least, greatest}
+use lib.Signed.{leZ}
+use Rattle.interval.specs.Instants.{isInstant, firstFloor, isMarkRefused, isForgetRefused, eqZ, least, greatest}
 use Rattle.interval.specs.Conditions.{isRelated, isForbidding, hasLength}
 use Rattle.interval.specs.declared.Relation.{Relation}
 use Rattle.interval.specs.declared.Edges.{Edges}
 use Rattle.model.specs.Lists.{keep, some, each, numbers}
 use Rattle.model.specs.Recognitions.{Event, Operator, event, related, or, absence, lasting, Arm, only, left, right}
 use Rattle.model.specs.Order.{Row, row, none, leftOf, rightOf}
-use Rattle.model.specs.Reference.{Model, Answer, accepted, refused, firstFloor, Call, isAt, rowsOf}
+use Rattle.model.specs.Reference.{Model, Answer, accepted, refused, Call, isAt, rowsOf}
 
 -- One step of a recognition over parts of any kind, recognitions or row numbers: an event's serial and instant; a part with its arm; two parts.
 pub data Node (A : Type 0) : Type 0 where
@@ -90,20 +90,18 @@ unfoldable pub extendRows : List Event → List Rule → List Row → List Row
 extendRows es [] rs = rs
 extendRows es (j ∷ js) rs = extendRows es js (rs ++ derivedRows j es rs)
 
--- Closing the instant o, es being its events: entry by entry, the rows that end at o are appended.
+-- Closing the instant o, es being its events: entry by entry, the rows that end at o are appended. They are the *due* rows of document 01 that
+-- are not in the table yet.
 abbrev pub endsAt : ℤ → ℤ → ℤ → Bool
 endsAt o s e = eqZ e o
 
 unfoldable pub closeRows : ℤ → List Event → List Operator → List Row → List Row
 closeRows o es chart rs = extendRows es (rules (endsAt o) 0 chart) rs
 
--- Forgetting at f: the rows that start at f or later stay in their order, and their references are renumbered.
-abbrev pub isLate : ℤ → Row → Bool
-isLate f r = leZ f (r .start)
-
--- where row i goes: as many rows stay before it
-abbrev pub moved : ℤ → List Row → ℕ → ℕ
-moved f rs i = length (keep (isLate f) (take i rs))
+-- Keeping the rows that pass a test: they stay in their order, and their references are renumbered. Where row i goes: as many rows are
+-- kept before it.
+abbrev pub placed : (Row → Bool) → List Row → ℕ → ℕ
+placed test rs i = length (keep test (take i rs))
 
 abbrev pub renumber : (ℕ → ℕ) → ℤ → ℤ
 renumber g (pos i) = pos (g i)
@@ -122,11 +120,21 @@ isEventAt [] n = false
 isEventAt (op ∷ ops) zero = isEvent op
 isEventAt (op ∷ ops) (suc n) = isEventAt ops n
 
-abbrev pub renumbered : List Operator → ℤ → List Row → Row → Row
-renumbered chart f rs r = cond (isEventAt chart (r .entry)) r (row (r .entry) (renumber (moved f rs) (r .left)) (renumber (moved f rs) (r .right)) (r .start) (r .end))
+abbrev pub renumberedBy : List Operator → (Row → Bool) → List Row → Row → Row
+renumberedBy chart test rs r = cond (isEventAt chart (r .entry)) r (row (r .entry) (renumber (placed test rs) (r .left)) (renumber (placed test rs) (r .right)) (r .start) (r .end))
+
+unfoldable pub keepRows : List Operator → (Row → Bool) → List Row → List Row
+keepRows chart test rs = map (renumberedBy chart test rs) (keep test rs)
+
+-- Forgetting at f: the rows that start at f or later are kept.
+abbrev pub isLate : ℤ → Row → Bool
+isLate f r = leZ f (r .start)
+
+abbrev pub moved : ℤ → List Row → ℕ → ℕ
+moved f rs i = placed (isLate f) rs i
 
 unfoldable pub forgetRows : List Operator → ℤ → List Row → List Row
-forgetRows chart f rs = map (renumbered chart f rs) (keep (isLate f) rs)
+forgetRows chart f rs = keepRows chart (isLate f) rs
 
 -- "A watch has an open instant, a floor, a count of events, a count of rows and the events of the open instant": the codes of
 -- these, and the rows themselves
@@ -162,13 +170,13 @@ watchEvent w k =
 
 unfoldable pub watchClock : List Operator → ℕ → Watch → ℤ → Answer Watch
 watchClock chart capacity w t =
-    cond (not (isInstant t) || leZ t (w .openInstant)) (refused 8 w)
+    cond (isMarkRefused (w .openInstant) t) (refused 8 w)
     (cond (ltb capacity (length (closedRows chart w))) (refused 12 w)
     (accepted (watch t (w .floor) (w .count) [] (closedRows chart w))))
 
 unfoldable pub watchForget : List Operator → Watch → ℤ → Answer Watch
 watchForget chart w f =
-    cond (ltZ f (w .floor) || (ltZ (w .openInstant) f || not (isInstant f))) (refused 11 w)
+    cond (isForgetRefused (w .floor) (w .openInstant) f) (refused 11 w)
     (accepted (watch (w .openInstant) f (w .count) (w .pending) (forgetRows chart f (w .rows))))
 
 abbrev pub watchStep : List Operator → ℕ → Watch → Call → Answer Watch

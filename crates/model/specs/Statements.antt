@@ -13,7 +13,7 @@ use Rattle.model.specs.Recognitions.{Event, Operator, event, related, or
 use Rattle.model.specs.Order.{before, listing, Row, row, none, leftOf, rightOf, asRows}
 use Rattle.model.specs.Reference.{Model, Call, opening, step, run, numbersOf}
 use Rattle.model.specs.RowSteps.{rowAt, watchOpening, watchStep, shown}
-use Rattle.model.specs.Joint.{isInJoint}
+use Rattle.model.specs.Consistency.{isConsistent}
 
 -- x stands in the list
 infix 50 _∈_
@@ -117,6 +117,6 @@ pub record History (chart : List Operator) (capacity : ℕ) (o : ℤ) (calls : L
 abbrev pub HistoryHolds : Type 0
 HistoryHolds = (chart : List Operator) → T (areLower 0 chart) → (capacity : ℕ) (o : ℤ) (calls : List Call) → History chart capacity o calls
 
--- The watch on rows of every history is in joint.
-abbrev pub JointHolds : Type 0
-JointHolds = (chart : List Operator) → T (areLower 0 chart) → (capacity : ℕ) (o : ℤ) (calls : List Call) → T (isInJoint chart capacity (run (watchStep chart capacity) ((watchOpening o) .state) calls))
+-- The watch on rows of every history is consistent.
+abbrev pub ConsistencyHolds : Type 0
+ConsistencyHolds = (chart : List Operator) → T (areLower 0 chart) → (capacity : ℕ) (o : ℤ) (calls : List Call) → T (isConsistent chart capacity (run (watchStep chart capacity) ((watchOpening o) .state) calls))

@@ -13,13 +13,14 @@ use borrow.Author.Tests.{le-leb, lt-leb}
 use Rattle.decimal.specs.Spelling.{spelled}
 use Rattle.model.specs.Order.{Row}
 use Rattle.table.specs.Table.{cellsOf, flat}
+use Rattle.table.proofs.Rows.{flat-on}
 use Rattle.printing.specs.Listing.{title, numbersText, rowText, rowTexts, listingText, tableRows, tableText, lengthWhere, outputWhere, listingFits, refusalFits}
 
 -- For callers. The rows of a table, and numbers behind them that are not printed.
 table-rows : (n : ℕ) (rs : List Row) (u : List ℤ) → tableRows n (length rs) (flat rs ++ u) ≡ rowTexts n rs
-unfolding tableRows rowTexts flat
+unfolding tableRows rowTexts
 table-rows n [] u = refl
-table-rows n (r ∷ rs) u = ap (λ (l : List ℕ). rowText n (cellsOf r) ++ l) (table-rows (suc n) rs u)
+table-rows n (r ∷ rs) u = rw (flat-on r rs) (ap (λ (l : List ℕ). rowText n (cellsOf r) ++ l) (table-rows (suc n) rs u))
 
 pub table-listing : (rs : List Row) (u : List ℤ) → tableText (length rs) (flat rs ++ u) ≡ listingText rs
 table-listing rs u = ap (λ (l : List ℕ). title ++ l) (table-rows _ rs u)

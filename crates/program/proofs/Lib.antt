@@ -7,4 +7,6 @@ pub mod Reading
 pub mod LogLines
 pub mod Printing
 pub mod Theorems
+pub mod Demands
 pub mod Listing
+pub mod Examples

@@ -1,33 +1,31 @@
 -- One line of the input as the code plays it, by the tests that lead to each answer; and the bytes moved to the front of a buffer.
 use Prim.Native.Nat.{ℕ, suc, _+_, _-_, _≤_, _<_, _^_}
 use native.Mathlib.Omega.{arith}
-use mathlib.Core.Path.{_≡_, refl, sym, ap, ap₂, _∙_, subst}
-use mathlib.Core.Bool.{Bool, true, false, cond, _||_}
+use mathlib.Core.Path.{_≡_, sym, ap, ap₂, _∙_, subst}
+use mathlib.Core.Logic.{inl}
+use mathlib.Core.Bool.{true, false, cond}
 use mathlib.Core.List.{List, [], _∷_, _++_}
-use borrow.Author.Tests.{leb-true, le-leb, lt-leb, lt-ltb, eq-eqb, ne-eqb, not-true, not-false}
-use lib.Dec.{eqb, leb}
-use lib.IntN.{ℤ, pos, negsuc}
+use borrow.Author.Tests.{le-leb, lt-leb, lt-ltb, eq-eqb, ne-eqb}
+use lib.Dec.{eqb}
+use lib.IntN.{ℤ}
 use lib.ListN.{length, take, drop, set, getD, length-append, length-drop}
 use lib.Seq.{length-take-le, take-suc, drop-cons, append-snoc, set-at, getD-append-add, getD-drop}
-use lib.Signed.{ltZ, leZ}
-use mir.Syntax.{w32}
-use mir.Val.{SFits}
 use Rattle.interval.specs.Instants.{isInstant}
-use Rattle.interval.proofs.Signed.{never, instant-told}
-use Rattle.interval.proofs.Machine.{is-fit32}
+use Rattle.interval.proofs.Signed.{never}
+use Rattle.interval.proofs.Laws.{refuses-mark, refuses-forget, out-of-range}
 use Rattle.text.specs.Text.{Line, whole}
-use Rattle.chart.specs.Records.{answerTo}
-use Rattle.chart.specs.Charts.{isUsable, readLines, addLine, noEntries, refusedChart, takenChart}
+use Rattle.chart.specs.Charts.{isUsable, readLines, addLine, noEntries, takenChart}
 use Rattle.chart.specs.declared.Chart.{Chart}
 use Rattle.chart.specs.declared.ChartAnswer.{ChartAnswer}
+use Rattle.chart.proofs.Lines.{line-added}
 use Rattle.log.specs.Log.{callOf}
 use Rattle.log.specs.declared.Call.{Call}
 use Rattle.log.specs.declared.Call.the-variants as log
-use Rattle.watch.specs.Steps.{Step, refusedStep, checkNumber, openingStep, eventOwn, eventStep, clockOwn, clockStep, forgetOwn, forgetStep}
-use Rattle.watch.specs.Histories.{call}
+use Rattle.watch.specs.Steps.{Step, refusedStep, checkNumber, openingStep, eventOwn, clockOwn, clockStep, forgetOwn, forgetStep}
 use Rattle.watch.specs.declared.Watch.{Watch}
 use Rattle.watch.specs.declared.Answer.{Answer}
-use Rattle.watch.proofs.Calls.{check-passed, clock-8, forget-11, opening-8, lt-not-le}
+use Rattle.watch.proofs.Calls.{clock-8, forget-11, opening-8}
+use Rattle.watch.proofs.Steps.{event-call, clock-call, forget-call, event-passed, clock-passed, forget-passed}
 use Rattle.program.specs.Outcomes.{callIn, isEmpty}
 use Rattle.program.specs.Runs.{Progress, refusedRun, nextRun, entryRun, chartEnd, stepped, openingLine, callStep, lineStep, afterLine, isRefused, isEarly, Holds, HasLines, restLength, restMoved}
 use Rattle.program.specs.declared.Run.{Run}
@@ -35,62 +33,39 @@ use Rattle.program.specs.declared.Stage.{Stage}
 use Rattle.program.specs.declared.Stage.the-variants.{Entries, Opening, Calls}
 use Rattle.program.proofs.Reaching.{read-good}
 
--- the range of the instants, by the tests of the code
-module _ (x : ℤ) where
-  pub instant-below : ltZ x (negsuc 999999999) ≡ true → false ≡ isInstant x
-  unfolding isInstant
-  instant-below e = rw (not-true (leZ (negsuc 999999999) x) (sym (lt-not-le x (negsuc 999999999)) ∙ e))
-
-  pub instant-from : ltZ x (negsuc 999999999) ≡ false → leZ x (pos 1000000000) ≡ isInstant x
-  unfolding isInstant
-  instant-from e = rw (not-false (leZ (negsuc 999999999) x) (sym (lt-not-le x (negsuc 999999999)) ∙ e))
-
--- an instant is an i32
-pub instant-fits : (x : ℤ) → isInstant x ≡ true → SFits w32 x
-instant-fits x e = is-fit32 x (omega (arith, instant-told x e))
-
 abbrev step : Answer → List ℤ → Step
 step a t = record { answer = a; table = t }
 
 abbrev progressOf : Run → List ℤ → Progress
 progressOf r t = record { run = r; table = t }
 
-or-last : (a b : Bool) → (a || (b || true)) ≡ true
-or-last true b = refl
-or-last false true = refl
-or-last false false = refl
-
--- the calls on a watch and table in joint
+-- the calls on a consistent watch and table
 module _ (chart : Chart) (w : Watch) (t : List ℤ) (z : checkNumber chart w t ≡ 0) where
   pub clock-out : (x : ℤ) → isInstant x ≡ false → refusedStep 8 w t ≡ clockStep chart w t x
-  unfolding clockStep
-  clock-out x e = sym (check-passed chart w t (clockOwn chart w t x) z ∙ clock-8 chart w t x (rw e))
+  clock-out x e = sym (clock-passed chart w t z x ∙ clock-8 chart w t x (refuses-mark (w .instant) x (inl e)))
 
   pub forget-out : (f : ℤ) → isInstant f ≡ false → refusedStep 11 w t ≡ forgetStep chart w t f
-  unfolding forgetStep
-  forget-out f e = sym (check-passed chart w t (forgetOwn chart w t f) z ∙ forget-11 chart w t f (rw e (or-last (ltZ f (w .floor)) (ltZ (w .instant) f))))
+  forget-out f e = sym (forget-passed chart w t z f ∙ forget-11 chart w t f (refuses-forget (w .floor) (w .instant) f (out-of-range e)))
 
   pub clock-in : (x : ℤ) (a : Answer) (u : List ℤ) → (a ≡ (clockOwn chart w t x) .answer) × (u ≡ (clockOwn chart w t x) .table) → step a u ≡ clockStep chart w t x
-  unfolding clockStep
-  clock-in x a u h = ap₂ step (h .0) (h .1) ∙ sym (check-passed chart w t (clockOwn chart w t x) z)
+  clock-in x a u h = ap₂ step (h .0) (h .1) ∙ sym (clock-passed chart w t z x)
 
   pub forget-in : (f : ℤ) (a : Answer) (u : List ℤ) → (a ≡ (forgetOwn chart w t f) .answer) × (u ≡ (forgetOwn chart w t f) .table) → step a u ≡ forgetStep chart w t f
-  unfolding forgetStep
-  forget-in f a u h = ap₂ step (h .0) (h .1) ∙ sym (check-passed chart w t (forgetOwn chart w t f) z)
+  forget-in f a u h = ap₂ step (h .0) (h .1) ∙ sym (forget-passed chart w t z f)
 
   -- a line of the log after its opening
   pub call-event : (d : Call) (k : ℕ) (a : Answer) → d ≡ log.Event k → a ≡ eventOwn w k → step a t ≡ callStep chart (record { watch = w; table = t }) d
-  unfolding callStep call eventStep
-  call-event d k a e h = rw e (ap (λ x. step x t) h ∙ sym (check-passed chart w t (step (eventOwn w k) t) z))
+  unfolding callStep
+  call-event d k a e h = rw e (ap (λ x. step x t) h ∙ sym (event-passed chart w t z k) ∙ sym (event-call chart (record { watch = w; table = t }) k))
 
 module _ (chart : Chart) (w : Watch) (t : List ℤ) (d : Call) (a : Answer) (u : List ℤ) where
   pub call-clock : (x : ℤ) → d ≡ log.Clock x → step a u ≡ clockStep chart w t x → step a u ≡ callStep chart (record { watch = w; table = t }) d
-  unfolding callStep call
-  call-clock x e h = rw e h
+  unfolding callStep
+  call-clock x e h = rw e (h ∙ sym (clock-call chart (record { watch = w; table = t }) x))
 
   pub call-forget : (f : ℤ) → d ≡ log.Forget f → step a u ≡ forgetStep chart w t f → step a u ≡ callStep chart (record { watch = w; table = t }) d
-  unfolding callStep call
-  call-forget f e h = rw e h
+  unfolding callStep
+  call-forget f e h = rw e (h ∙ sym (forget-call chart (record { watch = w; table = t }) f))
 
 module _ (chart : Chart) (w : Watch) (t : List ℤ) (d : Call) where
   pub call-malformed : d ≡ log.Malformed → refusedStep 7 w t ≡ callStep chart (record { watch = w; table = t }) d
@@ -154,18 +129,6 @@ module _ (r q : Run) (s : List ℕ) where
   pub chart-ends : length s ≡ 0 → (r .chart .count ≡ 0 → ⊥) → q ≡ nextRun r Opening (r .chart) (r .watch) → q ≡ entriesRun r s
   unfolding chartEnd
   chart-ends e z h = rw (eq-eqb (length s) 0 e, ne-eqb (r .chart .count) 0 z) h
-
--- the chart takes or refuses a 33rd line and every earlier one as the reader of lines does
-line-added : (c : Chart) (s : List ℕ) → c .count ≤ 32 → addLine c s ≡ readLines c (whole s ∷ [])
-unfolding addLine readLines answerTo
-line-added c s h = go (leb 32 (c .count)) refl
-  where
-    go : (b : Bool) → leb 32 (c .count) ≡ b → cond b (refusedChart 2 33) (readLines c (whole s ∷ [])) ≡ readLines c (whole s ∷ [])
-    go true e =
-        let k = leb-true 32 (c .count) e in
-        let n : c .count ≡ 32 = omega arith in
-        rw n
-    go false e = refl
 
 module _ (r q : Run) (s : List ℕ) (a : ChartAnswer) (few : r .chart .count ≤ 32) (e : a ≡ addLine (r .chart) s) (some : length s ≡ 0 → ⊥) where
   to-entry : entryRun r a ≡ entriesRun r s

@@ -1,20 +1,40 @@
 -- An input in one piece: what `list` answers and writes.
 use Prim.Native.Nat.{ℕ, _+_, _*_, _-_, _≤_, _<_}
+use native.Mathlib.Omega.{arith}
 use mathlib.Core.Path.{_≡_, sym, ap, _∙_}
 use mathlib.Core.Bool.{true, false}
 use mathlib.Core.List.{List, [], _∷_, _++_, append-nil}
 use borrow.Author.Tests.{le-leb, lt-leb}
-use lib.Dec.{leb}
 use lib.IntN.{ℤ}
-use lib.ListN.{length, drop, length-drop}
-use Rattle.printing.specs.Listing.{lengthWhere, outputWhere}
+use lib.ListN.{length, take, drop, length-drop, length-append}
+use Rattle.printing.proofs.Laws.{length-room, output-room, length-no-room, output-no-room, front-is-text}
 use Rattle.watch.specs.Steps.{roomIn}
 use Rattle.program.specs.Outcomes.{printedFor}
-use Rattle.program.specs.Runs.{Progress, startRun, afterBytes, keptOf, fed, fedAll, finishedRun, printedLength, printedOutput}
+use Rattle.program.specs.Runs.{Progress, startRun, afterBytes, keptOf, fed, fedAll, finished, finishedRun, printedLength, printedOutput}
 use Rattle.program.specs.Statements.{joined, wholeRun, hasRoom, listedLength, listedOutput, listedTable}
 use Rattle.program.specs.declared.Run.{Run}
+use Rattle.program.proofs.Pieces.{between, pieces-joined}
 use Rattle.program.proofs.Reading.{finished-run}
 use Rattle.program.proofs.Theorems.{program-holds}
+
+one : (input : List ℕ) → joined (input ∷ []) ≡ input
+unfolding joined
+one input = append-nil input
+
+module _ (t : List ℤ) (out : List ℕ) where
+  pub has-room : 40 + roomIn t * 81 ≤ length out → hasRoom t out ≡ true
+  unfolding hasRoom
+  has-room h = le-leb (40 + roomIn t * 81) (length out) h
+
+  has-no-room : length out < 40 + roomIn t * 81 → hasRoom t out ≡ false
+  unfolding hasRoom
+  has-no-room h = lt-leb (40 + roomIn t * 81) (length out) h
+
+-- pieces, and the same in one
+pub one-run : (t : List ℤ) (pieces : List (List ℕ)) → wholeRun t (joined pieces ∷ []) ≡ wholeRun t pieces
+one-run t pieces =
+    let p : Progress = record { run = startRun; table = t } in
+    ap (λ b. finished (b .progress) (b .kept)) (pieces-joined p (joined pieces ∷ []) ∙ ap (between p) (one (joined pieces)) ∙ sym (pieces-joined p pieces))
 
 module _ (input : List ℕ) (t : List ℤ) where
   abbrev first : Progress
@@ -29,17 +49,23 @@ module _ (input : List ℕ) (t : List ℤ) where
       finished-run p (keptOf p input) ∙ ap (λ m. record { run = finishedRun (p .run) m; table = p .table }) n ∙ ap (λ x. record { run = finishedRun (x .run) (length input - used); table = x .table }) (sym e)
 
   module _ (out : List ℕ) where
-    pub list-none : length out < 40 + roomIn t * 81 → (0 ≡ listedLength input t out) × (t ≡ listedTable input t out) × (out ≡ listedOutput input t out)
-    unfolding listedLength listedTable listedOutput hasRoom lengthWhere outputWhere
-    list-none h = let e : leb (40 + roomIn t * 81) (length out) ≡ false = lt-leb (40 + roomIn t * 81) (length out) h in (rw e, rw e, rw e)
+    abbrev text : List ℕ
+    text = printedFor (roomIn t) input
 
-    one : joined (input ∷ []) ≡ input
-    unfolding joined
-    one = append-nil input
+    pub list-none : length out < 40 + roomIn t * 81 → (0 ≡ listedLength input t out) × (t ≡ listedTable input t out) × (out ≡ listedOutput input t out)
+    unfolding listedLength listedTable listedOutput
+    list-none h = let e = has-no-room t out h in (sym (length-no-room (hasRoom t out) text out e), rw e, sym (output-no-room (hasRoom t out) text out e))
 
     pub list-all : 40 + roomIn t * 81 ≤ length out → (w : Progress) → wholeRun t (input ∷ []) ≡ w → (printedLength (w .run) (w .table) out ≡ listedLength input t out) × (w .table ≡ listedTable input t out) × (printedOutput (w .run) (w .table) out ≡ listedOutput input t out)
-    unfolding listedLength listedTable listedOutput hasRoom lengthWhere outputWhere
+    unfolding listedLength listedTable listedOutput
     list-all h w e =
-        let y : leb (40 + roomIn t * 81) (length out) ≡ true = le-leb (40 + roomIn t * 81) (length out) h in
+        let y = has-room t out h in
         let g = program-holds t (input ∷ []) out h in
-        (rw y (ap (λ x. printedLength (x .run) (x .table) out) (sym e) ∙ g .bytes ∙ ap (λ x. length (printedFor (roomIn t) x)) one), rw y (ap (λ x. x .table) (sym e)), rw y (ap (λ x. printedOutput (x .run) (x .table) out) (sym e) ∙ g .output ∙ ap (λ x. printedFor (roomIn t) x ++ drop (length (printedFor (roomIn t) x)) out) one))
+        (ap (λ x. printedLength (x .run) (x .table) out) (sym e) ∙ g .bytes ∙ ap (λ x. length (printedFor (roomIn t) x)) (one input) ∙ sym (length-room (hasRoom t out) text out y), rw y (ap (λ x. x .table) (sym e)), ap (λ x. printedOutput (x .run) (x .table) out) (sym e) ∙ g .output ∙ ap (λ x. printedFor (roomIn t) x ++ drop (length (printedFor (roomIn t) x)) out) (one input) ∙ sym (output-room (hasRoom t out) text out y))
+
+    -- what stands at the front of the output
+    pub list-front : 40 + roomIn t * 81 ≤ length out → (listedLength input t out ≤ length (listedOutput input t out)) × (take (listedLength input t out) (listedOutput input t out) ≡ text)
+    unfolding listedLength listedOutput
+    list-front h =
+        let y = has-room t out h in
+        (rw (length-room (hasRoom t out) text out y, output-room (hasRoom t out) text out y) (omega (arith, length-append text (drop (length text) out))), front-is-text (hasRoom t out) text out y)

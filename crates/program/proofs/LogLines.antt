@@ -13,7 +13,7 @@ use Rattle.chart.specs.declared.Chart.{Chart}
 use Rattle.watch.specs.Steps.{checkNumber}
 use Rattle.watch.specs.declared.Answer.{Answer}
 use Rattle.watch.specs.declared.Watch.{Watch}
-use Rattle.watch.proofs.History.{history-in-joint}
+use Rattle.watch.proofs.History.{history-consistent}
 use Rattle.log.specs.Log.{callOf}
 use Rattle.program.specs.Outcomes.{callIn}
 use Rattle.program.specs.Runs.{Progress, refusedRun, nextRun, stepped, callStep, lineStep, afterLine, isRefused, Holds, Reached, Read, callsRun}
@@ -35,10 +35,10 @@ pub playing-goes : (c : Chart) (w : Watch) (line : ℕ) → isRefused (callsRun 
 unfolding isRefused callsRun
 playing-goes c w line = refl
 
--- watch and table are in joint
-pub playing-joint : (c : Chart) (w : Watch) (line : ℕ) (t : List ℤ) → Reached (playing c w line t) → checkNumber c w t ≡ 0
+-- watch and table are consistent
+pub playing-consistent : (c : Chart) (w : Watch) (line : ℕ) (t : List ℤ) → Reached (playing c w line t) → checkNumber c w t ≡ 0
 unfolding Holds callsRun
-playing-joint c w line t (z, usable, h) = ap (λ s. checkNumber c (s .watch) (s .table)) (h .same) ∙ history-in-joint c usable (h .before) (h .opened) (h .inRange) (h .calls)
+playing-consistent c w line t (z, usable, h) = ap (λ s. checkNumber c (s .watch) (s .table)) (h .same) ∙ history-consistent c usable (h .before) (h .opened) (h .inRange) (h .calls)
 
 -- one line, by the answer to its call
 module _ (c : Chart) (w : Watch) (line : ℕ) (t : List ℤ) (s : List ℕ) (short : length s < 64) (a : Answer) (u : List ℤ) (e : record { answer = a; table = u } ≡ callStep c (record { watch = w; table = t }) (callOf s)) where

@@ -9,12 +9,13 @@ use lib.Dec.{eqb, leb, ltb}
 use lib.ListN.{length, length-append}
 use Rattle.interval.proofs.Signed.{never}
 use Rattle.text.specs.Text.{Line, whole, broken, inFront, split, ended, lines, isRecord}
-use Rattle.text.proofs.Laws.{split-some}
-use Rattle.chart.specs.Charts.{readLines, refusedChart}
-use Rattle.chart.specs.Records.{answerTo}
+use Rattle.text.proofs.Laws.{split-some, split-empty, split-byte, glued, split-append, lines-parts}
+use Rattle.chart.specs.Charts.{readLines}
+use Rattle.chart.proofs.Lines.{refused-number, refused-line, read-unformed}
 use Rattle.program.specs.Outcomes.{isEmpty, callIn}
-use Rattle.program.specs.Runs.{Progress, refusedRun, entryRun, stepped, openingLine, callStep, lineStep, afterLine, afterParts, afterBytes, lastPart, isRefused, keptOf, endRun, finished, Between, fed, fedAll}
+use Rattle.program.specs.Runs.{Progress, refusedRun, unformedRun, entryRun, stepped, openingLine, callStep, lineStep, afterLine, afterParts, afterBytes, lastPart, isRefused, keptOf, endRun, finished, Between, fed, fedAll}
 use Rattle.program.specs.Statements.{joined}
+use Rattle.program.specs.declared.Run.{Run}
 use Rattle.program.specs.declared.Stage.{Stage}
 use Rattle.program.specs.declared.Stage.the-variants.{Entries, Opening, Calls, Refused}
 
@@ -69,25 +70,40 @@ not-empty l e = go (l .ended) (length (l .bytes)) e
     go false n d = refl
 
 pub same-unformed : (p : Progress) (l : Line) → isRecord l ≡ false → afterLine p l ≡ afterLine p unformed
-unfolding lineStep readLines answerTo callIn
+unfolding lineStep callIn
 same-unformed p l e = go (p .run .stage)
   where
     go : (s : Stage) → lineStep s (p .run) (p .table) l ≡ lineStep s (p .run) (p .table) unformed
-    go Entries = rw (not-empty l e, e)
+    go Entries = rw (not-empty l e, read-unformed (p .run .chart) l [] e, read-unformed (p .run .chart) unformed [] refl)
     go Opening = rw e
     go Calls = rw e
     go Refused = refl
 
-pub unformed-stopped : (p : Progress) → Stopped (afterLine p unformed)
-unfolding lineStep isRefused readLines answerTo callIn entryRun openingLine callStep stepped refusedRun refusedChart
-unformed-stopped p = go (p .run .stage) refl
+-- what it makes of a run
+unformed-entry : (r : Run) → entryRun r (readLines (r .chart) (unformed ∷ [])) ≡ refusedRun r (cond (eqb (r .chart .count) 32) 2 3) (r .chart .count + 1)
+unfolding entryRun
+unformed-entry r = rw (read-unformed (r .chart) unformed [] refl, refused-number, refused-line) (go (eqb (r .chart .count) 32) _ (λ n. refusedRun r n (r .chart .count + 1)))
   where
-    entries : (b : Bool) → eqb (p .run .chart .count) 32 ≡ b → isRefused ((lineStep Entries (p .run) (p .table) unformed) .run .stage) ≡ true
-    entries true e = rw e
-    entries false e = rw e
+    go : (b : Bool) (x : Run) (f : ℕ → Run) → cond (eqb (cond b 2 3) 0) x (f (cond b 2 3)) ≡ f (cond b 2 3)
+    go true x f = refl
+    go false x f = refl
 
-    go : (s : Stage) → p .run .stage ≡ s → isRefused ((lineStep s (p .run) (p .table) unformed) .run .stage) ≡ true
-    go Entries e = entries (eqb (p .run .chart .count) 32) refl
+pub unformed-run : (p : Progress) → afterLine p unformed ≡ record { run = unformedRun (p .run .stage) (p .run); table = p .table }
+unfolding lineStep callIn openingLine callStep stepped unformedRun
+unformed-run p = go (p .run .stage)
+  where
+    go : (s : Stage) → lineStep s (p .run) (p .table) unformed ≡ record { run = unformedRun s (p .run); table = p .table }
+    go Entries = ap (λ x. record { run = x; table = p .table }) (unformed-entry (p .run))
+    go Opening = refl
+    go Calls = refl
+    go Refused = refl
+
+pub unformed-stopped : (p : Progress) → Stopped (afterLine p unformed)
+unfolding isRefused unformedRun refusedRun
+unformed-stopped p = ap (λ x. isRefused (x .run .stage)) (unformed-run p) ∙ go (p .run .stage) refl
+  where
+    go : (s : Stage) → p .run .stage ≡ s → isRefused (unformedRun s (p .run) .stage) ≡ true
+    go Entries e = refl
     go Opening e = refl
     go Calls e = refl
     go Refused e = ap isRefused e
@@ -102,37 +118,14 @@ broken-stopped p s = ap (λ x. isRefused (x .run .stage)) (same-unformed p (brok
 pub whole-long : (p : Progress) (s u : List ℕ) → 64 ≤ length s → afterLine p (whole s) ≡ afterLine p (broken u)
 whole-long p s u h = same-unformed p (whole s) (le-ltb (length s) 64 h) ∙ sym (same-unformed p (broken u) refl)
 
--- The parts of a text put together of two: the last part of the first goes on with the first part of the second.
-abbrev glued : List (List ℕ) → List (List ℕ) → List (List ℕ)
-glued [] qs = qs
-glued (s ∷ []) [] = s ∷ []
-glued (s ∷ []) (q ∷ qs) = (s ++ q) ∷ qs
-glued (s ∷ r ∷ rs) qs = s ∷ glued (r ∷ rs) qs
-
-front-glued : (b : ℕ) (p : List ℕ) (ps : List (List ℕ)) (q : List ℕ) (qs : List (List ℕ)) → inFront b (glued (p ∷ ps) (q ∷ qs)) ≡ glued ((b ∷ p) ∷ ps) (q ∷ qs)
-front-glued b p [] q qs = refl
-front-glued b p (r ∷ rs) q qs = refl
-
-split-append : (x y : List ℕ) → split 10 (x ++ y) ≡ glued (split 10 x) (split 10 y)
-unfolding split
-split-append [] y = go (split-some 10 y)
-  where
-    go : (q : List ℕ) × (qs : List (List ℕ)) × (split 10 y ≡ q ∷ qs) → split 10 y ≡ glued ([] ∷ []) (split 10 y)
-    go (q, qs, e) = rw e
-split-append (b ∷ x) y = go (eqb b 10) (split-append x y) (split-some 10 x) (split-some 10 y)
-  where
-    go : (t : Bool) → split 10 (x ++ y) ≡ glued (split 10 x) (split 10 y) → (p : List ℕ) × (ps : List (List ℕ)) × (split 10 x ≡ p ∷ ps) → (q : List ℕ) × (qs : List (List ℕ)) × (split 10 y ≡ q ∷ qs) → cond t ([] ∷ split 10 (x ++ y)) (inFront b (split 10 (x ++ y))) ≡ glued (cond t ([] ∷ split 10 x) (inFront b (split 10 x))) (split 10 y)
-    go true f (p, ps, e) (q, qs, d) = rw (f, e)
-    go false f (p, ps, e) (q, qs, d) = rw (f, e, d) (front-glued b p ps q qs)
-
 -- what follows the last byte 10 has none
 split-last : (x : List ℕ) → split 10 (lastPart (split 10 x)) ≡ lastPart (split 10 x) ∷ []
-unfolding split lastPart
-split-last [] = refl
-split-last (b ∷ x) = go (eqb b 10) refl (split-some 10 x) (split-last x)
+unfolding lastPart
+split-last [] = rw (split-empty 10) (split-empty 10)
+split-last (b ∷ x) = rw (split-byte 10 b x) (go (eqb b 10) refl (split-some 10 x) (split-last x))
   where
     longer : (p : List ℕ) (ps : List (List ℕ)) → eqb b 10 ≡ false → split 10 (lastPart (p ∷ ps)) ≡ lastPart (p ∷ ps) ∷ [] → split 10 (lastPart ((b ∷ p) ∷ ps)) ≡ lastPart ((b ∷ p) ∷ ps) ∷ []
-    longer p [] e f = rw (e, f)
+    longer p [] e f = rw (split-byte 10 b p, e, f)
     longer p (r ∷ rs) e f = f
 
     go : (t : Bool) → eqb b 10 ≡ t → (p : List ℕ) × (ps : List (List ℕ)) × (split 10 x ≡ p ∷ ps) → split 10 (lastPart (split 10 x)) ≡ lastPart (split 10 x) ∷ [] → split 10 (lastPart (cond t ([] ∷ split 10 x) (inFront b (split 10 x)))) ≡ lastPart (cond t ([] ∷ split 10 x) (inFront b (split 10 x))) ∷ []
@@ -171,11 +164,11 @@ parts-glued p s (r ∷ u ∷ us) q qs = parts-glued (afterLine p (whole s)) r (u
 
 -- bytes that come later go on from what is kept
 kept-split : (p : Progress) (x : List ℕ) → split 10 (keptOf p x) ≡ keptParts p (split 10 x)
-unfolding keptOf split
+unfolding keptOf
 kept-split p x = go (isRefused (p .run .stage))
   where
     go : (b : Bool) → split 10 (cond b [] (lastPart (split 10 x))) ≡ cond b [] (lastPart (split 10 x)) ∷ []
-    go true = refl
+    go true = split-empty 10
     go false = split-last x
 
 bytes-append : (p : Progress) (x y : List ℕ) → afterBytes p (x ++ y) ≡ afterBytes (afterBytes p x) (keptOf (afterBytes p x) x ++ y)
@@ -186,7 +179,7 @@ bytes-append p x y = go (split-some 10 x) (split-some 10 y)
     k = keptOf (afterBytes p x) x
 
     go : (s : List ℕ) × (ss : List (List ℕ)) × (split 10 x ≡ s ∷ ss) → (q : List ℕ) × (qs : List (List ℕ)) × (split 10 y ≡ q ∷ qs) → afterParts p (split 10 (x ++ y)) ≡ afterParts (afterParts p (split 10 x)) (split 10 (k ++ y))
-    go (s, ss, e) (q, qs, d) = rw (split-append x y, split-append k y, kept-split (afterBytes p x) x, e, d) (parts-glued p s ss q qs)
+    go (s, ss, e) (q, qs, d) = rw (split-append 10 x y, split-append 10 k y, kept-split (afterBytes p x) x, e, d) (parts-glued p s ss q qs)
 
 pub bytes-stopped : (p : Progress) (y : List ℕ) → Stopped p → afterBytes p y ≡ p
 unfolding afterBytes
@@ -196,7 +189,7 @@ pub last-append : (x y : List ℕ) → lastPart (split 10 (lastPart (split 10 x)
 last-append x y = go (split-some 10 x) (split-some 10 y)
   where
     go : (s : List ℕ) × (ss : List (List ℕ)) × (split 10 x ≡ s ∷ ss) → (q : List ℕ) × (qs : List (List ℕ)) × (split 10 y ≡ q ∷ qs) → lastPart (split 10 (lastPart (split 10 x) ++ y)) ≡ lastPart (split 10 (x ++ y))
-    go (s, ss, e) (q, qs, d) = rw (split-append (lastPart (split 10 x)) y, split-append x y, split-last x, e, d) (sym (last-glued s ss q qs))
+    go (s, ss, e) (q, qs, d) = rw (split-append 10 (lastPart (split 10 x)) y, split-append 10 x y, split-last x, e, d) (sym (last-glued s ss q qs))
 
 kept-append : (p : Progress) (x y : List ℕ) → keptOf (afterBytes p (x ++ y)) (keptOf (afterBytes p x) x ++ y) ≡ keptOf (afterBytes p (x ++ y)) (x ++ y)
 unfolding keptOf
@@ -223,8 +216,8 @@ fed-all p x [] = ap (between p) (sym (append-nil x))
 fed-all p x (s ∷ ss) = ap (λ b. fedAll b ss) (fed-is p x s) ∙ fed-all p (x ++ s) ss ∙ ap (between p) (append-assoc x s (joined ss))
 
 nothing-yet : (p : Progress) → between p [] ≡ record { progress = p; kept = [] }
-unfolding afterBytes keptOf split afterParts lastPart
-nothing-yet p = ap (λ k. record { progress = p; kept = k }) (go (isRefused (p .run .stage)))
+unfolding afterBytes keptOf afterParts lastPart
+nothing-yet p = rw (split-empty 10) (ap (λ k. record { progress = p; kept = k }) (go (isRefused (p .run .stage))))
   where
     go : (b : Bool) → cond {A = List ℕ} b [] [] ≡ []
     go true = refl
@@ -264,8 +257,22 @@ finished-parts p (b ∷ s) [] = finished-last p b s
 finished-parts p s (r ∷ rs) = finished-parts (afterLine p (whole s)) r rs
 
 pub finished-lines : (p : Progress) (x : List ℕ) → finished (afterBytes p x) (keptOf (afterBytes p x) x) ≡ atEnd (afterLines p (lines x))
-unfolding afterBytes keptOf lines
-finished-lines p x = go (split-some 10 x)
+unfolding afterBytes keptOf
+finished-lines p x = rw (lines-parts x) (go (split-some 10 x))
   where
     go : (s : List ℕ) × (ss : List (List ℕ)) × (split 10 x ≡ s ∷ ss) → finished (afterParts p (split 10 x)) (cond (isRefused (afterParts p (split 10 x) .run .stage)) [] (lastPart (split 10 x))) ≡ atEnd (afterLines p (ended (split 10 x)))
     go (s, ss, e) = rw e (finished-parts p s ss)
+
+-- no piece, one piece, and a piece more
+pub fed-nothing : (b : Between) → fedAll b [] ≡ b
+unfolding fedAll
+fed-nothing b = refl
+
+pub fed-one : (b : Between) (piece : List ℕ) → fed b piece ≡ between (b .progress) (b .kept ++ piece)
+unfolding fed
+fed-one b piece = refl
+
+pub fed-more : (b : Between) (pieces : List (List ℕ)) (piece : List ℕ) → fedAll b (pieces ++ (piece ∷ [])) ≡ fed (fedAll b pieces) piece
+unfolding fedAll
+fed-more b [] piece = refl
+fed-more b (s ∷ ss) piece = fed-more (fed b s) ss piece

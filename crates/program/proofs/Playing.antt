@@ -1,5 +1,5 @@
 -- A run line by line comes to what the reference model gives for the same lines.
-use Prim.Native.Nat.{ℕ, suc, _+_, _*_, _-_, _≤_}
+use Prim.Native.Nat.{ℕ, suc, _+_, _-_, _≤_}
 use native.Mathlib.Omega.{arith}
 use native.Mathlib.Nat.{zero-add}
 use native.Mathlib.Numerals.{add-one}
@@ -9,38 +9,37 @@ use mathlib.Core.List.{List, [], _∷_, _++_}
 use borrow.Author.Tests.{eqb-true, eqb-false, ne-eqb}
 use lib.Dec.{eqb}
 use lib.IntN.{ℤ, pos}
-use lib.ListN.{length, drop}
+use lib.ListN.{length}
 use Rattle.interval.specs.Instants.{isInstant}
 use Rattle.text.specs.Text.{Line}
-use Rattle.chart.specs.Charts.{isUsable, readLines, orNoLine, noEntries, withEntry, refusedChart, takenChart}
+use Rattle.chart.specs.Charts.{isUsable, readLines, orNoLine, noEntries, withEntry, refusedChart}
 use Rattle.chart.specs.Records.{answerTo}
 use Rattle.chart.specs.declared.Chart.{Chart}
 use Rattle.chart.specs.declared.ChartAnswer.{ChartAnswer}
 use Rattle.chart.specs.declared.record.LineAnswer.{LineAnswer}
+use Rattle.chart.proofs.Lines.{no-entries-count, with-entry-count, refused-number, refused-line, or-none, or-some, read-none, read-more}
+use Rattle.chart.proofs.Usable.{Good, good-none, good-more, answer-fits, good-usable}
 use Rattle.model.specs.Recognitions.{Operator}
 use Rattle.model.specs.Reference as ref
 use Rattle.model.specs.Reference.{Model, rowsOf}
-use Rattle.model.specs.RowSteps.{shown}
-use Rattle.model.proofs.Theorems as model
+use Rattle.model.proofs.ReferenceLaws.{run-none, run-more, numbers-more, opening-accepted, opening-refused}
 use Rattle.table.specs.Operators.{operatorsOf}
 use Rattle.table.specs.Table.{rowsIn}
 use Rattle.watch.specs.Steps.{Step, roomIn, emptyWatch, openingStep}
-use Rattle.watch.specs.Histories.{State, state, call, after, answers, opened}
-use Rattle.watch.specs.Demands.{history, book}
+use Rattle.watch.specs.Histories.{State, call, answers, opened}
+use Rattle.watch.specs.Demands.{history, modelAfter}
 use Rattle.watch.specs.declared.Watch.{Watch}
 use Rattle.watch.proofs.Calls.{opening-8, opening-taken}
 use Rattle.watch.proofs.Demands.{demand-3}
-use Rattle.watch.proofs.History.{history-shown}
-use Rattle.watch.proofs.Lower.{usable-lower}
+use Rattle.watch.proofs.Steps.{after-none, after-more, answers-more}
 use Rattle.watch.proofs.Shown as watch
 use Rattle.log.specs.declared.Call.{Call}
 use Rattle.log.specs.declared.Call.the-variants as log
 use Rattle.program.specs.Outcomes.{Outcome, listed, refused, callIn, openingAnswer, callAnswer, playCalls, playLog, isEmpty, chartLines, logLines, playLines}
-use Rattle.program.specs.Runs.{Progress, progress, startRun, refusedRun, refusedAt, nextRun, entryRun, chartEnd, stepped, openingLine, callStep, stateOf, lineStep, endRun, outcomeOf, resultOf}
+use Rattle.program.specs.Runs.{Progress, progress, startRun, refusedRun, refusedAt, nextRun, entryRun, chartEnd, stepped, openingLine, callStep, lineStep, endRun, outcomeOf, resultOf}
 use Rattle.program.specs.declared.Run.{Run}
 use Rattle.program.specs.declared.Stage.the-variants.{Entries, Opening, Calls}
 use Rattle.program.proofs.Pieces.{atEnd, afterLines}
-use Rattle.chart.proofs.Usable.{Good, good-none, good-more, answer-fits, good-usable}
 
 -- what a run comes to after these lines and the end of the input
 abbrev pub comesTo : Progress → List Line → Outcome
@@ -52,34 +51,17 @@ unfolding afterLines endRun outcomeOf refusedRun lineStep
 comes-refused r t n line [] = refl
 comes-refused r t n line (l ∷ ls) = comes-refused r t n line ls
 
--- one call more at the end of a history
-pub after-more : (chart : Chart) (s : State) (cs : List ref.Call) (c : ref.Call) → after chart s (cs ++ c ∷ []) ≡ state (call chart (after chart s cs) c)
-unfolding after
-after-more chart s [] c = refl
-after-more chart s (d ∷ cs) c = after-more chart (state (call chart s d)) cs c
-
-run-more : (step : Model → ref.Call → ref.Answer Model) (m : Model) (cs : List ref.Call) (c : ref.Call) → ref.run step m (cs ++ c ∷ []) ≡ (step (ref.run step m cs) c) .state
-unfolding ref.run
-run-more step m [] c = refl
-run-more step m (d ∷ cs) c = run-more step ((step m d) .state) cs c
-
 -- the last of a list of numbers
 lastOf : List ℕ → ℕ
 lastOf [] = 0
 lastOf (n ∷ []) = n
 lastOf (n ∷ k ∷ ks) = lastOf (k ∷ ks)
 
-answers-last : (chart : Chart) (s : State) (cs : List ref.Call) (c : ref.Call) → lastOf (answers chart s (cs ++ c ∷ [])) ≡ (call chart (after chart s cs) c) .answer .refusal
-unfolding answers after lastOf
-answers-last chart s [] c = refl
-answers-last chart s (d ∷ []) c = refl
-answers-last chart s (d ∷ e ∷ cs) c = answers-last chart (state (call chart s d)) (e ∷ cs) c
-
-numbers-last : (step : Model → ref.Call → ref.Answer Model) (m : Model) (cs : List ref.Call) (c : ref.Call) → lastOf (ref.numbersOf step m (cs ++ c ∷ [])) ≡ (step (ref.run step m cs) c) .number
-unfolding ref.numbersOf ref.run lastOf
-numbers-last step m [] c = refl
-numbers-last step m (d ∷ []) c = refl
-numbers-last step m (d ∷ e ∷ cs) c = numbers-last step ((step m d) .state) (e ∷ cs) c
+last-is : (ns : List ℕ) (n : ℕ) → lastOf (ns ++ n ∷ []) ≡ n
+unfolding lastOf
+last-is [] n = refl
+last-is (k ∷ []) n = refl
+last-is (k ∷ j ∷ ks) n = last-is (j ∷ ks) n
 
 module _ (chart : Chart) (usable : isUsable chart ≡ true) (t : List ℤ) (o : ℤ) (inRange : isInstant o ≡ true) where
   abbrev ops : List Operator
@@ -89,23 +71,23 @@ module _ (chart : Chart) (usable : isUsable chart ≡ true) (t : List ℤ) (o : 
   step = ref.step ops (roomIn t)
 
   -- each call is answered as in the reference model
-  same-number : (cs : List ref.Call) (c : ref.Call) → (call chart (history chart t o cs) c) .answer .refusal ≡ (step (book chart t o cs) c) .number
-  same-number cs c = sym (answers-last chart (opened chart t o) cs c) ∙ ap lastOf ((demand-3 chart usable t o inRange (cs ++ c ∷ [])) .numbers) ∙ numbers-last step ((ref.opening o) .state) cs c
+  same-number : (cs : List ref.Call) (c : ref.Call) → (call chart (history chart t o cs) c) .answer .refusal ≡ (step (modelAfter chart t o cs) c) .number
+  same-number cs c =
+      let before = opened chart t o in
+      let m = (ref.opening o) .state in
+      let e = sym (answers-more chart before cs c) ∙ (demand-3 chart usable t o inRange (cs ++ c ∷ [])) .numbers ∙ numbers-more step m cs c in
+      sym (last-is (answers chart before cs) _) ∙ ap lastOf e ∙ last-is (ref.numbersOf step m cs) _
 
   -- the rows are its rows
-  same-rows : (cs : List ref.Call) → rowsIn ((history chart t o cs) .watch .rows) ((history chart t o cs) .table) ≡ rowsOf ops (book chart t o cs)
-  unfolding shown
-  same-rows cs =
-      let tail = drop (roomIn t * 5) t in
-      let e : history chart t o cs ≡ watch.stateOf (roomIn t) tail (shown ops (book chart t o cs)) = (history-shown chart usable t o inRange cs) .0 ∙ ap (watch.stateOf (roomIn t) tail) ((model.history ops (usable-lower chart usable) (roomIn t) o cs) .state) in
-      ap (λ s. rowsIn (s .watch .rows) (s .table)) e ∙ watch.rows-flat (rowsOf ops (book chart t o cs)) _
+  same-rows : (cs : List ref.Call) → rowsIn ((history chart t o cs) .watch .rows) ((history chart t o cs) .table) ≡ rowsOf ops (modelAfter chart t o cs)
+  same-rows cs = let d = demand-3 chart usable t o inRange cs in ap₂ rowsIn (d .rows) (d .table) ∙ watch.rows-flat (rowsOf ops (modelAfter chart t o cs)) _
 
   -- a run after the opening and these calls
   abbrev playing : ℕ → ℕ → List ref.Call → Progress
   playing n line cs = progress Calls n line chart ((history chart t o cs) .watch) ((history chart t o cs) .table)
 
   -- a line with a call of the reference model
-  one-call : (n line : ℕ) (cs : List ref.Call) (c : ref.Call) (ls : List Line) → comesTo (playing 0 (line + 1) (cs ++ c ∷ [])) ls ≡ playCalls ops (roomIn t) (book chart t o (cs ++ c ∷ [])) (suc (line + 1)) ls → comesTo (stepped (playing n line cs .run) (call chart (history chart t o cs) c)) ls ≡ cond (eqb ((step (book chart t o cs) c) .number) 0) (playCalls ops (roomIn t) ((step (book chart t o cs) c) .state) (suc (suc line)) ls) (refused ((step (book chart t o cs) c) .number) (suc line))
+  one-call : (n line : ℕ) (cs : List ref.Call) (c : ref.Call) (ls : List Line) → comesTo (playing 0 (line + 1) (cs ++ c ∷ [])) ls ≡ playCalls ops (roomIn t) (modelAfter chart t o (cs ++ c ∷ [])) (suc (line + 1)) ls → comesTo (stepped (playing n line cs .run) (call chart (history chart t o cs) c)) ls ≡ cond (eqb ((step (modelAfter chart t o cs) c) .number) 0) (playCalls ops (roomIn t) ((step (modelAfter chart t o cs) c) .state) (suc (suc line)) ls) (refused ((step (modelAfter chart t o cs) c) .number) (suc line))
   unfolding stepped nextRun
   one-call n line cs c ls on = rw (← same-number cs c) (go (eqb (x .answer .refusal) 0))
     where
@@ -115,11 +97,11 @@ module _ (chart : Chart) (usable : isUsable chart ≡ true) (t : List ℤ) (o : 
       r : Run
       r = playing n line cs .run
 
-      go : (b : Bool) → comesTo (cond b (record { run = nextRun r Calls chart (x .answer .watch); table = x .table }) (record { run = refusedRun r (x .answer .refusal) (line + 1); table = x .table })) ls ≡ cond b (playCalls ops (roomIn t) ((step (book chart t o cs) c) .state) (suc (suc line)) ls) (refused (x .answer .refusal) (suc line))
+      go : (b : Bool) → comesTo (cond b (record { run = nextRun r Calls chart (x .answer .watch); table = x .table }) (record { run = refusedRun r (x .answer .refusal) (line + 1); table = x .table })) ls ≡ cond b (playCalls ops (roomIn t) ((step (modelAfter chart t o cs) c) .state) (suc (suc line)) ls) (refused (x .answer .refusal) (suc line))
       go true = ap (λ s. comesTo (progress Calls 0 (line + 1) chart (s .watch) (s .table)) ls) (sym (after-more chart (opened chart t o) cs c)) ∙ on ∙ ap₂ (λ m k. playCalls ops (roomIn t) m (suc k) ls) (run-more step ((ref.opening o) .state) cs c) (add-one line)
       go false = comes-refused r (x .table) (x .answer .refusal) (line + 1) ls ∙ ap (refused (x .answer .refusal)) (add-one line)
 
-  pub calls-play : (n line : ℕ) (cs : List ref.Call) (ls : List Line) → comesTo (playing n line cs) ls ≡ playCalls ops (roomIn t) (book chart t o cs) (suc line) ls
+  pub calls-play : (n line : ℕ) (cs : List ref.Call) (ls : List Line) → comesTo (playing n line cs) ls ≡ playCalls ops (roomIn t) (modelAfter chart t o cs) (suc line) ls
   unfolding afterLines endRun outcomeOf playCalls lineStep callStep callAnswer stepped
   calls-play n line cs [] = ap listed (same-rows cs)
   calls-play n line cs (l ∷ ls) = go (callIn l) (λ c. one-call n line cs c ls (calls-play 0 (line + 1) (cs ++ c ∷ []) ls))
@@ -128,7 +110,7 @@ module _ (chart : Chart) (usable : isUsable chart ≡ true) (t : List ℤ) (o : 
       s = history chart t o cs
 
       m : Model
-      m = book chart t o cs
+      m = modelAfter chart t o cs
 
       r : Run
       r = playing n line cs .run
@@ -142,7 +124,7 @@ module _ (chart : Chart) (usable : isUsable chart ≡ true) (t : List ℤ) (o : 
 
 -- the log of a chart that a watch may use
 log-plays : (chart : Chart) → isUsable chart ≡ true → (n line : ℕ) (w : Watch) (t : List ℤ) (ls : List Line) → comesTo (progress Opening n line chart w t) ls ≡ playLog (operatorsOf chart) (roomIn t) (suc line) ls
-unfolding afterLines endRun outcomeOf playLog lineStep openingLine openingAnswer refusedRun stepped nextRun after ref.run ref.opening
+unfolding afterLines endRun outcomeOf playLog lineStep openingLine openingAnswer refusedRun stepped nextRun
 log-plays chart usable n line w t [] = ap (refused 7) (add-one line)
 log-plays chart usable n line w t (l ∷ ls) = go (callIn l)
   where
@@ -152,8 +134,8 @@ log-plays chart usable n line w t (l ∷ ls) = go (callIn l)
     opens : (o : ℤ) (b : Bool) → isInstant o ≡ b → comesTo (stepped r (openingStep chart t o)) ls ≡ cond (eqb ((ref.opening o) .number) 0) (playCalls (operatorsOf chart) (roomIn t) ((ref.opening o) .state) (suc (suc line)) ls) (refused ((ref.opening o) .number) (suc line))
     opens o true e =
         let h = opening-taken chart t o usable e in
-        ap (λ x. comesTo (stepped r x) ls) h ∙ ap (λ x. comesTo (progress Calls 0 (line + 1) chart (x .answer .watch) (x .table)) ls) (sym h) ∙ calls-play chart usable t o e 0 (line + 1) [] ls ∙ rw (e, add-one line)
-    opens o false e = ap (λ x. comesTo (stepped r x) ls) (opening-8 chart t o usable e) ∙ comes-refused r t 8 (line + 1) ls ∙ rw (e, add-one line)
+        ap (λ x. comesTo (stepped r x) ls) h ∙ ap (λ x. comesTo (progress Calls 0 (line + 1) chart (x .answer .watch) (x .table)) ls) (sym h) ∙ ap (λ s. comesTo (progress Calls 0 (line + 1) chart (s .watch) (s .table)) ls) (sym (after-none chart (opened chart t o))) ∙ calls-play chart usable t o e 0 (line + 1) [] ls ∙ rw (run-none (ref.step (operatorsOf chart) (roomIn t)) ((ref.opening o) .state), opening-accepted o e, add-one line)
+    opens o false e = ap (λ x. comesTo (stepped r x) ls) (opening-8 chart t o usable e) ∙ comes-refused r t 8 (line + 1) ls ∙ rw (opening-refused o e, add-one line)
 
     go : (c : Call) → comesTo (openingLine r t c) ls ≡ cond (eqb ((openingAnswer c) .number) 0) (playCalls (operatorsOf chart) (roomIn t) ((openingAnswer c) .state) (suc (suc line)) ls) (refused ((openingAnswer c) .number) (suc line))
     go (log.Open o) = opens o (isInstant o) refl
@@ -174,6 +156,14 @@ chartFrom c ls = cond (eqb (c .count) 0 && noneLeft ls) (refusedChart 1 1) (read
 from : ℕ → ChartAnswer → ℕ → List Line → Outcome
 from room a line ls = cond (eqb (a .refusal) 0) (playLog (operatorsOf (a .chart)) room line ls) (refused (a .refusal) (a .line))
 
+from-refused : (room n k line : ℕ) (ls : List Line) → (n ≡ 0 → ⊥) → from room (refusedChart n k) line ls ≡ refused n k
+unfolding from
+from-refused room n k line ls h = rw (refused-number, refused-line, ne-eqb n 0 h)
+
+from-taken : (room : ℕ) (c : Chart) (line : ℕ) (ls : List Line) → from room (readLines c []) line ls ≡ playLog (operatorsOf c) room line ls
+unfolding from
+from-taken room c line ls = rw (read-none c)
+
 log-fewer : (ls : List Line) → length (logLines ls) ≤ length ls
 unfolding logLines
 log-fewer [] = omega arith
@@ -189,28 +179,28 @@ and-no false = refl
 
 -- the empty line that ends the chart
 end-plays : (c : Chart) → Good c → (n : ℕ) (w : Watch) (t : List ℤ) (ls : List Line) → comesTo (record { run = chartEnd (progress Entries n (c .count) c w t .run); table = t }) ls ≡ from (roomIn t) (chartFrom c []) (suc (c .count + (suc (length ls) - length ls))) ls
-unfolding chartEnd nextRun from chartFrom noneLeft refusedChart readLines
+unfolding chartEnd nextRun chartFrom noneLeft
 end-plays c g n w t ls = go (eqb (c .count) 0) refl
   where
     r : Run
     r = progress Entries n (c .count) c w t .run
 
     go : (b : Bool) → eqb (c .count) 0 ≡ b → comesTo (record { run = cond b (refusedRun r 1 1) (nextRun r Opening c w); table = t }) ls ≡ from (roomIn t) (cond (b && true) (refusedChart 1 1) (readLines c [])) (suc (c .count + (suc (length ls) - length ls))) ls
-    go true e = comes-refused r t 1 1 ls
+    go true e = comes-refused r t 1 1 ls ∙ sym (from-refused (roomIn t) 1 1 _ ls (λ z. omega arith))
     go false e =
         let h : suc (c .count + 1) ≡ suc (c .count + (suc (length ls) - length ls)) = omega arith in
-        log-plays c (good-usable c g (let k = eqb-false (c .count) 0 e in omega (arith, k))) 0 (c .count + 1) w t ls ∙ ap (λ k. playLog (operatorsOf c) (roomIn t) k ls) h
+        log-plays c (good-usable c g (let k = eqb-false (c .count) 0 e in omega (arith, k))) 0 (c .count + 1) w t ls ∙ ap (λ k. playLog (operatorsOf c) (roomIn t) k ls) h ∙ sym (from-taken (roomIn t) c _ ls)
 
 chart-plays : (c : Chart) → Good c → (n : ℕ) (w : Watch) (t : List ℤ) (ls : List Line) → comesTo (progress Entries n (c .count) c w t) ls ≡ from (roomIn t) (chartFrom c (chartLines ls)) (suc (c .count + (length ls - length (logLines ls)))) (logLines ls)
-unfolding afterLines endRun outcomeOf refusedRun lineStep chartLines logLines from chartFrom noneLeft playLog refusedChart readLines entryRun nextRun withEntry
+unfolding afterLines endRun outcomeOf refusedRun lineStep chartLines logLines from chartFrom noneLeft playLog entryRun nextRun
 chart-plays c g n w t [] = go (eqb (c .count) 0)
   where
     r : Run
     r = progress Entries n (c .count) c w t .run
 
     go : (b : Bool) → resultOf (record { run = cond b (refusedRun r 1 1) (refusedRun r 7 (c .count + 1)); table = t }) ≡ from (roomIn t) (cond (b && true) (refusedChart 1 1) (readLines c [])) (suc (c .count + (0 - 0))) []
-    go true = refl
-    go false = ap (refused 7) (omega arith)
+    go true = sym (from-refused (roomIn t) 1 1 _ [] (λ z. omega arith))
+    go false = ap (refused 7) (omega arith) ∙ sym (from-taken (roomIn t) c _ [])
 chart-plays c g n w t (l ∷ ls) = go (isEmpty l) (λ d h. chart-plays d h 0 w t ls)
   where
     r : Run
@@ -222,24 +212,25 @@ chart-plays c g n w t (l ∷ ls) = go (isEmpty l) (λ d h. chart-plays d h 0 w t
     Left : Chart → Type 0
     Left d = comesTo (progress Entries 0 (d .count) d w t) ls ≡ from (roomIn t) (chartFrom d (chartLines ls)) (suc (d .count + (length ls - length (logLines ls)))) (logLines ls)
 
-    entry-plays : (b : Bool) → eqb (a .refusal) 0 ≡ b → ((d : Chart) → Good d → Left d) → comesTo (record { run = entryRun r (cond b (takenChart (withEntry c (a .entry))) (refusedChart (a .refusal) (c .count + 1))); table = t }) ls ≡ from (roomIn t) (cond b (readLines (withEntry c (a .entry)) (chartLines ls)) (refusedChart (a .refusal) (c .count + 1))) (suc (c .count + (suc (length ls) - length (logLines ls)))) (logLines ls)
+    entry-plays : (b : Bool) → eqb (a .refusal) 0 ≡ b → ((d : Chart) → Good d → Left d) → comesTo (record { run = entryRun r (cond b (readLines (withEntry c (a .entry)) []) (refusedChart (a .refusal) (c .count + 1))); table = t }) ls ≡ from (roomIn t) (cond b (readLines (withEntry c (a .entry)) (chartLines ls)) (refusedChart (a .refusal) (c .count + 1))) (suc (c .count + (suc (length ls) - length (logLines ls)))) (logLines ls)
     entry-plays true e on =
         let f = answer-fits (c .count) l (eqb-true (a .refusal) 0 e) in
         let d = withEntry c (a .entry) in
         let k : suc (c .count + 1 + (length ls - length (logLines ls))) ≡ suc (c .count + (suc (length ls) - length (logLines ls))) = omega (arith, log-fewer ls) in
         let some : eqb (c .count + 1) 0 ≡ false = ne-eqb (c .count + 1) 0 (λ z. omega arith) in
-        on d (good-more c (a .entry) g (f .0) (f .1)) ∙ rw (some, k)
-    entry-plays false e on = rw e (comes-refused r t (a .refusal) (c .count + 1) ls)
+        let size : d .count ≡ c .count + 1 = with-entry-count c (a .entry) in
+        rw (read-none d) (ap (λ m. comesTo (progress Entries 0 m d w t) ls) (sym size) ∙ on d (good-more c (a .entry) g (f .0) (f .1)) ∙ rw (size, some, k))
+    entry-plays false e on = rw (refused-number, refused-line, e) (comes-refused r t (a .refusal) (c .count + 1) ls)
 
     go : (b : Bool) → ((d : Chart) → Good d → Left d) → comesTo (record { run = cond b (chartEnd r) (entryRun r (readLines c (l ∷ []))); table = t }) ls ≡ from (roomIn t) (chartFrom c (cond b [] (l ∷ chartLines ls))) (suc (c .count + (suc (length ls) - length (cond b ls (logLines ls))))) (cond b ls (logLines ls))
     go true on = end-plays c g n w t ls
-    go false on = rw (and-no (eqb (c .count) 0)) (entry-plays (eqb (a .refusal) 0) refl on)
+    go false on = rw (and-no (eqb (c .count) 0), read-more c l [], read-more c l (chartLines ls)) (entry-plays (eqb (a .refusal) 0) refl on)
 
 from-start : (ls : List Line) → chartFrom noEntries ls ≡ orNoLine ls
-unfolding chartFrom noneLeft orNoLine noEntries
-from-start [] = refl
-from-start (l ∷ ls) = refl
+unfolding chartFrom noneLeft
+from-start [] = rw (no-entries-count, or-none)
+from-start (l ∷ ls) = rw (and-no (eqb (noEntries .count) 0), or-some l ls)
 
 pub lines-play : (t : List ℤ) (ls : List Line) → comesTo (record { run = startRun; table = t }) ls ≡ playLines (roomIn t) ls
-unfolding startRun playLines from noEntries
-lines-play t ls = chart-plays noEntries good-none 0 (emptyWatch (pos 0)) t ls ∙ rw (from-start (chartLines ls), zero-add (length ls - length (logLines ls)))
+unfolding startRun playLines from
+lines-play t ls = ap (λ n. comesTo (progress Entries 0 n noEntries (emptyWatch (pos 0)) t) ls) (sym no-entries-count) ∙ chart-plays noEntries good-none 0 (emptyWatch (pos 0)) t ls ∙ rw (from-start (chartLines ls), no-entries-count, zero-add (length ls - length (logLines ls)))

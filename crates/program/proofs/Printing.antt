@@ -1,14 +1,12 @@
 -- What a finished run prints is what it comes to.
-use Prim.Native.Nat.{ℕ, _+_, _*_, _-_, _≤_}
+use Prim.Native.Nat.{ℕ, _+_, _*_, _≤_}
 use native.Mathlib.Omega.{arith}
 use mathlib.Core.Path.{_≡_, refl, sym, ap, _∙_, subst}
 use mathlib.Core.Bool.{Bool, true, false, cond}
 use mathlib.Core.List.{List, [], _∷_, _++_}
-use borrow.Author.Tests.{le-leb}
-use lib.Dec.{eqb, leb}
-use lib.IntN.{ℤ, pos}
+use lib.Dec.{eqb}
+use lib.IntN.{ℤ}
 use lib.ListN.{length, drop, length-drop}
-use Rattle.interval.specs.Instants.{isInstant}
 use Rattle.interval.proofs.Signed.{holds→}
 use Rattle.text.specs.Text.{Line}
 use Rattle.chart.specs.Charts.{isUsable}
@@ -19,18 +17,18 @@ use Rattle.model.specs.RowSteps as rows
 use Rattle.model.proofs.Capacity.{capacity-fits}
 use Rattle.model.proofs.Theorems as model
 use Rattle.table.specs.Operators.{operatorsOf}
-use Rattle.table.specs.Table.{rowsIn, zeroed}
-use Rattle.table.proofs.Laws.{length-zeroed}
-use Rattle.watch.specs.Steps.{Step, roomIn, openingStep, refusedStep, takenStep, emptyWatch}
-use Rattle.watch.specs.Histories.{State, state, call, opened}
-use Rattle.watch.specs.declared.Watch.{Watch}
+use Rattle.table.specs.Table.{rowsIn}
+use Rattle.watch.specs.Steps.{Step, roomIn, openingStep}
+use Rattle.watch.specs.Histories.{State, state, call}
 use Rattle.watch.proofs.History.{bounds, history-shown}
 use Rattle.watch.proofs.Lower.{usable-lower}
 use Rattle.watch.proofs.Shown as watch
+use Rattle.watch.proofs.Steps.{opening-length}
 use Rattle.log.specs.declared.Call.{Call}
 use Rattle.log.specs.declared.Call.the-variants as log
-use Rattle.printing.specs.Listing.{listingText, tableText, refusalText, lengthWhere, outputWhere, listingFits, refusalFits}
-use Rattle.printing.proofs.Laws.{table-listing, front-within}
+use Rattle.printing.specs.Listing.{listingText, tableText, refusalText, refusalLength, refusalOutput, listingFits, refusalFits}
+use Rattle.printing.proofs.Laws as printing
+use Rattle.printing.proofs.Laws.{table-listing, length-room, output-room, front-within, refusal-fits}
 use Rattle.program.specs.Outcomes.{callIn, outcomeText}
 use Rattle.program.specs.Runs.{Progress, refusedRun, nextRun, stepped, openingLine, stateOf, callStep, lineStep, afterLine, endRun, resultOf, outcomeOf, OfHistory, Holds, Reached, lengthAt, outputAt, printedLength, printedOutput}
 use Rattle.program.specs.declared.Run.{Run}
@@ -55,7 +53,7 @@ module _ (chart : Chart) (usable : isUsable chart ≡ true) (s : State) (h : OfH
   is-shown = h .same ∙ (history-shown chart usable (h .before) (h .opened) (h .inRange) (h .calls)) .0
 
   few : length (m .rows) ≤ room
-  few = (bounds (operatorsOf chart) room m (holds→ _ (model.in-joint (operatorsOf chart) (usable-lower chart usable) room (h .opened) (h .calls)))) .few
+  few = (bounds (operatorsOf chart) room m (holds→ _ (model.consistent (operatorsOf chart) (usable-lower chart usable) room (h .opened) (h .calls)))) .few
 
   same-length : length (s .table) ≡ length (h .before)
   same-length =
@@ -73,22 +71,12 @@ module _ (chart : Chart) (usable : isUsable chart ≡ true) (s : State) (h : OfH
       ∙ ap listingText (sym (ap (λ x. rowsIn (x .watch .rows) (x .table)) is-shown ∙ watch.rows-flat (m .rows) _))
 
   pub listing-fits : (out : List ℕ) → 40 + roomIn (s .table) * 81 ≤ length out → listingFits (s .watch .rows) (s .table) out ≡ true
-  unfolding listingFits
   listing-fits out g =
       let c = capacity-fits (length (s .table)) in
       let r = rows-few in
-      rw (le-leb (s .watch .rows * 5) (length (s .table)) (omega (arith, c, r)), le-leb (31 + s .watch .rows * 81) (length out) (omega (arith, r, g)))
+      printing.listing-fits (s .watch .rows) (s .table) out (omega (arith, c, r)) (omega (arith, r, g))
 
 -- The length of the table stays.
-opening-length : (chart : Chart) (t : List ℤ) (o : ℤ) → length ((openingStep chart t o) .table) ≡ length t
-unfolding openingStep
-opening-length chart t o = go (isUsable chart) (isInstant o)
-  where
-    go : (a b : Bool) → length ((cond a (cond b (takenStep (emptyWatch o) (zeroed 0 (roomIn t * 5) t)) (refusedStep 8 (emptyWatch (pos 0)) t)) (refusedStep 14 (emptyWatch (pos 0)) t)) .table) ≡ length t
-    go true true = length-zeroed 0 (roomIn t * 5) t (omega arith) (omega (arith, capacity-fits (length t)))
-    go true false = refl
-    go false b = refl
-
 stepped-table : (r : Run) (x : Step) → stepped r x .table ≡ x .table
 unfolding stepped
 stepped-table r x = go (eqb (x .answer .refusal) 0)
@@ -145,12 +133,17 @@ lines-on p (l ∷ ls) h = lines-on (afterLine p l) ls (line-on p l h)
 abbrev pub Prints : Progress → List ℕ → List ℕ → Type 0
 Prints q out text = (printedLength (q .run) (q .table) out ≡ length text) × (printedOutput (q .run) (q .table) out ≡ text ++ drop (length text) out)
 
+refusal-front : (n line : ℕ) (out : List ℕ) → 40 ≤ length out → (refusalLength n line out ≡ length (refusalText n line)) × (refusalOutput n line out ≡ refusalText n line ++ drop (length (refusalText n line)) out)
+refusal-front n line out h =
+    let fits = refusal-fits out h in
+    (length-room (refusalFits out) (refusalText n line) out fits, output-room (refusalFits out) (refusalText n line) out fits)
+
 refusal-prints : (r : Run) (t : List ℤ) (n line : ℕ) (out : List ℕ) → 40 ≤ length out → Prints (record { run = refusedRun r n line; table = t }) out (outcomeText (resultOf (record { run = refusedRun r n line; table = t })))
-unfolding refusedRun lengthAt outputAt outcomeOf outcomeText lengthWhere outputWhere refusalFits
-refusal-prints r t n line out h = let e : leb 40 (length out) ≡ true = le-leb 40 (length out) h in (rw e, rw e)
+unfolding refusedRun lengthAt outputAt outcomeOf outcomeText
+refusal-prints r t n line out h = refusal-front n line out h
 
 pub end-prints : (p : Progress) (out : List ℕ) → Reached p → 40 + roomIn (p .table) * 81 ≤ length out → Prints (atEnd p) out (outcomeText (resultOf (atEnd p)))
-unfolding endRun Holds lengthAt outputAt outcomeOf outcomeText lengthWhere outputWhere refusalFits
+unfolding endRun Holds lengthAt outputAt outcomeOf outcomeText
 end-prints p out h g = go (p .run .stage) refl h
   where
     r : Run
@@ -169,8 +162,10 @@ end-prints p out h g = go (p .run .stage) refl h
     go Calls e k =
         let same = same-listing (r .chart) (k .1) (stateOf r t) (k .2) in
         let fits = listing-fits (r .chart) (k .1) (stateOf r t) (k .2) out g in
-        (rw (e, fits) (ap length same), rw (e, fits) (ap (λ x. x ++ drop (length x) out) same))
-    go Refused e k = let fits : leb 40 (length out) ≡ true = le-leb 40 (length out) (omega (arith, g)) in (rw (e, fits), rw (e, fits))
+        let text = tableText (r .watch .rows) t in
+        let room = listingFits (r .watch .rows) t out in
+        (rw e (length-room room text out fits ∙ ap length same), rw e (output-room room text out fits ∙ ap (λ x. x ++ drop (length x) out) same))
+    go Refused e k = let f = refusal-front (r .refusal) (r .line) out (omega (arith, g)) in (rw e (f .0), rw e (f .1))
 
 -- what is printed is in the output
 pub printed-within : (r : Run) (t : List ℤ) (out : List ℕ) → length (printedOutput r t out) ≡ length out → printedLength r t out ≤ length out

@@ -1,5 +1,5 @@
 -- What holds of a run at its stage holds after every further line and byte.
-use Prim.Native.Nat.{ℕ, suc, _+_, _-_, _≤_, _<_, _^_}
+use Prim.Native.Nat.{ℕ, suc, _+_, _≤_, _<_, _^_}
 use native.Mathlib.Omega.{arith}
 use mathlib.Core.Path.{_≡_, refl, sym, ap, _∙_, subst}
 use mathlib.Core.Bool.{Bool, true, false, cond}
@@ -10,18 +10,19 @@ use lib.IntN.{ℤ}
 use lib.ListN.{length}
 use Rattle.interval.specs.Instants.{isInstant}
 use Rattle.interval.proofs.Signed.{never}
-use Rattle.text.specs.Text.{Line, whole, broken, split, inFront}
-use Rattle.text.proofs.Laws.{split-some}
-use Rattle.chart.specs.Charts.{isUsable, readLines, noEntries, withEntry, refusedChart, takenChart}
-use Rattle.chart.specs.Records.{answerTo}
+use Rattle.text.specs.Text.{Line, whole, broken, split}
+use Rattle.text.proofs.Laws.{split-some, split-few}
+use Rattle.chart.specs.Charts.{isUsable, readLines, noEntries, takenChart}
 use Rattle.chart.specs.declared.Chart.{Chart}
 use Rattle.chart.specs.declared.ChartAnswer.{ChartAnswer}
-use Rattle.chart.specs.declared.record.LineAnswer.{LineAnswer}
+use Rattle.chart.proofs.Lines.{read-none, read-taken, lines-good, lines-more}
+use Rattle.chart.proofs.Usable.{Good, good-none, good-usable, usable-few}
 use Rattle.model.specs.Reference as ref
 use Rattle.watch.specs.Steps.{Step, openingStep, refusedStep}
-use Rattle.watch.specs.Histories.{State, state, call, after, opened}
+use Rattle.watch.specs.Histories.{State, state, call, opened}
 use Rattle.watch.specs.declared.Watch.{Watch}
 use Rattle.watch.proofs.Calls.{opening-8}
+use Rattle.watch.proofs.Steps.{after-none, after-more}
 use Rattle.log.specs.declared.Call.{Call}
 use Rattle.log.specs.declared.Call.the-variants as log
 use Rattle.program.specs.Outcomes.{callIn, isEmpty}
@@ -29,23 +30,9 @@ use Rattle.program.specs.Runs.{Progress, refusedRun, nextRun, entryRun, 
 use Rattle.program.specs.declared.Run.{Run}
 use Rattle.program.specs.declared.Stage.{Stage}
 use Rattle.program.specs.declared.Stage.the-variants.{Entries, Opening, Calls, Refused}
-use Rattle.chart.proofs.Usable.{Good, good-none, good-more, answer-fits, good-usable, usable-few}
 use Rattle.program.proofs.Pieces.{parts-stopped, bytes-stopped, broken-stopped}
-use Rattle.program.proofs.Playing.{after-more}
 
 -- a chart read from lines is one whose entries fit so far
-lines-good : (c d : Chart) (ls : List Line) → Good c → readLines c ls ≡ takenChart d → Good d
-unfolding readLines refusedChart
-lines-good c d [] g e = subst Good (ap (λ a. a .chart) e) g
-lines-good c d (l ∷ ls) g e = go (eqb (a .refusal) 0) refl (λ x h z. lines-good x d ls h z) e
-  where
-    a : LineAnswer
-    a = answerTo (c .count) l
-
-    go : (b : Bool) → eqb (a .refusal) 0 ≡ b → ((x : Chart) → Good x → readLines x ls ≡ takenChart d → Good d) → cond b (readLines (withEntry c (a .entry)) ls) (refusedChart (a .refusal) (c .count + 1)) ≡ takenChart d → Good d
-    go true p left z = let f = answer-fits (c .count) l (eqb-true (a .refusal) 0 p) in left (withEntry c (a .entry)) (good-more c (a .entry) g (f .0) (f .1)) z
-    go false p left z = absurd (eqb-false (a .refusal) 0 p (ap (λ x. x .refusal) z))
-
 pub read-good : (c : Chart) → (ls : List Line) × (readLines noEntries ls ≡ takenChart c) → Good c
 read-good c (ls, e) = lines-good noEntries c ls good-none e
 
@@ -60,31 +47,6 @@ reached-few p h = go (p .run .stage) h
     go Calls k z = usable-few (p .run .chart) (k .1)
     go Refused k z = never (sym z)
 
--- one line more
-lines-more : (c d : Chart) (ls : List Line) (l : Line) → readLines c ls ≡ takenChart d → readLines c (ls ++ l ∷ []) ≡ readLines d (l ∷ [])
-unfolding readLines refusedChart
-lines-more c d [] l e = ap (λ a. readLines (a .chart) (l ∷ [])) e
-lines-more c d (k ∷ ls) l e = go (eqb (a .refusal) 0) refl (λ x z. lines-more x d ls l z) e
-  where
-    a : LineAnswer
-    a = answerTo (c .count) k
-
-    go : (b : Bool) → eqb (a .refusal) 0 ≡ b → ((x : Chart) → readLines x ls ≡ takenChart d → readLines x (ls ++ l ∷ []) ≡ readLines d (l ∷ [])) → cond b (readLines (withEntry c (a .entry)) ls) (refusedChart (a .refusal) (c .count + 1)) ≡ takenChart d → cond b (readLines (withEntry c (a .entry)) (ls ++ l ∷ [])) (refusedChart (a .refusal) (c .count + 1)) ≡ readLines d (l ∷ [])
-    go true p left z = left (withEntry c (a .entry)) z
-    go false p left z = absurd (eqb-false (a .refusal) 0 p (ap (λ x. x .refusal) z))
-
--- an answer of the chart reader with number 0 is a chart taken
-taken-is : (c : Chart) (l : Line) → (readLines c (l ∷ [])) .refusal ≡ 0 → readLines c (l ∷ []) ≡ takenChart ((readLines c (l ∷ [])) .chart)
-unfolding readLines refusedChart
-taken-is c l z = go (eqb (a .refusal) 0) refl z
-  where
-    a : LineAnswer
-    a = answerTo (c .count) l
-
-    go : (b : Bool) → eqb (a .refusal) 0 ≡ b → (cond b (takenChart (withEntry c (a .entry))) (refusedChart (a .refusal) (c .count + 1))) .refusal ≡ 0 → cond b (takenChart (withEntry c (a .entry))) (refusedChart (a .refusal) (c .count + 1)) ≡ takenChart ((cond b (takenChart (withEntry c (a .entry))) (refusedChart (a .refusal) (c .count + 1))) .chart)
-    go true p y = refl
-    go false p y = absurd (eqb-false (a .refusal) 0 p y)
-
 -- each stage goes on to one of which it holds
 entries-on : (r : Run) (t : List ℤ) (l : Line) → Holds Entries r t → Reached (record { run = cond (isEmpty l) (chartEnd r) (entryRun r (readLines (r .chart) (l ∷ []))); table = t })
 unfolding Holds chartEnd entryRun nextRun refusedRun
@@ -98,7 +60,7 @@ entries-on r t l h = go (isEmpty l)
     ends false e = good-usable (r .chart) (read-good (r .chart) h) (let k = eqb-false (r .chart .count) 0 e in omega (arith, k))
 
     more : (b : Bool) → eqb (a .refusal) 0 ≡ b → Reached (record { run = cond b (nextRun r Entries (a .chart) (r .watch)) (refusedRun r (a .refusal) (a .line)); table = t })
-    more true e = (h .0 ++ l ∷ [], lines-more noEntries (r .chart) (h .0) l (h .1) ∙ taken-is (r .chart) l (eqb-true (a .refusal) 0 e))
+    more true e = (h .0 ++ l ∷ [], lines-more noEntries (r .chart) (h .0) l (h .1) ∙ read-taken (r .chart) l (eqb-true (a .refusal) 0 e))
     more false e = tt
 
     go : (b : Bool) → Reached (record { run = cond b (chartEnd r) (entryRun r a); table = t })
@@ -115,11 +77,11 @@ stepped-on r x usable h = go (eqb (x .answer .refusal) 0) refl
     go false e = tt
 
 opening-on : (r : Run) (t : List ℤ) (c : Call) → Holds Opening r t → Reached (openingLine r t c)
-unfolding openingLine Holds refusedRun after
+unfolding openingLine Holds refusedRun
 opening-on r t (log.Open o) usable = stepped-on r (openingStep (r .chart) t o) usable (λ z. go z (isInstant o) refl)
   where
     go : (openingStep (r .chart) t o) .answer .refusal ≡ 0 → (b : Bool) → isInstant o ≡ b → OfHistory (r .chart) (state (openingStep (r .chart) t o))
-    go z true e = record { before = t; opened = o; inRange = e; calls = []; same = refl }
+    go z true e = record { before = t; opened = o; inRange = e; calls = []; same = sym (after-none (r .chart) (opened (r .chart) t o)) }
     go z false e = absurd (let k : (openingStep (r .chart) t o) .answer .refusal ≡ 8 = ap (λ x. x .answer .refusal) (opening-8 (r .chart) t o usable e) in omega (arith, k, z))
 opening-on r t log.Malformed usable = tt
 opening-on r t (log.Event k) usable = tt
@@ -172,8 +134,16 @@ unfolding afterBytes
 bytes-on p s h = parts-on p (split 10 s) h
 
 pub start-reached : (t : List ℤ) → Reached (record { run = startRun; table = t })
-unfolding startRun Holds readLines
-start-reached t = ([], refl)
+unfolding startRun Holds
+start-reached t = ([], read-none noEntries)
+
+pub start-goes : isRefused (startRun .stage) ≡ false
+unfolding startRun isRefused
+start-goes = refl
+
+pub start-line : startRun .line ≡ 0
+unfolding startRun
+start-line = refl
 
 -- a line that is taken is counted, and there are no more lines than bytes
 Counted : Run → Run → Type 0
@@ -239,23 +209,13 @@ parts-counted p s (q ∷ qs) z = go (isRefused (p₁ .run .stage)) refl (parts-c
     go true e h = never (sym z ∙ ap (λ x. isRefused (x .run .stage)) (parts-stopped p₁ (q ∷ qs) e) ∙ e)
     go false e h = omega (arith, h, line-counted p (whole s) e)
 
--- a text has no more parts than one for each byte and one
-split-few : (s : List ℕ) → length (split 10 s) ≤ suc (length s)
-unfolding split
-split-few [] = omega arith
-split-few (b ∷ s) = go (eqb b 10) (split-some 10 s) (split-few s)
-  where
-    go : (t : Bool) → (p : List ℕ) × (ps : List (List ℕ)) × (split 10 s ≡ p ∷ ps) → length (split 10 s) ≤ suc (length s) → length (cond t ([] ∷ split 10 s) (inFront b (split 10 s))) ≤ suc (suc (length s))
-    go true (p, ps, e) h = omega (arith, h)
-    go false (p, ps, e) h = rw e (let k : suc (length ps) ≤ suc (length s) = rw e at h in omega (arith, k))
-
 pub bytes-counted : (p : Progress) (s : List ℕ) → isRefused (afterBytes p s .run .stage) ≡ false → afterBytes p s .run .line ≤ p .run .line + length s
 unfolding afterBytes
 bytes-counted p s = go (split-some 10 s)
   where
     go : (q : List ℕ) × (qs : List (List ℕ)) × (split 10 s ≡ q ∷ qs) → isRefused (afterParts p (split 10 s) .run .stage) ≡ false → afterParts p (split 10 s) .run .line ≤ p .run .line + length s
     go (q, qs, e) z =
-        let few : suc (length qs) ≤ suc (length s) = rw e at (split-few s) in
+        let few : suc (length qs) ≤ suc (length s) = rw e at (split-few 10 s) in
         let y : isRefused (afterParts p (q ∷ qs) .run .stage) ≡ false = rw e at z in
         rw e (omega (arith, few, parts-counted p q qs y))
 
@@ -275,5 +235,5 @@ pub bytes-few : (p q : Progress) (s : List ℕ) → Reached p → q ≡ afterByt
 bytes-few p q s h e = subst (λ x. HasFew (x .run)) (sym e) (reached-few (afterBytes p s) (bytes-on p s h))
 
 pub start-lines : (n : ℕ) → n < 2 ^ 64 → HasLines startRun n
-unfolding HasLines startRun
-start-lines n h z = omega (arith, h)
+unfolding HasLines
+start-lines n h z = omega (arith, h, start-line)

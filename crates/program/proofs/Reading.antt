@@ -1,46 +1,26 @@
 -- What the first 64 bytes tell of the bytes that are left to read.
-use Prim.Native.Nat.{ℕ, suc, _+_, _-_, _≤_, _<_}
+use Prim.Native.Nat.{ℕ, suc, _+_, _-_, _≤_, _<_, _^_}
 use native.Mathlib.Omega.{arith}
 use mathlib.Core.Path.{_≡_, refl, sym, ap, _∙_, subst}
 use mathlib.Core.Bool.{Bool, true, false, cond}
 use mathlib.Core.List.{List, [], _∷_}
 use borrow.Author.Tests.{ltb-true, ltb-false, le-leb, lt-leb, le-ltb, leb-true, leb-false, ne-eqb}
-use lib.Dec.{eqb, leb, ltb}
+use lib.Dec.{leb, ltb}
 use lib.IntN.{ℤ}
 use lib.ListN.{length, take, drop, length-take, length-drop, drop-of-length-le}
 use lib.Seq.{length-take-le, drop-drop}
 use Rattle.interval.proofs.Signed.{never}
 use Rattle.text.specs.Text.{Line, whole, broken, split, indexOf, isRecord, lineSize}
 use Rattle.text.proofs.Laws.{split-some, split-cut, split-none, index-le, size-le, FirstPart, first-part, none-early, part-from}
-use Rattle.chart.specs.Charts.{readLines, refusedChart}
-use Rattle.chart.specs.Records.{answerTo}
-use Rattle.program.specs.Outcomes.{callIn}
-use Rattle.program.specs.Runs.{Progress, unformedRun, refusedRun, entryRun, openingLine, callStep, stepped, lineStep, afterLine, afterParts, afterBytes, lastPart, isRefused, keptOf, Reached, Read, HasLines, fedTo, settledGoing, settledAt, finished, finishedRun, restLength}
+use Rattle.program.specs.Runs.{Progress, unformedRun, afterLine, afterParts, afterBytes, lastPart, isRefused, keptOf, Reached, Read, HasLines, fedTo, settledGoing, settledAt, finished, finishedRun, restLength}
 use Rattle.program.specs.declared.Run.{Run}
 use Rattle.program.specs.declared.Fed.{Fed}
 use Rattle.program.specs.declared.Stage.{Stage}
 use Rattle.program.specs.declared.Stage.the-variants.{Entries, Opening, Calls, Refused}
 use Rattle.program.proofs.Reaching.{line-on, line-counted}
-use Rattle.program.proofs.Pieces.{broken-stopped, line-stopped, parts-stopped, bytes-stopped, same-unformed, unformed, unformed-stopped}
+use Rattle.program.proofs.Pieces.{broken-stopped, line-stopped, parts-stopped, bytes-stopped, same-unformed, unformed, unformed-run, unformed-stopped}
 
 -- a line that lacks its byte 10 or has over 64 bytes
-unformed-run : (p : Progress) → afterLine p unformed ≡ record { run = unformedRun (p .run .stage) (p .run); table = p .table }
-unfolding lineStep readLines answerTo callIn entryRun openingLine callStep stepped unformedRun refusedChart
-unformed-run p = go (p .run .stage)
-  where
-    r : Run
-    r = p .run
-
-    entries : (b : Bool) → eqb (r .chart .count) 32 ≡ b → lineStep Entries r (p .table) unformed ≡ record { run = refusedRun r (cond b 2 3) (r .chart .count + 1); table = p .table }
-    entries true e = rw e
-    entries false e = rw e
-
-    go : (s : Stage) → lineStep s r (p .table) unformed ≡ record { run = unformedRun s r; table = p .table }
-    go Entries = entries (eqb (r .chart .count) 32) refl
-    go Opening = refl
-    go Calls = refl
-    go Refused = refl
-
 pub line-unformed : (p : Progress) (l : Line) → isRecord l ≡ false → afterLine p l ≡ record { run = unformedRun (p .run .stage) (p .run); table = p .table }
 line-unformed p l e = same-unformed p l e ∙ unformed-run p
 
@@ -137,6 +117,10 @@ module _ (p q : Progress) (used size : ℕ) (s : List ℕ) (h : Read p q used s)
 pub lines-left : (p q : Progress) (used n m : ℕ) (s : List ℕ) → Read p q used s → used + n ≤ m → HasLines (p .run) m → HasLines (q .run) n
 unfolding HasLines
 lines-left p q used n m s h g k z = omega (arith, k (h .goes z), h .lines z, g)
+
+pub lines-of : (r : Run) (n : ℕ) → (isRefused (r .stage) ≡ false → r .line + n < 2 ^ 64) → HasLines r n
+unfolding HasLines
+lines-of r n h = h
 
 pub lines-fewer : (r : Run) (n m : ℕ) → n ≤ m → HasLines r m → HasLines r n
 unfolding HasLines

@@ -1,3 +1,4 @@
 pub mod Outcomes
 pub mod Runs
 pub mod Statements
+pub mod Demands

@@ -7,14 +7,15 @@ use mathlib.Core.List.{List, [], _∷_}
 use lib.Dec.{eqb}
 use lib.IntN.{pos}
 use lib.ListN.{length}
+use Rattle.interval.specs.Instants.{firstFloor}
 use Rattle.text.specs.Text.{Line, lines, isRecord}
 use Rattle.chart.specs.Charts.{orNoLine}
 use Rattle.model.specs.Order.{Row}
 use Rattle.model.specs.Recognitions.{Operator}
 use Rattle.model.specs.Reference as model
-use Rattle.model.specs.Reference.{Model, Answer, rowsOf, firstFloor}
+use Rattle.model.specs.Reference.{Model, Answer, rowsOf}
 use Rattle.table.specs.Operators.{operatorsOf}
-use Rattle.log.specs.Log.{callOf}
+use Rattle.log.specs.Log.{callOf, answerOf}
 use Rattle.log.specs.declared.Call.{Call}
 use Rattle.log.specs.declared.Call.the-variants as log
 use Rattle.printing.specs.Listing.{listingText, refusalText}
@@ -28,17 +29,17 @@ pub data Outcome : Type 0 where
 unfoldable pub callIn : Line → Call
 callIn l = cond (isRecord l) (callOf (l .bytes)) log.Malformed
 
--- the first log line: "7 ... `open` missing"
+-- the first log line: its own refusal, or "7 ... `open` missing"
 unfoldable pub openingAnswer : Call → Answer Model
 openingAnswer (log.Open o) = model.opening o
-openingAnswer log.Malformed = model.refused 7 (model.model (pos 0) firstFloor [])
+openingAnswer log.Malformed = model.refused ((answerOf log.Malformed) .refusal) (model.model (pos 0) firstFloor [])
 openingAnswer (log.Event k) = model.refused 7 (model.model (pos 0) firstFloor [])
 openingAnswer (log.Clock x) = model.refused 7 (model.model (pos 0) firstFloor [])
 openingAnswer (log.Forget f) = model.refused 7 (model.model (pos 0) firstFloor [])
 
--- every other log line: "7 a log line not of its form, a code above 255, `open` ... repeated", or what the reference model answers
+-- every other log line: its own refusal, "7 ... `open` ... repeated", or what the reference model answers
 unfoldable pub callAnswer : List Operator → ℕ → Model → Call → Answer Model
-callAnswer ops room m log.Malformed = model.refused 7 m
+callAnswer ops room m log.Malformed = model.refused ((answerOf log.Malformed) .refusal) m
 callAnswer ops room m (log.Open o) = model.refused 7 m
 callAnswer ops room m (log.Event k) = model.step ops room m (model.event k)
 callAnswer ops room m (log.Clock x) = model.step ops room m (model.clock x)

@@ -9,18 +9,19 @@ use lib.ListN.{length, drop}
 use Rattle.printing.specs.Listing.{lengthWhere, outputWhere}
 use Rattle.watch.specs.Steps.{roomIn}
 use Rattle.program.specs.Outcomes.{printedFor}
-use Rattle.program.specs.Runs.{Progress, startRun, fedAll, finished, printedLength, printedOutput}
+use Rattle.program.specs.Runs.{Progress, Between, startRun, fedAll, finished, printedLength, printedOutput}
 
 -- the pieces put together
 unfoldable pub joined : List (List ℕ) → List ℕ
 joined [] = []
 joined (s ∷ ss) = s ++ joined ss
 
--- the run of an input that comes in pieces, with this table
+-- the run of an input that comes in pieces, with this table: before its end, and at it
+abbrev pub fedRun : List ℤ → List (List ℕ) → Between
+fedRun t pieces = fedAll (record { progress = record { run = startRun; table = t }; kept = [] }) pieces
+
 abbrev pub wholeRun : List ℤ → List (List ℕ) → Progress
-wholeRun t pieces =
-    let b = fedAll (record { progress = record { run = startRun; table = t }; kept = [] }) pieces in
-    finished (b .progress) (b .kept)
+wholeRun t pieces = finished (fedRun t pieces .progress) (fedRun t pieces .kept)
 
 -- an output with room for the listing of a full table and for every refusal
 unfoldable pub hasRoom : List ℤ → List ℕ → Bool

@@ -5,7 +5,6 @@ ghost use mathlib.Core.List.{_∷_, []};
 ghost use Prim.Native.Nat.{_+_, _≤_, _<_, _^_};
 ghost use lib.Dec.{eqb, leb};
 ghost use lib.ListN.{length, drop};
-ghost use Rattle.interval.specs.Instants.{isInstant};
 ghost use Rattle.text.specs.Text.{whole, lineSize};
 ghost use Rattle.chart.specs.Charts.{isUsable, readLines};
 ghost use Rattle.log.specs.Log.{callOf};
@@ -53,7 +52,7 @@ pub fn start() -> Run
         chart: chart::no_entries(),
         watch: Watch {
             instant: 0,
-            floor: -1000000000,
+            floor: interval::first_floor(),
             events: 0,
             rows: 0,
             pending: 0,
@@ -300,7 +299,7 @@ fn feed_early(run: Run, table: &mut [i32], s: &[u8]) -> Fed
 }
 
 // Whether the run is before the calls of the log.
-pub fn is_early(run: Run) -> bool
+fn is_early(run: Run) -> bool
     ensures { λ r. ⌜ r ≡ isEarly (run .stage) ⌝ }
 {
     let stage = run.stage;
@@ -367,7 +366,7 @@ fn open_at(run: Run, table: &mut [i32], o: i64) -> Run
     requires { ⌜ (run .line + 1 < 2 ^ 64) × (isUsable (run .chart) ≡ true) ⌝ }
     ensures { λ r. ⌜ record { run = r; table = now (table .exit) } ≡ stepped run (openingStep (run .chart) (now (table .entry)) o) ⌝ }
 {
-    if !is_instant(o) {
+    if !interval::is_wide_instant(o) {
         return refused_run(run, 8, run.line + 1);
     }
     let chart = run.chart;
@@ -377,16 +376,6 @@ fn open_at(run: Run, table: &mut [i32], o: i64) -> Run
     }
     let watch = a.watch;
     next_run(run, Stage::Calls, chart, watch)
-}
-
-// Whether a number read as an instant is in range.
-fn is_instant(x: i64) -> bool
-    ensures { λ r. ⌜ r ≡ isInstant x ⌝ }
-{
-    if x < -1000000000 {
-        return false;
-    }
-    x <= 1000000000
 }
 
 // Plays whole lines of the log after its opening. One look at each byte, the reading of the call, and the call.
@@ -444,14 +433,14 @@ fn stopped_run(chart: Chart, watch: Watch, refusal: u32, line: u64) -> Run
     }
 }
 
-// A line of the log after its opening, without its byte 10, on a watch and table that are in joint.
+// A line of the log after its opening, without its byte 10, on a watch and table that are consistent.
 fn call_line(chart: Chart, watch: Watch, table: &mut [i32], s: &[u8]) -> Answer
     requires { ⌜ checkNumber chart watch (now table) ≡ 0 ⌝ }
     ensures { λ r. ⌜ record { answer = r; table = now (table .exit) } ≡ callStep chart (record { watch = watch; table = now (table .entry) }) (callOf (now (s .entry))) ⌝ }
 {
     let c = log::read_call(s);
     match c {
-        Call::Event(k) => watch.event_in_joint(k),
+        Call::Event(k) => watch.event_unchecked(chart, table, k),
         Call::Clock(x) => clock_at(chart, watch, table, x),
         Call::Forget(f) => forget_at(chart, watch, table, f),
         Call::Malformed => Answer { refusal: 7, watch },
@@ -464,10 +453,10 @@ fn clock_at(chart: Chart, watch: Watch, table: &mut [i32], x: i64) -> Answer
     requires { ⌜ checkNumber chart watch (now table) ≡ 0 ⌝ }
     ensures { λ r. ⌜ record { answer = r; table = now (table .exit) } ≡ clockStep chart watch (now (table .entry)) x ⌝ }
 {
-    if !is_instant(x) {
+    if !interval::is_wide_instant(x) {
         return Answer { refusal: 8, watch };
     }
-    watch.clock_in_joint(chart, table, x as i32)
+    watch.clock_unchecked(chart, table, x as i32)
 }
 
 // A forget at a number that may be no instant.
@@ -475,8 +464,8 @@ fn forget_at(chart: Chart, watch: Watch, table: &mut [i32], f: i64) -> Answer
     requires { ⌜ checkNumber chart watch (now table) ≡ 0 ⌝ }
     ensures { λ r. ⌜ record { answer = r; table = now (table .exit) } ≡ forgetStep chart watch (now (table .entry)) f ⌝ }
 {
-    if !is_instant(f) {
+    if !interval::is_wide_instant(f) {
         return Answer { refusal: 11, watch };
     }
-    watch.forget_in_joint(chart, table, f as i32)
+    watch.forget_unchecked(chart, table, f as i32)
 }

@@ -1,16 +1,17 @@
 -- Laws of a table being filled: one row, one list after another, where all fit and where not.
-use Prim.Native.Nat.{ℕ, zero, suc, _+_, _*_, _-_, _≤_, _<_}
+use Prim.Native.Nat.{ℕ, suc, _+_, _-_, _≤_, _<_}
 use native.Mathlib.Omega.{arith}
 use native.Mathlib.Nat.{add-zero}
-use mathlib.Core.Path.{_≡_, refl, sym, ap, ap₂, _∙_}
+use mathlib.Core.Path.{_≡_, refl, sym, ap, _∙_}
 use mathlib.Core.Bool.{Bool, true, false, cond}
 use mathlib.Core.List.{List, [], _∷_, _++_}
-use borrow.Author.Tests.{lt-ltb, le-ltb, ltb-true, ltb-false, leb-true}
-use lib.Dec.{ltb, leb}
+use borrow.Author.Tests.{lt-ltb, le-ltb, ltb-true, ltb-false}
+use lib.Dec.{ltb}
 use lib.IntN.{ℤ}
 use lib.ListN.{length, take}
 use Rattle.model.specs.Order.{Row}
-use Rattle.table.specs.Table.{Filled, filled, fill, putRow, putRows}
+use Rattle.table.specs.Table.{cell, filled, fill, putRow, putRows}
+use Rattle.table.proofs.Rows.{length-put, cell-other}
 
 -- nothing to append; one row with room; one row without
 pub fill-none : (room n : ℕ) (t : List ℤ) → fill room n [] t ≡ filled n t
@@ -86,3 +87,22 @@ fill-append-full room n (r ∷ rs) qs t g h = go (ltb n room) refl (fill-append-
     go : (b : Bool) → ltb n room ≡ b → (suc n ≤ room → room < (fill room (suc n) rs (putRow n r t)) .count → fill room (suc n) (rs ++ qs) (putRow n r t) ≡ fill room (suc n) rs (putRow n r t)) → room < (cond b (fill room (suc n) rs (putRow n r t)) (filled (suc room) t)) .count → cond b (fill room (suc n) (rs ++ qs) (putRow n r t)) (filled (suc room) t) ≡ cond b (fill room (suc n) rs (putRow n r t)) (filled (suc room) t)
     go true e f k = f (omega (arith, ltb-true n room e)) k
     go false e f k = refl
+
+-- filling keeps the rows there were, and the length
+pub fill-kept : (room n : ℕ) (rs : List Row) (t : List ℤ) (i k : ℕ) → i < n → k < 5 → cell ((fill room n rs t) .table) i k ≡ cell t i k
+unfolding fill
+fill-kept room n [] t i k h g = refl
+fill-kept room n (r ∷ rs) t i k h g = go (ltb n room) (fill-kept room (suc n) rs (putRow n r t) i k (omega arith) g)
+  where
+    go : (b : Bool) → cell ((fill room (suc n) rs (putRow n r t)) .table) i k ≡ cell (putRow n r t) i k → cell ((cond b (fill room (suc n) rs (putRow n r t)) (filled (suc room) t)) .table) i k ≡ cell t i k
+    go true e = e ∙ cell-other n i k r t g (λ p. omega arith)
+    go false e = refl
+
+pub fill-length : (room n : ℕ) (rs : List Row) (t : List ℤ) → length ((fill room n rs t) .table) ≡ length t
+unfolding fill
+fill-length room n [] t = refl
+fill-length room n (r ∷ rs) t = go (ltb n room) (fill-length room (suc n) rs (putRow n r t))
+  where
+    go : (b : Bool) → length ((fill room (suc n) rs (putRow n r t)) .table) ≡ length (putRow n r t) → length ((cond b (fill room (suc n) rs (putRow n r t)) (filled (suc room) t)) .table) ≡ length t
+    go true e = e ∙ length-put n r t
+    go false e = refl

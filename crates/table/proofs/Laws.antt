@@ -1,15 +1,17 @@
 -- Laws of the table: zeros, rows read, rows put, rows appended.
-use Prim.Native.Nat.{ℕ, zero, suc, _+_, _*_, _-_, _≤_, _<_}
+use Prim.Native.Nat.{ℕ, zero, suc, _+_, _-_, _≤_, _<_}
 use native.Mathlib.Omega.{arith}
 use native.Mathlib.Nat.{sub-self}
 use native.Mathlib.Numerals.{add-one}
-use mathlib.Core.Path.{_≡_, refl, sym, ap, _∙_}
-use mathlib.Core.Bool.{Bool, true, false, cond, _&&_}
+use mathlib.Core.Path.{_≡_, refl, sym, ap, ap₂, _∙_}
+use mathlib.Core.Bool.{true, false}
 use mathlib.Core.List.{List, [], _∷_, _++_, append-assoc}
 use lib.IntN.{ℤ, pos}
 use lib.ListN.{length, getD, take, drop, set, replicate, length-append, length-take, length-drop, length-replicate, take-append-drop, replicate-append-replicate}
-use lib.Seq.{slice, slice-cons, slice-empty, drop-cons, set-at, length-take-le}
+use lib.Seq.{slice, slice-cons, slice-empty, length-slice, take-take, drop-cons, set-at}
 use Rattle.interval.specs.Instants.{eqZ}
+use Rattle.interval.proofs.Signed.{and-first, and-second, eq-true}
+use Rattle.model.specs.Lists.{every}
 use Rattle.table.specs.Table.{areZeros, zeroed}
 
 -- zeros from a to before e
@@ -24,6 +26,18 @@ zeros-not a e t h g z = rw (slice-cons a e t (pos 0) h g, z)
 pub zeros-end : (e : ℕ) (t : List ℤ) → areZeros e e t ≡ true
 unfolding areZeros
 zeros-end e t = rw (slice-empty e t)
+
+every-zero : (n : ℕ) → every (λ z. eqZ z (pos 0)) (replicate n (pos 0)) ≡ true
+every-zero zero = refl
+every-zero (suc n) = every-zero n
+
+pub zeros-part : (a e n : ℕ) (t : List ℤ) → slice a e t ≡ replicate n (pos 0) → areZeros a e t ≡ true
+unfolding areZeros
+zeros-part a e n t h = ap (every (λ z. eqZ z (pos 0))) h ∙ every-zero n
+
+pub zeroed-is : (a e : ℕ) (t : List ℤ) → zeroed a e t ≡ take a t ++ (replicate (e - a) (pos 0) ++ drop e t)
+unfolding zeroed
+zeroed-is a e t = refl
 
 pub zero-none : (a : ℕ) (t : List ℤ) → a ≤ length t → zeroed a a t ≡ t
 unfolding zeroed
@@ -45,3 +59,20 @@ zero-step a i t h g =
 pub length-zeroed : (a e : ℕ) (t : List ℤ) → a ≤ e → e ≤ length t → length (zeroed a e t) ≡ length t
 unfolding zeroed
 length-zeroed a e t h g = simp (length-append, length-take, length-drop, length-replicate) (omega arith)
+
+-- zeros in two tables that agree before and behind them
+pub zeroed-same : (a e : ℕ) (s t : List ℤ) → take a s ≡ take a t → drop e s ≡ drop e t → zeroed a e s ≡ zeroed a e t
+unfolding zeroed
+zeroed-same a e s t p q = rw (p, q)
+
+-- zeros where there are zeros already
+all-zeros : (xs : List ℤ) → every (λ z. eqZ z (pos 0)) xs ≡ true → xs ≡ replicate (length xs) (pos 0)
+all-zeros [] h = refl
+all-zeros (x ∷ xs) h = ap₂ _∷_ (eq-true x (pos 0) (and-first (eqZ x (pos 0)) (every (λ z. eqZ z (pos 0)) xs) h)) (all-zeros xs (and-second (eqZ x (pos 0)) (every (λ z. eqZ z (pos 0)) xs) h))
+
+pub zeroed-again : (a e : ℕ) (t : List ℤ) → a ≤ e → e ≤ length t → areZeros a e t ≡ true → zeroed a e t ≡ t
+unfolding areZeros zeroed
+zeroed-again a e t h k z =
+    let zeros : slice a e t ≡ replicate (e - a) (pos 0) = rw (length-slice a e t k) at (all-zeros (slice a e t) z) in
+    let front : take a t ++ slice a e t ≡ take e t = ap (λ l. l ++ slice a e t) (sym (take-take a e t h)) ∙ take-append-drop a (take e t) in
+    rw (← zeros) (sym (append-assoc (take a t) (slice a e t) (drop e t)) ∙ ap (λ l. l ++ drop e t) front ∙ take-append-drop e t)

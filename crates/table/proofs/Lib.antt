@@ -1,3 +1,4 @@
 pub mod Laws
 pub mod Rows
 pub mod Fill
+pub mod Operators

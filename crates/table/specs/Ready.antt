@@ -1,4 +1,4 @@
--- What a table that is in joint with its chart tells the functions that close an instant, forget and read: one fact a line.
+-- What a table that is consistent with its chart tells the functions that close an instant, forget and read: one fact a line.
 use Prim.Native.Nat.{ℕ, _*_, _≤_, _<_}
 use mathlib.Core.Path.{_≡_}
 use mathlib.Core.Logic.{_⊎_}

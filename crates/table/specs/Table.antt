@@ -15,7 +15,7 @@ use Rattle.model.specs.Order.{Row, row}
 abbrev pub cell : List ℤ → ℕ → ℕ → ℤ
 cell t i k = getD t (i * 5 + k) (pos 0)
 
--- row i; an entry is no negative number in a table that is in joint
+-- row i; an entry is no negative number in a table that is consistent
 abbrev pub tableRow : List ℤ → ℕ → Row
 tableRow t i = row (natAbs (cell t i 0)) (cell t i 1) (cell t i 2) (cell t i 3) (cell t i 4)
 

@@ -18,7 +18,7 @@ pub fn rows_that_fit(len: usize) -> usize
 
 // Writes row i.
 pub fn put_row(t: &mut [i32], i: usize, entry: usize, left: i32, right: i32, start: i32, end: i32)
-    requires { ⌜ (i < 65535) × (i * 5 + 5 ≤ length (now t)) × (entry < 32) ⌝ }
+    requires { ⌜ (i < 65535) × (i * 5 + 5 ≤ length (now t)) × (entry < 2147483648) ⌝ }
     ensures { λ _. ⌜ now (t .exit) ≡ putRow i (row entry left right start end) (now (t .entry)) ⌝ }
 {
     let at = i * 5;

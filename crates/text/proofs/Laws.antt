@@ -5,8 +5,8 @@ use native.Mathlib.Nat.{le-of-eq}
 use native.Mathlib.Numerals.{add-one}
 use mathlib.Core.Path.{_≡_, refl, sym, ap, ap₂, _∙_}
 use mathlib.Core.Bool.{Bool, true, false, cond}
-use mathlib.Core.List.{List, [], _∷_}
-use borrow.Author.Tests.{eq-eqb, ne-eqb, lt-ltb, le-ltb, ltb-true, ltb-false, leb-true, leb-false}
+use mathlib.Core.List.{List, [], _∷_, _++_, append-nil}
+use borrow.Author.Tests.{eq-eqb, ne-eqb, eqb-true, lt-ltb, le-ltb, ltb-true, ltb-false, leb-true, leb-false}
 use lib.Dec.{eqb, leb, ltb}
 use lib.ListN.{length, take, drop, getD, drop-of-length-le, length-take, length-drop}
 use lib.Seq.{drop-cons, take-all, length-take-le}
@@ -88,6 +88,90 @@ module _ (x : ℕ) where
       go : (t : Bool) → (p : List ℕ) × (ps : List (List ℕ)) × (split x s ≡ p ∷ ps) → (p : List ℕ) × (ps : List (List ℕ)) × (cond t ([] ∷ split x s) (inFront b (split x s)) ≡ p ∷ ps)
       go true f = ([], split x s, refl)
       go false (p, ps, e) = (b ∷ p, ps, rw e)
+
+-- where x is
+module _ (x : ℕ) where
+  -- a text with no x
+  pub index-without : (s : List ℕ) → ((i : ℕ) → i < length s → getD s i 0 ≡ x → ⊥) → indexOf x s ≡ length s
+  unfolding indexOf
+  index-without [] h = refl
+  index-without (b ∷ s) h = rw (ne-eqb b x (h 0 (omega arith))) (ap suc (index-without s (λ i k. h (suc i) (omega arith))))
+
+  -- the same by a test that computes
+  abbrev pub lacks : List ℕ → Bool
+  lacks [] = true
+  lacks (b ∷ s) = cond (eqb b x) false (lacks s)
+
+  pub index-lacks : (s : List ℕ) → lacks s ≡ true → indexOf x s ≡ length s
+  unfolding indexOf
+  index-lacks [] e = refl
+  index-lacks (b ∷ s) e = go (eqb b x) e (index-lacks s)
+    where
+      go : (t : Bool) → cond t false (lacks s) ≡ true → (lacks s ≡ true → indexOf x s ≡ length s) → cond t 0 (suc (indexOf x s)) ≡ suc (length s)
+      go true d f = let z : _≡_ {A = ℕ} 0 1 = cc in absurd (omega arith)
+      go false d f = ap suc (f d)
+
+  -- the byte at the place of the first x is x
+  pub index-cut : (s : List ℕ) → indexOf x s < length s → s ≡ take (indexOf x s) s ++ (x ∷ drop (suc (indexOf x s)) s)
+  unfolding indexOf
+  index-cut [] h = absurd (omega arith)
+  index-cut (b ∷ s) h = go (eqb b x) refl (index-cut s) h
+    where
+      go : (t : Bool) → eqb b x ≡ t → (indexOf x s < length s → s ≡ take (indexOf x s) s ++ (x ∷ drop (suc (indexOf x s)) s)) → cond t 0 (suc (indexOf x s)) < suc (length s) → b ∷ s ≡ take (cond t 0 (suc (indexOf x s))) (b ∷ s) ++ (x ∷ drop (suc (cond t 0 (suc (indexOf x s)))) (b ∷ s))
+      go true e f g = ap (λ c. c ∷ s) (eqb-true b x e)
+      go false e f g = ap (λ l. b ∷ l) (f (omega arith))
+
+-- parts put together: the last of the first and the first of the second become one
+abbrev pub glued : List (List ℕ) → List (List ℕ) → List (List ℕ)
+glued [] qs = qs
+glued (s ∷ []) [] = s ∷ []
+glued (s ∷ []) (q ∷ qs) = (s ++ q) ∷ qs
+glued (s ∷ r ∷ rs) qs = s ∷ glued (r ∷ rs) qs
+
+front-glued : (b : ℕ) (p : List ℕ) (ps : List (List ℕ)) (q : List ℕ) (qs : List (List ℕ)) → inFront b (glued (p ∷ ps) (q ∷ qs)) ≡ glued ((b ∷ p) ∷ ps) (q ∷ qs)
+front-glued b p [] q qs = refl
+front-glued b p (r ∷ rs) q qs = refl
+
+-- the parts of a text byte by byte, and of a text put together of two
+module _ (x : ℕ) where
+  pub split-empty : split x [] ≡ [] ∷ []
+  unfolding split
+  split-empty = refl
+
+  pub split-byte : (b : ℕ) (s : List ℕ) → split x (b ∷ s) ≡ cond (eqb b x) ([] ∷ split x s) (inFront b (split x s))
+  unfolding split
+  split-byte b s = refl
+
+  -- the last part of the first goes on with the first part of the second
+  pub split-append : (s t : List ℕ) → split x (s ++ t) ≡ glued (split x s) (split x t)
+  unfolding split
+  split-append [] t = go (split-some x t)
+    where
+      go : (q : List ℕ) × (qs : List (List ℕ)) × (split x t ≡ q ∷ qs) → split x t ≡ glued ([] ∷ []) (split x t)
+      go (q, qs, e) = rw e
+  split-append (b ∷ s) t = go (eqb b x) (split-append s t) (split-some x s) (split-some x t)
+    where
+      go : (y : Bool) → split x (s ++ t) ≡ glued (split x s) (split x t) → (p : List ℕ) × (ps : List (List ℕ)) × (split x s ≡ p ∷ ps) → (q : List ℕ) × (qs : List (List ℕ)) × (split x t ≡ q ∷ qs) → cond y ([] ∷ split x (s ++ t)) (inFront b (split x (s ++ t))) ≡ glued (cond y ([] ∷ split x s) (inFront b (split x s))) (split x t)
+      go true f (p, ps, e) (q, qs, d) = rw (f, e)
+      go false f (p, ps, e) (q, qs, d) = rw (f, e, d) (front-glued b p ps q qs)
+
+  -- a word and the x behind it are cut off
+  pub split-word : (w t : List ℕ) → indexOf x w ≡ length w → split x (w ++ (x ∷ t)) ≡ w ∷ split x t
+  split-word w t e = rw (split-append w (x ∷ t), split-none x w e, split-byte x t, eq-eqb x x refl) (ap (λ p. p ∷ split x t) (append-nil w))
+
+  -- no more parts than one for each byte and one
+  pub split-few : (s : List ℕ) → length (split x s) ≤ suc (length s)
+  unfolding split
+  split-few [] = omega arith
+  split-few (b ∷ s) = go (eqb b x) (split-some x s) (split-few s)
+    where
+      go : (t : Bool) → (p : List ℕ) × (ps : List (List ℕ)) × (split x s ≡ p ∷ ps) → length (split x s) ≤ suc (length s) → length (cond t ([] ∷ split x s) (inFront b (split x s))) ≤ suc (suc (length s))
+      go true (p, ps, e) h = omega (arith, h)
+      go false (p, ps, e) h = rw e (let k : suc (length ps) ≤ suc (length s) = rw e at h in omega (arith, k))
+
+pub lines-parts : (s : List ℕ) → lines s ≡ ended (split 10 s)
+unfolding lines
+lines-parts s = refl
 
 -- the first byte 10 ends the first line
 pub lines-cut : (s : List ℕ) → indexOf 10 s < length s → lines s ≡ whole (take (indexOf 10 s) s) ∷ lines (drop (suc (indexOf 10 s)) s)

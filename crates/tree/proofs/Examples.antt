@@ -1,39 +1,44 @@
--- The bytes of trees, computed: P1's row 7 of document 01, and both arms of an `or`.
+-- Trees as text, computed from the rows of a table: each form of document 01's "Reading".
+use Prim.Native.Nat.{ℕ}
+use Prim.Native.String.{String}
 use mathlib.Core.Path.{_≡_, refl}
-use mathlib.Core.List.{List, [], _∷_, _++_}
+use mathlib.Core.List.{List, [], _∷_, _++_, map}
 use lib.IntN.{ℤ, pos}
+use Rattle.text.specs.Quoted.{bytes}
 use Rattle.decimal.specs.Spelling.{spelled, spelledNumber, digitsWithin}
 use Rattle.interval.specs.declared.Relation.{Relation}
 use Rattle.interval.specs.declared.Edges.{Edges}
+use Rattle.interval.specs.declared.LengthTest.{LengthTest}
+use Rattle.model.specs.Lists.{numbers}
 use Rattle.model.specs.Order.{none}
-use Rattle.model.specs.Recognitions.{Operator, event, related, or, absence}
-use Rattle.tree.specs.Tree.{formOf, formAt, rowBytes, referenceBytes, treeWithin, treeBytes}
+use Rattle.model.specs.Recognitions.{Operator, event, related, or, absence, lasting}
+use Rattle.tree.specs.Tree.{arityOf, rowBytes, referenceBytes, treeWithin, treeBytes}
 
--- the chart of P1, and `or 0 4` behind it
 ops : List Operator
-ops = event 1 ∷ event 2 ∷ event 3 ∷ related Relation.Seq 0 1 ∷ absence Edges.ClosedOpen 3 2 ∷ or 0 4 ∷ []
+ops = event 1 ∷ related Relation.Seq 0 0 ∷ absence Edges.ClosedOpen 1 0 ∷ lasting LengthTest.Lasts 1 5 ∷ or 2 0 ∷ []
 
+-- entry, left and right of a row; start and end are not looked at
 row : ℤ → ℤ → ℤ → List ℤ
 row n l r = n ∷ l ∷ r ∷ pos 0 ∷ pos 0 ∷ []
 
--- its rows, starts and ends aside, and two of the `or`
 table : List ℤ
 table =
-    row (pos 0) (pos 1) none ++ row (pos 1) (pos 2) none ++ row (pos 3) (pos 0) (pos 1) ++ row (pos 4) (pos 2) none ++
-    row (pos 1) (pos 4) none ++ row (pos 2) (pos 3) none ++ row (pos 3) (pos 0) (pos 4) ++ row (pos 4) (pos 6) none ++
-    row (pos 5) (pos 0) none ++ row (pos 5) none (pos 7)
+    row (pos 0) (pos 1) none ++
+    row (pos 0) (pos 1000000) none ++
+    row (pos 1) (pos 0) (pos 1) ++
+    row (pos 2) (pos 2) none ++
+    row (pos 3) (pos 2) none ++
+    row (pos 4) (pos 3) none ++
+    row (pos 4) none (pos 0)
 
--- <<e1,e4>>
-p1 : treeBytes ops table 7 ≡ 60 ∷ 60 ∷ 101 ∷ 49 ∷ 44 ∷ 101 ∷ 52 ∷ 62 ∷ 62 ∷ []
-unfolding ops row table formOf formAt rowBytes referenceBytes treeWithin treeBytes spelled spelledNumber digitsWithin
-p1 = refl
-
--- <e1,_>
-left-arm : treeBytes ops table 8 ≡ 60 ∷ 101 ∷ 49 ∷ 44 ∷ 95 ∷ 62 ∷ []
-unfolding ops row table formOf formAt rowBytes referenceBytes treeWithin treeBytes spelled spelledNumber digitsWithin
-left-arm = refl
-
--- <_,<<e1,e4>>>
-right-arm : treeBytes ops table 9 ≡ 60 ∷ 95 ∷ 44 ∷ 60 ∷ 60 ∷ 101 ∷ 49 ∷ 44 ∷ 101 ∷ 52 ∷ 62 ∷ 62 ∷ 62 ∷ []
-unfolding ops row table formOf formAt rowBytes referenceBytes treeWithin treeBytes spelled spelledNumber digitsWithin
-right-arm = refl
+-- "A tree is written `e` and serial for an event; `<L,R>` for two; `<L,_>` or `<_,R>` for or; `<L>` for one."
+trees : map (treeBytes ops table) (numbers 0 7) ≡
+    bytes "e1" ∷
+    bytes "e1000000" ∷
+    bytes "<e1,e1000000>" ∷
+    bytes "<<e1,e1000000>>" ∷
+    bytes "<<e1,e1000000>>" ∷
+    bytes "<<<e1,e1000000>>,_>" ∷
+    bytes "<_,e1>" ∷ []
+unfolding bytes ops row table arityOf rowBytes referenceBytes treeWithin treeBytes spelled spelledNumber digitsWithin
+trees = refl

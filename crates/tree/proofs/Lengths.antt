@@ -1,44 +1,56 @@
 -- How many bytes a row has, from those of its references, and what a length within a limit says.
-use Prim.Native.Nat.{ℕ, _+_, _-_, _≤_, _<_}
+use Prim.Native.Nat.{ℕ, zero, suc, _+_, _-_, _≤_, _<_}
 use native.Mathlib.Omega.{arith}
+use native.Mathlib.Decide.{ℕ-discrete}
 use mathlib.Core.Path.{_≡_, refl, sym, _∙_}
 use mathlib.Core.Bool.{Bool, true, false, cond}
-use mathlib.Core.List.{List, [], _∷_}
-use lib.Dec.{leb}
-use lib.IntN.{ℤ, pos, negsuc, natAbs}
+use mathlib.Core.List.{List, [], _∷_, _++_, map}
+use lib.Dec.{leb, eqb}
+use lib.IntN.{ℤ, pos, negsuc}
 use lib.ListN.{length, length-append}
 use lib.Signed.{ltZ}
-use borrow.Author.Tests.{ltb-true, leb-true, leb-false, le-leb, lt-leb}
+use borrow.Author.Tests.{ltb-true, leb-true, leb-false, le-leb, lt-leb, eq-eqb, ne-eqb}
+use Rattle.decimal.specs.Spelling.{spelled}
 use Rattle.decimal.proofs.Laws.{spelled-length-least}
 use Rattle.model.specs.Recognitions.{Operator}
 use Rattle.table.specs.Table.{cell}
-use Rattle.tree.specs.declared.Form.{Form}
-use Rattle.tree.specs.declared.Form.the-variants.{Event, One, Two}
-use Rattle.tree.specs.Tree.{formAt, rowBytes, referenceBytes, treeWithin, treeBytes, lengthWithin}
+use Rattle.tree.specs.Tree.{arityOf, arityAt, rowBytes, referenceBytes, treeWithin, treeOver, treeBytes, lengthWithin}
+use Rattle.tree.specs.Following.{delimitersOf}
 
-row-some : (f : Form) (s : ℤ) (l r : List ℕ) → 2 ≤ length (rowBytes f s l r)
+-- an event's row, one of one reference, and one of two
+pub event-bytes : (a : ℕ) (s : ℤ) (l r : List ℕ) → a ≡ 0 → rowBytes a s l r ≡ 101 ∷ spelled s
 unfolding rowBytes
-row-some Event s l r = omega (arith, spelled-length-least s)
-row-some One s l r = simp length-append (omega arith)
-row-some Two s l r = simp length-append (omega arith)
+event-bytes a s l r e = rw e
+
+pub one-bytes : (a : ℕ) (s : ℤ) (l r : List ℕ) → a ≡ 1 → rowBytes a s l r ≡ 60 ∷ l ++ 62 ∷ []
+unfolding rowBytes
+one-bytes a s l r e = rw e
+
+pub two-bytes : (a : ℕ) (s : ℤ) (l r : List ℕ) → (a ≡ 0 → ⊥) → (a ≡ 1 → ⊥) → rowBytes a s l r ≡ 60 ∷ l ++ (44 ∷ r ++ 62 ∷ [])
+unfolding rowBytes
+two-bytes zero s l r d h = absurd (d refl)
+two-bytes (suc zero) s l r d h = absurd (h refl)
+two-bytes (suc (suc a)) s l r d h = refl
+
+row-some : (a : ℕ) (s : ℤ) (l r : List ℕ) → 2 ≤ length (rowBytes a s l r)
+unfolding rowBytes
+row-some zero s l r = omega (arith, spelled-length-least s)
+row-some (suc zero) s l r = simp length-append (omega arith)
+row-some (suc (suc a)) s l r = simp length-append (omega arith)
 
 -- a tree has at least two bytes, and a reference one
+over-some : (arities : List ℕ) (t : List ℤ) (i : ℕ) → 2 ≤ length (treeOver arities t i)
+unfolding treeWithin
+over-some arities t i = row-some (arityAt arities t i) (cell t i 1) _ _
+
 pub tree-some : (ops : List Operator) (t : List ℤ) (i : ℕ) → 2 ≤ length (treeBytes ops t i)
-unfolding treeBytes treeWithin
-tree-some ops t i = row-some (formAt ops (natAbs (cell t i 0))) (cell t i 1) _ _
+unfolding treeBytes
+tree-some ops t i = over-some (map arityOf ops) t i
 
-pub reference-some : (ops : List Operator) (t : List ℤ) (z : ℤ) → 1 ≤ length (referenceBytes (treeBytes ops t) z)
+pub reference-some : (arities : List ℕ) (t : List ℤ) (z : ℤ) → 1 ≤ length (referenceBytes (treeOver arities t) z)
 unfolding referenceBytes
-reference-some ops t (pos i) = omega (arith, tree-some ops t i)
-reference-some ops t (negsuc n) = omega arith
-
-pub one-length : (s : ℤ) (l r : List ℕ) → length (rowBytes One s l r) ≡ length l + 2
-unfolding rowBytes
-one-length s l r = simp length-append (omega arith)
-
-pub two-length : (s : ℤ) (l r : List ℕ) → length (rowBytes Two s l r) ≡ length l + length r + 3
-unfolding rowBytes
-two-length s l r = simp length-append (omega arith)
+reference-some arities t (pos i) = omega (arith, over-some arities t i)
+reference-some arities t (negsuc n) = omega arith
 
 module _ (limit : ℕ) (s : List ℕ) where
   pub is-over : limit < length s → 0 ≡ lengthWithin limit s
@@ -67,41 +79,54 @@ module _ (limit : ℕ) (s : List ℕ) where
   unfolding lengthWithin
   within-told n e p = rw e (within-at (leb (length s) limit) refl (λ q. p (e ∙ q)))
 
-pub none-within : (ops : List Operator) (t : List ℤ) (limit : ℕ) (z : ℤ) → ltZ z (pos 0) ≡ true → (limit ≡ 0 → ⊥) → 1 ≡ lengthWithin limit (referenceBytes (treeBytes ops t) z)
+pub none-within : (arities : List ℕ) (t : List ℤ) (limit : ℕ) (z : ℤ) → ltZ z (pos 0) ≡ true → (limit ≡ 0 → ⊥) → 1 ≡ lengthWithin limit (referenceBytes (treeOver arities t) z)
 unfolding referenceBytes
-none-within ops t limit (pos n) e h = absurd (omega (arith, ltb-true n 0 e))
-none-within ops t limit (negsuc n) e h = is-within limit (95 ∷ []) 1 refl (omega arith)
+none-within arities t limit (pos n) e h = absurd (omega (arith, ltb-true n 0 e))
+none-within arities t limit (negsuc n) e h = is-within limit (95 ∷ []) 1 refl (omega arith)
 
--- a row of one reference: l are its bytes, of which n were found
-module _ (limit : ℕ) (s : ℤ) (l r : List ℕ) (some : 1 ≤ length l) where
-  pub one-short : limit < 3 → 0 ≡ lengthWithin limit (rowBytes One s l r)
-  one-short h = is-over limit (rowBytes One s l r) (omega (arith, one-length s l r))
+pub delimiters-least : (a : ℕ) → 2 ≤ delimitersOf a
+delimiters-least a = by (eqb a 1)
+  where
+    by : (x : Bool) → 2 ≤ cond x 2 3
+    by true = omega arith
+    by false = omega arith
 
-  module _ (n : ℕ) (found : n ≡ lengthWithin (limit - 2) l) (room : 3 ≤ limit) where
-    pub one-over : n ≡ 0 → 0 ≡ lengthWithin limit (rowBytes One s l r)
-    one-over h = is-over limit (rowBytes One s l r) (omega (arith, one-length s l r, over-told (limit - 2) l n found some h))
+-- the bytes b of a row with references: l and r are those of its references
+module _ (a : ℕ) (s : ℤ) (l r b : List ℕ) (is : b ≡ rowBytes a s l r) (d : a ≡ 0 → ⊥) where
+  pub one-length : a ≡ 1 → length b ≡ delimitersOf a + length l
+  one-length e = rw (is, one-bytes a s l r e, eq-eqb a 1 e) (simp length-append (omega arith))
 
-    pub one-within : (n ≡ 0 → ⊥) → n + 2 ≡ lengthWithin limit (rowBytes One s l r)
-    one-within h =
-        let w = within-told (limit - 2) l n found h in
-        is-within limit (rowBytes One s l r) (n + 2) (omega (arith, one-length s l r, w)) (omega (arith, one-length s l r, w))
+  pub two-length : (a ≡ 1 → ⊥) → length b ≡ delimitersOf a + length l + length r
+  two-length h = rw (is, two-bytes a s l r d h, ne-eqb a 1 h) (simp length-append (omega arith))
 
--- a row of two: l and r are their bytes, of which n and m were found
-module _ (limit : ℕ) (s : ℤ) (l r : List ℕ) (some : 1 ≤ length l) (some′ : 1 ≤ length r) where
-  pub two-short : limit < 3 → 0 ≡ lengthWithin limit (rowBytes Two s l r)
-  two-short h = is-over limit (rowBytes Two s l r) (omega (arith, two-length s l r))
+  pub least-length : delimitersOf a + length l ≤ length b
+  least-length = by-arity (ℕ-discrete a 1)
+    where
+      by-arity : Dec (a ≡ 1) → delimitersOf a + length l ≤ length b
+      by-arity (yes e) = omega (arith, one-length e)
+      by-arity (no h) = omega (arith, two-length h)
 
-  module _ (n : ℕ) (found : n ≡ lengthWithin (limit - 3) l) (room : 3 ≤ limit) where
-    pub two-over : n ≡ 0 → 0 ≡ lengthWithin limit (rowBytes Two s l r)
-    two-over h = is-over limit (rowBytes Two s l r) (omega (arith, two-length s l r, over-told (limit - 3) l n found some h))
+  -- n bytes of the first reference and m of the second were found within the limit
+  module _ (limit delimiters : ℕ) (count : delimiters ≡ delimitersOf a) where
+    pub row-short : limit < delimiters → 0 ≡ lengthWithin limit b
+    row-short h = is-over limit b (omega (arith, least-length))
 
-    module _ (h : n ≡ 0 → ⊥) (m : ℕ) (found′ : m ≡ lengthWithin (limit - 3 - n) r) where
-      pub two-over-right : m ≡ 0 → 0 ≡ lengthWithin limit (rowBytes Two s l r)
-      two-over-right k =
-          is-over limit (rowBytes Two s l r) (omega (arith, two-length s l r, within-told (limit - 3) l n found h, over-told (limit - 3 - n) r m found′ some′ k))
+    module _ (n : ℕ) (found : n ≡ lengthWithin (limit - delimiters) l) (room : delimiters ≤ limit) where
+      pub left-over : 1 ≤ length l → n ≡ 0 → 0 ≡ lengthWithin limit b
+      left-over some h = is-over limit b (omega (arith, least-length, over-told (limit - delimiters) l n found some h))
 
-      pub two-within : (m ≡ 0 → ⊥) → n + m + 3 ≡ lengthWithin limit (rowBytes Two s l r)
-      two-within k =
-          let w = within-told (limit - 3) l n found h in
-          let v = within-told (limit - 3 - n) r m found′ k in
-          is-within limit (rowBytes Two s l r) (n + m + 3) (omega (arith, two-length s l r, w, v)) (omega (arith, two-length s l r, w, v))
+      module _ (h : n ≡ 0 → ⊥) where
+        pub left-within : (n ≡ length l) × (delimiters + n ≤ limit)
+        left-within = let w = within-told (limit - delimiters) l n found h in (w .0, omega arith)
+
+        pub one-within : a ≡ 1 → delimiters + n ≡ lengthWithin limit b
+        one-within e = is-within limit b (delimiters + n) (omega (arith, one-length e, left-within)) (omega (arith, one-length e, left-within))
+
+        module _ (m : ℕ) (found′ : m ≡ lengthWithin (limit - (delimiters + n)) r) (d′ : a ≡ 1 → ⊥) where
+          pub right-over : 1 ≤ length r → m ≡ 0 → 0 ≡ lengthWithin limit b
+          right-over some k = is-over limit b (omega (arith, two-length d′, left-within, over-told (limit - (delimiters + n)) r m found′ some k))
+
+          pub right-within : (m ≡ 0 → ⊥) → (delimiters + n + m ≡ lengthWithin limit b) × (delimiters + n + m ≤ limit)
+          right-within k =
+              let w = within-told (limit - (delimiters + n)) r m found′ k in
+              (is-within limit b (delimiters + n + m) (omega (arith, two-length d′, left-within)) (omega (arith, two-length d′, left-within)), omega (arith, left-within))

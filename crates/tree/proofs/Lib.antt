@@ -1,3 +1,4 @@
+pub mod Arities
 pub mod References
 pub mod Lengths
 pub mod Written

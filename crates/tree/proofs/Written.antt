@@ -7,16 +7,14 @@ use mathlib.Core.Path.{_≡_, refl, sym, ap, _∙_}
 use mathlib.Core.Bool.{true}
 use mathlib.Core.List.{List, [], _∷_, _++_, append-nil, append-assoc}
 use lib.IntN.{ℤ, pos, negsuc}
-use lib.ListN.{length, set, take, drop, length-set, length-take, length-drop, drop-of-length-le}
+use lib.ListN.{length, set, take, drop, length-set, length-append, length-take, length-drop, drop-of-length-le}
 use lib.Seq.{sets, sets-eq, length-sets, take-all, drop-drop}
 use lib.Signed.{ltZ}
 use borrow.Author.Tests.{ltb-true}
 use Rattle.decimal.specs.Spelling.{writtenOutput}
 use Rattle.decimal.proofs.Laws.{written-output-all}
-use Rattle.model.specs.Recognitions.{Operator}
-use Rattle.tree.specs.declared.Form.the-variants.{One, Two}
-use Rattle.tree.specs.Tree.{rowBytes, referenceBytes, treeBytes}
-use Rattle.tree.proofs.Lengths.{one-length, two-length}
+use Rattle.tree.specs.Tree.{rowBytes, referenceBytes, treeOver}
+use Rattle.tree.proofs.Lengths.{one-bytes, two-bytes, delimiters-least, least-length}
 
 sets-append : (out : List ℕ) (at : ℕ) (l r : List ℕ) → sets out at (l ++ r) ≡ sets (sets out at l) (at + length l) r
 sets-append out at [] r = rw (add-zero at)
@@ -24,69 +22,55 @@ sets-append out at (b ∷ l) r =
     let e : suc at + length l ≡ at + suc (length l) = omega arith in
     sets-append (set out at b) (suc at) l r ∙ rw e
 
--- the bytes b of a row, for which there is room in the output, written piece by piece: out₁ is the output after its first
--- reference, out₂ after its second
-module _ (out : List ℕ) (at : ℕ) (b : List ℕ) (room : at + length b ≤ length out) (s : ℤ) (l r : List ℕ) where
-  front : (n : ℕ) → n ≡ at + 1 + length l → (out₁ : List ℕ) → out₁ ≡ sets (set out at 60) (at + 1) l → (out₁ ≡ sets out at (60 ∷ l)) × (n ≡ at + length (60 ∷ l)) × (length out₁ ≡ length out)
-  front n p out₁ e = (rw (e, add-one at), omega arith, ap length e ∙ simp (length-sets, length-set))
+-- the bytes b of a row with references, for which there is room in the output, written piece by piece: out₁ is the output after
+-- its first reference, out₂ after its second
+module _ (out : List ℕ) (at : ℕ) (a : ℕ) (s : ℤ) (l r b : List ℕ) (is : b ≡ rowBytes a s l r) (d : a ≡ 0 → ⊥) (room : at + length b ≤ length out) where
+  least : length l + 2 ≤ length b
+  least = omega (arith, least-length a s l r b is d, delimiters-least a)
 
-  module _ (is : b ≡ rowBytes One s l r) where
-    one-size : length b ≡ length l + 2
-    one-size = ap length is ∙ one-length s l r
+  pub room-left : at + 1 + length l ≤ length (set out at 60)
+  room-left = simp length-set (omega (arith, least))
 
-    pub one-room : at + 1 + length l ≤ length (set out at 60)
-    one-room = simp length-set (omega (arith, one-size))
+  module _ (n : ℕ) (behind : n ≡ at + 1 + length l) (out₁ : List ℕ) (e : out₁ ≡ sets (set out at 60) (at + 1) l) where
+    front : (out₁ ≡ sets out at (60 ∷ l)) × (n ≡ at + length (60 ∷ l)) × (length out₁ ≡ length out)
+    front = (rw (e, add-one at), omega arith, ap length e ∙ simp (length-sets, length-set))
 
-    module _ (n : ℕ) (behind : n ≡ at + 1 + length l) (out₁ : List ℕ) (e : out₁ ≡ sets (set out at 60) (at + 1) l) where
-      pub one-index : n < length out₁
-      one-index = omega (arith, one-size, front n behind out₁ e .2)
+    pub place-left : n < at + length b
+    place-left = omega (arith, least)
 
-      pub one-same : length (set out₁ n 62) ≡ length out
-      one-same = length-set out₁ n 62 ∙ front n behind out₁ e .2
+    pub index-left : n < length out₁
+    index-left = omega (arith, place-left, front .2)
 
-      pub one-written : (n + 1 ≡ at + length b) × (set out₁ n 62 ≡ sets out at b)
-      unfolding rowBytes
-      one-written =
-          let f = front n behind out₁ e in
-          (omega (arith, one-size), rw (is, f .0, f .1) (sym (sets-append out at (60 ∷ l) (62 ∷ []))))
+    pub one-written : a ≡ 1 → (n + 1 ≡ at + length b) × (set out₁ n 62 ≡ sets out at b)
+    one-written h =
+        let q : b ≡ 60 ∷ l ++ 62 ∷ [] = is ∙ one-bytes a s l r h in
+        (omega (arith, simp length-append at (ap length q)), rw (q, front .0, front .1) (sym (sets-append out at (60 ∷ l) (62 ∷ []))))
 
-  module _ (is : b ≡ rowBytes Two s l r) where
-    two-size : length b ≡ length l + length r + 3
-    two-size = ap length is ∙ two-length s l r
+    module _ (d′ : a ≡ 1 → ⊥) where
+      two-row : b ≡ 60 ∷ l ++ (44 ∷ r ++ 62 ∷ [])
+      two-row = is ∙ two-bytes a s l r d d′
 
-    pub two-room : at + 1 + length l ≤ length (set out at 60)
-    two-room = simp length-set (omega (arith, two-size))
+      two-size : length b ≡ length l + length r + 3
+      two-size = ap length two-row ∙ simp length-append (omega arith)
 
-    module _ (n : ℕ) (behind : n ≡ at + 1 + length l) (out₁ : List ℕ) (e : out₁ ≡ sets (set out at 60) (at + 1) l) where
-      pub two-index : n < length out₁
-      two-index = omega (arith, two-size, front n behind out₁ e .2)
-
-      pub two-room-right : n + 1 + length r ≤ length (set out₁ n 44)
-      two-room-right = simp length-set (omega (arith, two-size, front n behind out₁ e .2))
+      pub room-right : n + 1 + length r ≤ length (set out₁ n 44)
+      room-right = simp length-set (omega (arith, two-size, front .2))
 
       module _ (m : ℕ) (behind′ : m ≡ n + 1 + length r) (out₂ : List ℕ) (e′ : out₂ ≡ sets (set out₁ n 44) (n + 1) r) where
-        same₂ : length out₂ ≡ length out
-        same₂ = ap length e′ ∙ simp (length-sets, length-set) (front n behind out₁ e .2)
-
-        pub two-index-right : m < length out₂
-        two-index-right = omega (arith, two-size, same₂)
-
-        pub two-same : length (set out₂ m 62) ≡ length out
-        two-same = length-set out₂ m 62 ∙ same₂
+        pub index-right : m < length out₂
+        index-right = omega (arith, two-size, front .2, simp (length-sets, length-set) at (ap length e′))
 
         pub two-written : (m + 1 ≡ at + length b) × (set out₂ m 62 ≡ sets out at b)
-        unfolding rowBytes
         two-written =
-            let f = front n behind out₁ e in
             let p : m ≡ n + length (44 ∷ r) = omega arith in
             let q : out₂ ≡ sets out₁ n (44 ∷ r) = rw (e′, add-one n) in
-            (omega (arith, two-size), rw (is, q, p, ← sets-append out₁ n (44 ∷ r) (62 ∷ []), f .0, f .1) (sym (sets-append out at (60 ∷ l) (44 ∷ r ++ 62 ∷ []))))
+            (omega (arith, two-size), rw (two-row, q, p, ← sets-append out₁ n (44 ∷ r) (62 ∷ []), front .0, front .1) (sym (sets-append out at (60 ∷ l) (44 ∷ r ++ 62 ∷ []))))
 
 -- -1 is written as one byte
-pub none-written : (ops : List Operator) (t : List ℤ) (out : List ℕ) (at : ℕ) (z : ℤ) → ltZ z (pos 0) ≡ true → (at + 1 ≡ at + length (referenceBytes (treeBytes ops t) z)) × (set out at 95 ≡ sets out at (referenceBytes (treeBytes ops t) z))
+pub none-written : (arities : List ℕ) (t : List ℤ) (out : List ℕ) (at : ℕ) (z : ℤ) → ltZ z (pos 0) ≡ true → (at + 1 ≡ at + length (referenceBytes (treeOver arities t) z)) × (set out at 95 ≡ sets out at (referenceBytes (treeOver arities t) z))
 unfolding referenceBytes
-none-written ops t out at (pos n) e = absurd (omega (arith, ltb-true n 0 e))
-none-written ops t out at (negsuc n) e = (refl, refl)
+none-written arities t out at (pos n) e = absurd (omega (arith, ltb-true n 0 e))
+none-written arities t out at (negsuc n) e = (refl, refl)
 
 -- at the front of the output
 pub front-written : (out b : List ℕ) → length b ≤ length out → sets out 0 b ≡ b ++ drop (length b) out

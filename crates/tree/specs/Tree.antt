@@ -3,7 +3,7 @@
 use Prim.Native.Nat.{ℕ, zero, suc, _<_}
 use mathlib.Core.Path.{_≡_}
 use mathlib.Core.Bool.{cond}
-use mathlib.Core.List.{List, [], _∷_, _++_}
+use mathlib.Core.List.{List, [], _∷_, _++_, map}
 use lib.Dec.{leb}
 use lib.IntN.{ℤ, pos, negsuc, natAbs}
 use lib.ListN.{length, getD}
@@ -11,9 +11,6 @@ use Rattle.decimal.specs.Spelling.{spelled}
 use Rattle.model.specs.Recognitions.{Event, Operator, event, related, or, absence, lasting, only, left, right, Recognition, ofEvent, ofOne, ofTwo}
 use Rattle.model.specs.Statements.{IsRecognition, Reads}
 use Rattle.table.specs.Table.{cell, rowsIn}
-use Rattle.tree.specs.declared.Form.{Form}
-use Rattle.tree.specs.declared.Node.{Node}
-use Rattle.tree.specs.declared.Form.the-variants as form
 
 -- The bytes of a recognition. 101 is `e`, 60 `<`, 62 `>`, 44 the comma and 95 `_`.
 unfoldable pub recognitionBytes : Recognition → List ℕ
@@ -23,40 +20,43 @@ recognitionBytes (ofOne n left r) = 60 ∷ recognitionBytes r ++ 44 ∷ 95 ∷ 6
 recognitionBytes (ofOne n right r) = 60 ∷ 95 ∷ 44 ∷ recognitionBytes r ++ 62 ∷ []
 recognitionBytes (ofTwo n r s) = 60 ∷ recognitionBytes r ++ (44 ∷ recognitionBytes s ++ 62 ∷ [])
 
--- The same on the flat table. How the rows of an operator are written: `or` as two references, of which one is none
-unfoldable pub formOf : Operator → Form
-formOf (event k) = form.Event
-formOf (related c a b) = form.Two
-formOf (or a b) = form.Two
-formOf (absence c a b) = form.One
-formOf (lasting c a d) = form.One
+-- The same on the flat table. How many references a row of an operator is written with; of the two of an `or` one is none
+unfoldable pub arityOf : Operator → ℕ
+arityOf (event k) = 0
+arityOf (related c a b) = 2
+arityOf (or a b) = 2
+arityOf (absence c a b) = 1
+arityOf (lasting c a d) = 1
 
-unfoldable pub formAt : List Operator → ℕ → Form
-formAt ops n = formOf (getD ops n (event 0))
-
--- what row i's tree is made of
-unfoldable pub nodeAt : List Operator → List ℤ → ℕ → Node
-nodeAt ops t i = record { form = formAt ops (natAbs (cell t i 0)); left = cell t i 1; right = cell t i 2 }
-
--- a row from its number left and the bytes of its references
-unfoldable pub rowBytes : Form → ℤ → List ℕ → List ℕ → List ℕ
-rowBytes form.Event s l r = 101 ∷ spelled s
-rowBytes form.One s l r = 60 ∷ l ++ 62 ∷ []
-rowBytes form.Two s l r = 60 ∷ l ++ (44 ∷ r ++ 62 ∷ [])
+-- a row from its arity, its number left and the bytes of its references
+unfoldable pub rowBytes : ℕ → ℤ → List ℕ → List ℕ → List ℕ
+rowBytes zero s l r = 101 ∷ spelled s
+rowBytes (suc zero) s l r = 60 ∷ l ++ 62 ∷ []
+rowBytes (suc (suc n)) s l r = 60 ∷ l ++ (44 ∷ r ++ 62 ∷ [])
 
 -- a reference, from the bytes of each row's tree: `_` for -1
 unfoldable pub referenceBytes : (ℕ → List ℕ) → ℤ → List ℕ
 referenceBytes tree (pos i) = tree i
 referenceBytes tree (negsuc n) = 95 ∷ []
 
--- the bytes of row i's tree, its references followed down. They are lower rows, so that a number f above i bounds how deep they go
-unfoldable pub treeWithin : List Operator → List ℤ → ℕ → ℕ → List ℕ
-treeWithin ops t zero i = []
-treeWithin ops t (suc f) i =
-    rowBytes (formAt ops (natAbs (cell t i 0))) (cell t i 1) (referenceBytes (treeWithin ops t f) (cell t i 1)) (referenceBytes (treeWithin ops t f) (cell t i 2))
+-- the arity of row i, from that of each entry
+abbrev pub arityAt : List ℕ → List ℤ → ℕ → ℕ
+arityAt arities t i = getD arities (natAbs (cell t i 0)) 0
 
+-- the bytes of row i's tree, its references followed down, from the arity of each entry. They are lower rows, so that a number f
+-- above i bounds how deep they go
+unfoldable pub treeWithin : List ℕ → List ℤ → ℕ → ℕ → List ℕ
+treeWithin arities t zero i = []
+treeWithin arities t (suc f) i =
+    rowBytes (arityAt arities t i) (cell t i 1) (referenceBytes (treeWithin arities t f) (cell t i 1)) (referenceBytes (treeWithin arities t f) (cell t i 2))
+
+-- with such a number
+abbrev pub treeOver : List ℕ → List ℤ → ℕ → List ℕ
+treeOver arities t i = treeWithin arities t (suc i) i
+
+-- from the chart's operators
 unfoldable pub treeBytes : List Operator → List ℤ → ℕ → List ℕ
-treeBytes ops t i = treeWithin ops t (suc i) i
+treeBytes ops t i = treeOver (map arityOf ops) t i
 
 -- how many bytes there are, or 0 where they are more than the limit; a tree has at least two
 unfoldable pub lengthWithin : ℕ → List ℕ → ℕ

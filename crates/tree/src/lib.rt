@@ -9,22 +9,16 @@ ghost use lib.ListN.{length, drop};
 ghost use lib.Seq.{sets};
 ghost use Rattle.decimal.specs.Spelling.{spelled};
 ghost use Rattle.table.specs.Operators.{entryOperator, operatorsOf};
-ghost use Rattle.table.specs.Ready.{Ready, Refers};
-ghost use Rattle.tree.specs.Tree.{formOf, nodeAt, referenceBytes, treeBytes, lengthWithin};
+ghost use Rattle.table.specs.Ready.{Ready};
+ghost use Rattle.tree.specs.Tree.{arityOf, referenceBytes, treeOver, treeBytes, lengthWithin};
+ghost use Rattle.tree.specs.Following.{aritiesOf, delimitersOf, nodeAt, Followable};
 use chart::Chart;
 use chart::Entry;
 use chart::operator::Kind;
 
-// How a row is written: an event's serial, one reference, or two.
-enum Form {
-    Event,
-    One,
-    Two,
-}
-
-// What a row's tree is made of: how it is written, and its numbers left and right.
+// What a row's tree is made of: how many references it is written with, and its numbers left and right.
 struct Node {
-    form: Form,
+    arity: u8,
     left: i32,
     right: i32,
 }
@@ -32,12 +26,13 @@ struct Node {
 // The number of bytes of row i's tree, or 0 where they are more than the limit; a tree has at least two. It is counted reference by
 // reference: each takes at least one byte of what is left of the limit, and the first that finds too little ends the count, however
 // large the tree is. So at most limit + 1 references are followed, each in constant time, and no deeper than operators nest, at most
-// 32 entries in a table that is in joint.
+// 32 entries in a table that is consistent. Of the chart only an array of 32 bytes is lent down, so that each step down needs little stack.
 pub fn tree_length(chart: Chart, table: &[i32], rows: usize, i: usize, limit: usize) -> usize
     requires { ⌜ Ready chart rows (now table) × (i < rows) ⌝ }
     ensures { λ r. ⌜ r ≡ lengthWithin limit (treeBytes (operatorsOf chart) (now (table .entry)) i) ⌝ }
 {
-    reference_length(chart, table, rows, i as i32, limit)
+    let arities = arities_of(chart);
+    reference_length(&arities, table, i as i32, limit)
 }
 
 // Writes row i's tree at the front of the output, which is long enough, and returns the number of bytes. Each byte is written once;
@@ -46,13 +41,14 @@ pub fn write_tree(chart: Chart, table: &[i32], rows: usize, i: usize, out: &mut 
     requires { ⌜ Ready chart rows (now table) × (i < rows) × (length (treeBytes (operatorsOf chart) (now table) i) ≤ length (now out)) ⌝ }
     ensures { λ r. ⌜ (r ≡ length (treeBytes (operatorsOf chart) (now (table .entry)) i)) × (now (out .exit) ≡ treeBytes (operatorsOf chart) (now (table .entry)) i ++ drop (length (treeBytes (operatorsOf chart) (now (table .entry)) i)) (now (out .entry))) ⌝ }
 {
-    write_reference(chart, table, rows, i as i32, out, 0)
+    let arities = arities_of(chart);
+    write_reference(&arities, table, i as i32, out, 0)
 }
 
 // The same for a reference z: one byte for -1, else the tree of row z.
-fn reference_length(chart: Chart, table: &[i32], rows: usize, z: i32, limit: usize) -> usize
-    requires { ⌜ Ready chart rows (now table) × Refers rows z ⌝ }
-    ensures { λ r. ⌜ r ≡ lengthWithin limit (referenceBytes (treeBytes (operatorsOf chart) (now (table .entry))) z) ⌝ }
+fn reference_length(arities: &[u8; 32], table: &[i32], z: i32, limit: usize) -> usize
+    requires { ⌜ Followable (now arities) (now table) z ⌝ }
+    ensures { λ r. ⌜ r ≡ lengthWithin limit (referenceBytes (treeOver (now (arities .entry)) (now (table .entry))) z) ⌝ }
 {
     if limit == 0 {
         return 0;
@@ -60,76 +56,58 @@ fn reference_length(chart: Chart, table: &[i32], rows: usize, z: i32, limit: usi
     if z < 0 {
         return 1;
     }
-    let node = node_at(chart, table, rows, z);
-    let form = node.form;
+    let node = node_at(arities, table, z);
+    let arity = node.arity;
     let left = node.left;
-    match form {
-        Form::Event => event_length(left, limit),
-        Form::One => {
-            if limit < 3 {
-                return 0;
-            }
-            let l = reference_length(chart, table, rows, left, limit - 2);
-            if l == 0 {
-                return 0;
-            }
-            l + 2
-        }
-        Form::Two => {
-            if limit < 3 {
-                return 0;
-            }
-            let l = reference_length(chart, table, rows, left, limit - 3);
-            if l == 0 {
-                return 0;
-            }
-            let right = node.right;
-            let r = reference_length(chart, table, rows, right, limit - 3 - l);
-            if r == 0 {
-                return 0;
-            }
-            l + r + 3
-        }
+    if arity == 0 {
+        return event_length(left, limit);
     }
+    let delimiters = delimiters_of(arity);
+    if limit < delimiters {
+        return 0;
+    }
+    let l = reference_length(arities, table, left, limit - delimiters);
+    if l == 0 {
+        return 0;
+    }
+    let n = delimiters + l;
+    if arity == 1 {
+        return n;
+    }
+    let right = node.right;
+    let r = reference_length(arities, table, right, limit - n);
+    if r == 0 {
+        return 0;
+    }
+    n + r
 }
 
 // Writes a reference z at a place of the output and returns the place behind it.
-fn write_reference(
-    chart: Chart,
-    table: &[i32],
-    rows: usize,
-    z: i32,
-    out: &mut [u8],
-    at: usize,
-) -> usize
-    requires { ⌜ Ready chart rows (now table) × Refers rows z × (at + length (referenceBytes (treeBytes (operatorsOf chart) (now table)) z) ≤ length (now out)) ⌝ }
-    ensures { λ r. ⌜ (r ≡ at + length (referenceBytes (treeBytes (operatorsOf chart) (now (table .entry))) z)) × (now (out .exit) ≡ sets (now (out .entry)) at (referenceBytes (treeBytes (operatorsOf chart) (now (table .entry))) z)) ⌝ }
+fn write_reference(arities: &[u8; 32], table: &[i32], z: i32, out: &mut [u8], at: usize) -> usize
+    requires { ⌜ Followable (now arities) (now table) z × (at + length (referenceBytes (treeOver (now arities) (now table)) z) ≤ length (now out)) ⌝ }
+    ensures { λ r. ⌜ (r ≡ at + length (referenceBytes (treeOver (now (arities .entry)) (now (table .entry))) z)) × (now (out .exit) ≡ sets (now (out .entry)) at (referenceBytes (treeOver (now (arities .entry)) (now (table .entry))) z)) ⌝ }
 {
     if z < 0 {
         out[at] = b'_';
         return at + 1;
     }
-    let node = node_at(chart, table, rows, z);
-    let form = node.form;
+    let node = node_at(arities, table, z);
+    let arity = node.arity;
     let left = node.left;
-    match form {
-        Form::Event => write_event(left, out, at),
-        Form::One => {
-            out[at] = b'<';
-            let n = write_reference(chart, table, rows, left, out, at + 1);
-            out[n] = b'>';
-            n + 1
-        }
-        Form::Two => {
-            out[at] = b'<';
-            let n = write_reference(chart, table, rows, left, out, at + 1);
-            out[n] = b',';
-            let right = node.right;
-            let m = write_reference(chart, table, rows, right, out, n + 1);
-            out[m] = b'>';
-            m + 1
-        }
+    if arity == 0 {
+        return write_event(left, out, at);
     }
+    out[at] = b'<';
+    let n = write_reference(arities, table, left, out, at + 1);
+    if arity == 1 {
+        out[n] = b'>';
+        return n + 1;
+    }
+    out[n] = b',';
+    let right = node.right;
+    let m = write_reference(arities, table, right, out, n + 1);
+    out[m] = b'>';
+    m + 1
 }
 
 // The number of bytes of an event, or 0 where they are more than the limit. One multiplication for each digit of the serial.
@@ -152,31 +130,51 @@ fn write_event(serial: i32, out: &mut [u8], at: usize) -> usize
 }
 
 // What row z is made of. Constant time.
-fn node_at(chart: Chart, table: &[i32], rows: usize, z: i32) -> Node
-    requires { ⌜ Ready chart rows (now table) × (leZ (pos 0) z ≡ true) × (natAbs z < rows) ⌝ }
-    ensures { λ r. ⌜ r ≡ nodeAt (operatorsOf chart) (now (table .entry)) (natAbs z) ⌝ }
+fn node_at(arities: &[u8; 32], table: &[i32], z: i32) -> Node
+    requires { ⌜ Followable (now arities) (now table) z × (leZ (pos 0) z ≡ true) ⌝ }
+    ensures { λ r. ⌜ r ≡ nodeAt (now (arities .entry)) (now (table .entry)) (natAbs z) ⌝ }
 {
     let at = (z as usize) * 5;
     let entry = table[at];
     let n = entry as usize;
-    let e = chart.entries[n];
-    let form = form_of(e);
+    let arity = arities[n];
     let left = table[at + 1];
     let right = table[at + 2];
-    Node { form, left, right }
+    Node { arity, left, right }
 }
 
-// How the rows of an entry are written. Constant time.
-fn form_of(e: Entry) -> Form
-    ensures { λ r. ⌜ r ≡ formOf (entryOperator e) ⌝ }
+// How many bytes a row has besides its references: `<>` or `<,>`. Constant time.
+fn delimiters_of(arity: u8) -> usize
+    ensures { λ r. ⌜ r ≡ delimitersOf arity ⌝ }
+{
+    if arity == 1 { 2 } else { 3 }
+}
+
+// How many references the rows of each entry are written with. One look at each entry.
+fn arities_of(chart: Chart) -> [u8; 32]
+    ensures { λ r. ⌜ r ≡ aritiesOf chart ⌝ }
+{
+    let mut arities = [0u8; 32];
+    let mut n: usize = 0;
+    while n < 32 {
+        let e = chart.entries[n];
+        arities[n] = arity_of(e);
+        n += 1;
+    }
+    arities
+}
+
+// How many references the rows of an entry are written with. Constant time.
+fn arity_of(e: Entry) -> u8
+    ensures { λ r. ⌜ r ≡ arityOf (entryOperator e) ⌝ }
 {
     let k = chart::operator::kind_of(e.op);
     match k {
-        Kind::Event => Form::Event,
-        Kind::Or => Form::Two,
-        Kind::Pair(_) => Form::Two,
-        Kind::Absence(_) => Form::One,
-        Kind::Length(_) => Form::One,
-        Kind::Unknown => Form::Event,
+        Kind::Event => 0,
+        Kind::Or => 2,
+        Kind::Pair(_) => 2,
+        Kind::Absence(_) => 1,
+        Kind::Length(_) => 1,
+        Kind::Unknown => 0,
     }
 }

@@ -2,20 +2,18 @@
 use Prim.Native.Nat.{ℕ, _+_, _*_, _≤_, _<_}
 use native.Mathlib.Omega.{arith}
 use mathlib.Core.Path.{_≡_, refl}
-use mathlib.Core.Bool.{Bool, true, false, cond, not, _||_}
+use mathlib.Core.Bool.{Bool, true, false, cond}
 use borrow.Author.Tests.{leb-true, leb-false, lt-ltb, le-ltb}
 use lib.Dec.{leb}
 use lib.ListN.{length, drop}
-use lib.Signed.{ltZ, leZ}
 use mathlib.Core.List.{List}
 use lib.IntN.{ℤ, pos}
-use Rattle.interval.specs.Instants.{isInstant}
-use Rattle.interval.proofs.Signed.{signed, is-lt, not-lt}
+use Rattle.interval.specs.Instants.{isInstant, isMarkRefused, isForgetRefused}
 use Rattle.chart.specs.Charts.{isUsable}
 use Rattle.chart.specs.declared.Chart.{Chart}
 use Rattle.table.specs.Table.{zeroed, putRows}
-use Rattle.joint.proofs.Theorems as joint
-use Rattle.watch.specs.Steps.{Step, refusedStep, takenStep, emptyWatch, roomIn, openingStep, isWatchInJoint, checkNumber, checked, closedRows, closedNumber, closedTable, marked, clockOwn, keptRows, raised, forgetOwn}
+use Rattle.consistency.proofs.Theorems as consistency
+use Rattle.watch.specs.Steps.{Step, refusedStep, takenStep, emptyWatch, roomIn, openingStep, isWatchConsistent, checkNumber, checked, closedRows, closedNumber, closedTable, marked, clockOwn, keptRows, raised, forgetOwn}
 use Rattle.watch.specs.declared.Watch.{Watch}
 
 module _ (chart : Chart) (t : List ℤ) (o : ℤ) where
@@ -37,63 +35,51 @@ module _ (chart : Chart) (w : Watch) (t : List ℤ) where
   unfolding checkNumber
   check-14 e = rw e
 
-  pub check-13 : isUsable chart ≡ true → isWatchInJoint chart w t ≡ false → checkNumber chart w t ≡ 13
+  pub check-13 : isUsable chart ≡ true → isWatchConsistent chart w t ≡ false → checkNumber chart w t ≡ 13
   unfolding checkNumber
   check-13 e d = rw (e, d)
 
-  pub check-0 : isUsable chart ≡ true → isWatchInJoint chart w t ≡ true → checkNumber chart w t ≡ 0
+  pub check-0 : isUsable chart ≡ true → isWatchConsistent chart w t ≡ true → checkNumber chart w t ≡ 0
   unfolding checkNumber
   check-0 e d = rw (e, d)
 
   -- what it tells
-  pub record InJoint : Type 0 where
+  pub record Consistent : Type 0 where
     pub usable : isUsable chart ≡ true
-    pub joint : isWatchInJoint chart w t ≡ true
+    pub consistent : isWatchConsistent chart w t ≡ true
 
-  pub check-told : checkNumber chart w t ≡ 0 → InJoint
+  pub check-told : checkNumber chart w t ≡ 0 → Consistent
   unfolding checkNumber
-  check-told e = go (isUsable chart) refl (isWatchInJoint chart w t) refl e
+  check-told e = go (isUsable chart) refl (isWatchConsistent chart w t) refl e
     where
-      go : (a : Bool) → isUsable chart ≡ a → (b : Bool) → isWatchInJoint chart w t ≡ b → _≡_ {A = ℕ} (cond a (cond b 0 13) 14) 0 → InJoint
-      go true p true q z = record { usable = p; joint = q }
+      go : (a : Bool) → isUsable chart ≡ a → (b : Bool) → isWatchConsistent chart w t ≡ b → _≡_ {A = ℕ} (cond a (cond b 0 13) 14) 0 → Consistent
+      go true p true q z = record { usable = p; consistent = q }
       go true p false q z = absurd (omega arith)
       go false p b q z = absurd (omega arith)
 
   pub check-passed : (own : Step) → checkNumber chart w t ≡ 0 → checked chart w t own ≡ own
   unfolding checked
-  check-passed own z = let j = check-told z in rw (j .usable, j .joint)
+  check-passed own z = let j = check-told z in rw (j .usable, j .consistent)
 
   pub check-refused : (own : Step) → (checkNumber chart w t ≡ 0 → ⊥) → checked chart w t own ≡ refusedStep (checkNumber chart w t) w t
   unfolding checked checkNumber
-  check-refused own d = go (isUsable chart) (isWatchInJoint chart w t) d
+  check-refused own d = go (isUsable chart) (isWatchConsistent chart w t) d
     where
       go : (a b : Bool) → (_≡_ {A = ℕ} (cond a (cond b 0 13) 14) 0 → ⊥) → cond a (cond b own (refusedStep 13 w t)) (refusedStep 14 w t) ≡ refusedStep (cond a (cond b 0 13) 14) w t
       go true true z = absurd (z refl)
       go true false z = refl
       go false b z = refl
 
--- before is not at or after
-pub lt-not-le : (a b : ℤ) → ltZ a b ≡ not (leZ b a)
-lt-not-le a b = go (leZ b a) refl
-  where
-    go : (c : Bool) → leZ b a ≡ c → ltZ a b ≡ not c
-    go true e = not-lt a b (omega (arith, signed))
-    go false e = is-lt a b (omega (arith, signed))
-
-pub not-twice : (b : Bool) → not (not b) ≡ b
-not-twice true = refl
-not-twice false = refl
-
 -- what the check tells the calls that go on
-pub told : (chart : Chart) (w : Watch) (t : List ℤ) → checkNumber chart w t ≡ 0 → joint.InJoint chart (w .instant) (w .floor) (w .events) (w .rows) (w .pending) t
+pub told : (chart : Chart) (w : Watch) (t : List ℤ) → checkNumber chart w t ≡ 0 → consistency.Consistent chart (w .instant) (w .floor) (w .events) (w .rows) (w .pending) t
 told chart w t z =
     let j = check-told chart w t z in
-    joint.in-joint-ready chart (w .instant) (w .floor) (w .events) (w .rows) (w .pending) t (j .usable) (j .joint)
+    consistency.consistent-ready chart (w .instant) (w .floor) (w .events) (w .rows) (w .pending) t (j .usable) (j .consistent)
 
 -- a clock mark, by the tests that lead to its answer
 module _ (chart : Chart) (w : Watch) (t : List ℤ) (x : ℤ) where
-  abbrev early : Bool
-  early = not (isInstant x) || leZ x (w .instant)
+  abbrev pub early : Bool
+  early = isMarkRefused (w .instant) x
 
   abbrev size : ℕ
   size = length (closedRows chart w t)
@@ -120,8 +106,8 @@ module _ (chart : Chart) (w : Watch) (t : List ℤ) (x : ℤ) where
 
 -- a forget
 module _ (chart : Chart) (w : Watch) (t : List ℤ) (f : ℤ) where
-  abbrev barred : Bool
-  barred = ltZ f (w .floor) || (ltZ (w .instant) f || not (isInstant f))
+  abbrev pub barred : Bool
+  barred = isForgetRefused (w .floor) (w .instant) f
 
   pub forget-11 : barred ≡ true → forgetOwn chart w t f ≡ refusedStep 11 w t
   unfolding forgetOwn

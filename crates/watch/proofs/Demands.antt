@@ -1,49 +1,45 @@
 -- The demands of specs/Demands.antt.
 use Prim.Native.Nat.{ℕ, suc, _+_, _*_, _-_, _≤_, _<_}
 use native.Mathlib.Omega.{arith}
-use native.Mathlib.Nat.{sub-self}
-use mathlib.Core.Path.{_≡_, refl, sym, ap, _∙_, subst}
-use mathlib.Core.Bool.{Bool, true, false, cond, not, _||_, _&&_}
+use mathlib.Core.Path.{_≡_, refl, sym, ap, ap₂, _∙_, subst}
+use mathlib.Core.Bool.{Bool, true, false, cond, not, _&&_}
 use mathlib.Core.List.{List, [], _∷_, _++_, map, List·Memᴰ, List·Memᴰ·head, Memᴰ·append-right}
 use lib.Dec.{T, leb, ltb, eqb}
 use lib.IntN.{ℤ, pos}
 use lib.ListN.{length, take, drop, replicate, length-map, length-append}
 use lib.Seq.{take-at}
 use lib.Signed.{ltZ, leZ}
-use Rattle.interval.specs.Instants.{isInstant}
-use Rattle.interval.proofs.Signed.{holds→, never, and-first, and-second}
+use Rattle.interval.specs.Instants.{isInstant, firstFloor, isMarkRefused, isForgetRefused}
+use Rattle.interval.proofs.Signed.{never, and-first, and-second}
 use Rattle.chart.specs.Charts.{isUsable}
 use Rattle.chart.specs.declared.Chart.{Chart}
+use Rattle.chart.proofs.Numbers.{cond-holds}
 use Rattle.model.specs.Lists.{keep}
 use Rattle.model.specs.Order.{Row, listing, asRow, asRows}
 use Rattle.model.specs.Recognitions.{Operator, Recognition, startOf, endOf}
 use Rattle.model.specs.Reference as ref
-use Rattle.model.specs.Reference.{Call, rowsOf, isAt, firstFloor}
-use Rattle.model.specs.RowSteps.{shown}
-use Rattle.model.specs.Joint.{isInJoint}
+use Rattle.model.specs.Reference.{Call, rowsOf, isAt}
+use Rattle.model.specs.RowSteps.{watch}
 use Rattle.model.specs.Statements.{Reads, IsRecognition}
 use Rattle.model.proofs.Theorems as model
+use Rattle.model.proofs.RowStepLaws.{shown-is}
 use Rattle.model.proofs.Range.{starts-in-range}
 use Rattle.table.specs.Operators.{operatorsOf}
-use Rattle.table.specs.Table.{rowsIn, flat, areZeros, putRows, zeroed}
+use Rattle.table.specs.Table.{rowsIn, flat, putRows, zeroed}
 use Rattle.table.proofs.Rows.{length-flat}
 use Rattle.tree.specs.Tree.{recognitionBytes, treeBytes}
 use Rattle.tree.proofs.Meaning.{tree-holds}
-use Rattle.watch.specs.Steps.{Step, emptyWatch, openingStep, refusedStep, takenStep, roomIn, isWatchInJoint, checked, answered, eventOwn, eventStep, withEvent, clockOwn, clockStep, closedRows, marked, forgetOwn, forgetStep, keptRows, raised, checkNumber, TreeStep, refusedTree, takenTree, treeOwn, treeStep}
+use Rattle.watch.specs.Steps.{Step, emptyWatch, openingStep, refusedStep, takenStep, roomIn, isWatchConsistent, checked, answered, eventOwn, eventStep, withEvent, clockOwn, clockStep, closedRows, marked, forgetOwn, forgetStep, keptRows, raised, checkNumber, TreeStep, refusedTree, takenTree, treeOwn, treeStep}
 use Rattle.watch.specs.Histories.{State, state, call, after, answers, opened}
 use Rattle.watch.specs.declared.Watch.{Watch}
-use Rattle.watch.specs.Demands.{history, book, FollowsBook, isForget, nothingForgotten, HoldsRecognitions, EndPartHolds, Demand1, Demand2, Demand3}
-use Rattle.watch.proofs.Shown.{stateOf, rows-flat, zeros-behind, drop-table}
-use Rattle.watch.proofs.History.{bounds, history-shown, history-in-joint}
+use Rattle.watch.specs.Demands.{history, modelAfter, FollowsModel, isForget, nothingForgotten, HoldsRecognitions, EndPartHolds, Demand1, Demand2, Demand3}
+use Rattle.watch.proofs.Shown.{stateOf, rows-flat}
+use Rattle.watch.proofs.History.{history-shown, history-consistent}
 use Rattle.watch.proofs.Lower.{usable-lower}
-use Rattle.watch.proofs.Calls.{told}
+use Rattle.watch.proofs.Calls.{told, opening-taken}
 use Rattle.watch.proofs.Ends.{end-part}
+use Rattle.watch.proofs.Numbers.{calls-numbered, openings-numbered, checks-numbered, trees-numbered, charts-answered, lines-answered}
 use Rattle.watch.proofs.Reading.{rows-fit, part-read, part-refused, rows-refused, tree-taken, tree-passed}
-
--- what holds of both holds of either
-cond-holds : {A : Type 0} (P : A → Type 0) (b : Bool) (x y : A) → P x → P y → P (cond b x y)
-cond-holds P true x y p q = p
-cond-holds P false x y p q = q
 
 -- a step that is refused, or taken with number 0
 Given : State → Step → Type 0
@@ -62,8 +58,8 @@ unfolding checked
 given-checked chart s own g =
     let w = s .watch in
     let t = s .table in
-    let joint = isWatchInJoint chart w t in
-    cond-holds (Given s) (isUsable chart) (cond joint own (refusedStep 13 w t)) (refusedStep 14 w t) (cond-holds (Given s) joint own (refusedStep 13 w t) g (given-refused s 13)) (given-refused s 14)
+    let consistent = isWatchConsistent chart w t in
+    cond-holds (Given s) (isUsable chart) (cond consistent own (refusedStep 13 w t)) (refusedStep 14 w t) (cond-holds (Given s) consistent own (refusedStep 13 w t) g (given-refused s 13)) (given-refused s 14)
 
 given-event : (s : State) (k : ℕ) → Given s (record { answer = eventOwn (s .watch) k; table = s .table })
 unfolding eventOwn Given
@@ -82,7 +78,7 @@ given-clock chart s x =
     let rs = closedRows chart w t in
     let full = ltb (roomIn t) (length rs) in
     let taken = takenStep (marked w x (length rs)) (putRows (w .rows) (drop (w .rows) rs) t) in
-    cond-holds (Given s) (not (isInstant x) || leZ x (w .instant)) (refusedStep 8 w t) (cond full (refusedStep 12 w t) taken) (given-refused s 8)
+    cond-holds (Given s) (isMarkRefused (w .instant) x) (refusedStep 8 w t) (cond full (refusedStep 12 w t) taken) (given-refused s 8)
     (cond-holds (Given s) full (refusedStep 12 w t) taken (given-refused s 12) (given-taken s (marked w x (length rs)) (putRows (w .rows) (drop (w .rows) rs) t)))
 
 given-forget : (chart : Chart) (s : State) (f : ℤ) → Given s (forgetOwn chart (s .watch) (s .table) f)
@@ -92,7 +88,7 @@ given-forget chart s f =
     let t = s .table in
     let n = length (keptRows chart w t f) in
     let u = zeroed (n * 5) (w .rows * 5) (putRows 0 (keptRows chart w t f) t) in
-    cond-holds (Given s) (ltZ f (w .floor) || (ltZ (w .instant) f || not (isInstant f))) (refusedStep 11 w t) (takenStep (raised w f n) u) (given-refused s 11) (given-taken s (raised w f n) u)
+    cond-holds (Given s) (isForgetRefused (w .floor) (w .instant) f) (refusedStep 11 w t) (takenStep (raised w f n) u) (given-refused s 11) (given-taken s (raised w f n) u)
 
 given-call : (chart : Chart) (s : State) (c : Call) → Given s (call chart s c)
 unfolding call eventStep clockStep forgetStep
@@ -140,6 +136,12 @@ kept-tree chart w t i out =
 pub demand-1 : Demand1
 unfolding OutputKept
 demand-1 = record {
+  callsNumbered = calls-numbered;
+  openingsNumbered = openings-numbered;
+  checksNumbered = checks-numbered;
+  treesNumbered = trees-numbered;
+  charts = charts-answered;
+  chartLines = lines-answered;
   calls = refused-call;
   openings = refused-opening;
   reads = λ chart w t e d. (part-refused chart w t e d, rows-refused chart w t e d);
@@ -157,9 +159,9 @@ unfolding checked
 floor-checked chart s own p =
     let w = s .watch in
     let t = s .table in
-    let joint = isWatchInJoint chart w t in
+    let consistent = isWatchConsistent chart w t in
     let same : Step → Type 0 = λ x. x .answer .watch .floor ≡ w .floor in
-    cond-holds same (isUsable chart) (cond joint own (refusedStep 13 w t)) (refusedStep 14 w t) (cond-holds same joint own (refusedStep 13 w t) p refl) refl
+    cond-holds same (isUsable chart) (cond consistent own (refusedStep 13 w t)) (refusedStep 14 w t) (cond-holds same consistent own (refusedStep 13 w t) p refl) refl
 
 floor-event : (w : Watch) (k : ℕ) → (eventOwn w k) .watch .floor ≡ w .floor
 unfolding eventOwn withEvent
@@ -172,7 +174,7 @@ floor-event w k = go (leb 1000000 (w .events)) (leb 64 (w .pending))
 
 floor-clock : (chart : Chart) (w : Watch) (t : List ℤ) (x : ℤ) → (clockOwn chart w t x) .answer .watch .floor ≡ w .floor
 unfolding clockOwn marked
-floor-clock chart w t x = go (not (isInstant x) || leZ x (w .instant)) (ltb (roomIn t) (length (closedRows chart w t)))
+floor-clock chart w t x = go (isMarkRefused (w .instant) x) (ltb (roomIn t) (length (closedRows chart w t)))
   where
     go : (a b : Bool) → (cond a (refusedStep 8 w t) (cond b (refusedStep 12 w t) (takenStep (marked w x (length (closedRows chart w t))) (putRows (w .rows) (drop (w .rows) (closedRows chart w t)) t)))) .answer .watch .floor ≡ w .floor
     go true b = refl
@@ -210,7 +212,7 @@ module _ (chart : Chart) (usable : isUsable chart ≡ true) (t : List ℤ) (o : 
   ops = operatorsOf chart
 
   abbrev b : ref.Model
-  b = book chart t o calls
+  b = modelAfter chart t o calls
 
   abbrev rs : List Row
   rs = rowsOf ops b
@@ -225,17 +227,12 @@ module _ (chart : Chart) (usable : isUsable chart ≡ true) (t : List ℤ) (o : 
   s = history chart t o calls
 
   -- the state shows the reference model
-  is-shown : s ≡ stateOf (roomIn t) tail (shown ops b)
-  is-shown = (history-shown chart usable t o inRange calls) .0 ∙ ap (stateOf (roomIn t) tail) ((model.history ops (usable-lower chart usable) (roomIn t) o calls) .state)
-
-  few : length rs ≤ roomIn t
-  unfolding shown
-  few = (bounds ops (roomIn t) (shown ops b) (holds→ _ (subst (λ w. T (isInJoint ops (roomIn t) w)) ((model.history ops (usable-lower chart usable) (roomIn t) o calls) .state) (model.in-joint ops (usable-lower chart usable) (roomIn t) o calls)))) .few
+  is-shown : s ≡ stateOf (roomIn t) tail (watch (b .openInstant) (b .floor) (length (b .events)) (map (λ e. e .code) (keep (isAt (b .openInstant)) (b .events))) rs)
+  is-shown = (history-shown chart usable t o inRange calls) .0 ∙ ap (stateOf (roomIn t) tail) ((model.history ops (usable-lower chart usable) (roomIn t) o calls) .state ∙ shown-is ops b)
 
   -- the row of a recognition u: it is in use, reads u, and its tree is written as u is
   module _ (us vs : List Recognition) (u : Recognition) (e : ts ≡ us ++ u ∷ vs) where
     in-use : length us < s .watch .rows
-    unfolding shown
     in-use =
         let p : length (asRows ts) ≡ length us + suc (length vs) = length-map ts (asRow ts) ∙ ap length e ∙ length-append us (u ∷ vs) in
         omega (arith, ap (λ x. x .watch .rows) is-shown, p)
@@ -244,28 +241,25 @@ module _ (chart : Chart) (usable : isUsable chart ≡ true) (t : List ℤ) (o : 
     is-recognition = ((model.listing-is ops (usable-lower chart usable) (b .events) (b .floor) (b .openInstant)) .members u .0 (subst (List·Memᴰ u) (sym e) (Memᴰ·append-right us (List·Memᴰ·head refl)))) .0
 
     reads-it : Reads (rowsIn (s .watch .rows) (s .table)) (length us) u
-    unfolding shown
     reads-it = subst (λ l. Reads l (length us) u) (sym (ap (λ x. rowsIn (x .watch .rows) (x .table)) is-shown ∙ rows-flat rs _)) (model.references ops (usable-lower chart usable) (b .events) (b .floor) (b .openInstant) us vs u e)
 
     tree-written : (out : List ℕ) → length (recognitionBytes u) ≤ length out → treeStep chart (s .watch) (s .table) (length us) out ≡ takenTree (recognitionBytes u) out
     tree-written out h =
         let q = tree-holds ops (b .events) (s .watch .rows) (s .table) (length us) u in-use is-recognition reads-it in
-        tree-passed chart (s .watch) (s .table) (length us) out (history-in-joint chart usable t o inRange calls)
+        tree-passed chart (s .watch) (s .table) (length us) out (history-consistent chart usable t o inRange calls)
         ∙ tree-taken chart (s .watch) (s .table) (length us) out in-use (rw q h)
         ∙ ap (λ l. takenTree l out) q
 
-  follows : FollowsBook chart t o calls
-  unfolding shown
+  follows : FollowsModel chart t o calls
   follows = record {
+    accepted = ap (λ x. x .answer .refusal) (opening-taken chart t o usable inRange);
     instant = ap (λ s. s .watch .instant) is-shown;
     floor = ap (λ s. s .watch .floor) is-shown;
     events = ap (λ s. s .watch .events) is-shown;
     rows = ap (λ s. s .watch .rows) is-shown;
     pending = ap (λ s. take (s .watch .pending) (s .watch .codes)) is-shown ∙ take-at codes (replicate (64 - length codes) 0) (length codes) refl;
     pendingCount = ap (λ s. s .watch .pending) is-shown ∙ length-map (keep (isAt (b .openInstant)) (b .events)) (λ e. e .code);
-    inUse = ap (λ s. take (s .watch .rows * 5) (s .table)) is-shown ∙ take-at (flat rs) _ (length rs * 5) (length-flat rs);
-    unused = ap (λ s. areZeros (s .watch .rows * 5) (roomIn t * 5) (s .table)) is-shown ∙ zeros-behind (roomIn t) tail rs few;
-    beyond = ap (λ s. drop (roomIn t * 5) (s .table)) is-shown ∙ drop-table (roomIn t) tail rs (roomIn t) few (omega arith) ∙ ap (λ n. replicate (n * 5) (pos 0) ++ tail) (sub-self (roomIn t));
+    table = ap (λ s. s .table) is-shown;
     trees = reads-it;
     bytes = λ us vs u out e h. tree-written us vs u e out h;
     numbers = (history-shown chart usable t o inRange calls) .1 ∙ (model.history ops (usable-lower chart usable) (roomIn t) o calls) .answers;
@@ -280,9 +274,11 @@ module _ (chart : Chart) (usable : isUsable chart ≡ true) (t : List ℤ) (o : 
       let f = follows in
       let low : b .floor ≡ firstFloor = sym (f .floor) ∙ floor-kept chart (opened chart t o) calls none ∙ floor-opened chart t o in
       let l = model.listing-is ops (usable-lower chart usable) (b .events) (b .floor) (b .openInstant) in
+      let size : s .watch .rows ≡ length ts = f .rows ∙ length-map ts (asRow ts) in
       record {
         ts = ts;
-        inUse = f .inUse;
+        rows = size;
+        inUse = ap₂ (λ n u. take (n * 5) u) (f .rows) (f .table) ∙ take-at (flat rs) _ (length rs * 5) (length-flat rs);
         increasing = l .increasing;
         members = λ u. (λ i. let m = l .members u .0 i in (m .0, subst (λ z. T (ltZ (endOf u) z)) (sym (f .instant)) (m .2)), λ i. l .members u .1 (i .0, subst (λ z. T (leZ z (startOf u))) (sym low) (starts-in-range ops (usable-lower chart usable) (roomIn t) o inRange calls u (i .0)), subst (λ z. T (ltZ (endOf u) z)) (f .instant) (i .1)));
       }

@@ -1,9 +1,9 @@
 -- Rows stand by end, so that those with one end are a part of the table. No code here.
-use Prim.Native.Nat.{ℕ, zero, suc, _+_, _*_, _-_, _≤_, _<_}
+use Prim.Native.Nat.{ℕ, zero, suc, _+_, _*_, _≤_, _<_}
 use native.Mathlib.Omega.{arith}
 use mathlib.Core.Path.{_≡_, refl, sym, ap, ap₂, _∙_}
 use mathlib.Core.Bool.{Bool, true, false, cond}
-use mathlib.Core.List.{List, [], _∷_, _++_, map, append-assoc, append-nil}
+use mathlib.Core.List.{List, [], _∷_, _++_, map, append-assoc}
 use lib.IntN.{ℤ, pos}
 use lib.ListN.{length, take, drop, take-append-drop}
 use lib.Seq.{slice, take-at, drop-at, drop-cons, length-take-le}
@@ -15,9 +15,8 @@ use Rattle.model.specs.Lists.{keep, numbers}
 use Rattle.model.specs.Order.{Row}
 use Rattle.model.proofs.History.{keep-length}
 use Rattle.table.specs.Table.{cell, tableRow, rowsIn, cellsOf, flat, part}
-use Rattle.table.proofs.Rows.{rows-none, rows-snoc, length-rows, length-flat}
+use Rattle.table.proofs.Rows.{rows-none, rows-numbers, rows-snoc, length-rows, length-flat, flat-none, flat-append, flat-snoc}
 use Rattle.forgetting.specs.Ends.{Ordered, endingBefore, endingBy}
-use Rattle.watch.proofs.Shown.{flat-append}
 
 -- numbers that differ fail the test
 not-eq : (a b : ℤ) → (a ≡ b → ⊥) → eqZ a b ≡ false
@@ -91,15 +90,14 @@ module _ (e : ℤ) where
           let n = none-earlier (r .end) rs (h .1) (omega (arith, signed)) in
           rw (n, k .0, k .1, not-eq (r .end) e (λ d. omega (arith, signed, eq-fact d)))
 
--- the rows of a table that is in joint are so
+-- the rows of a table that is consistent are so
 rising-from : (rows : ℕ) (t : List ℤ) → Ordered rows t → (n s : ℕ) (z : ℤ) → s + n ≤ rows → (0 < n → leZ z (cell t s 4) ≡ true) → Rising z (map (tableRow t) (numbers s n))
 unfolding Rising
 rising-from rows t o zero s z h g = tt
 rising-from rows t o (suc n) s z h g = (g (omega arith), rising-from rows t o n (suc s) (cell t s 4) (omega arith) (λ k. o s (suc s) (omega arith) (omega arith)))
 
 rows-rise : (rows : ℕ) (t : List ℤ) → Ordered rows t → Rising (cell t 0 4) (rowsIn rows t)
-unfolding rowsIn
-rows-rise rows t o = rising-from rows t o rows 0 (cell t 0 4) (omega arith) (λ k. omega (arith, signed))
+rows-rise rows t o = rw (rows-numbers rows t) (rising-from rows t o rows 0 (cell t 0 4) (omega arith) (λ k. omega (arith, signed)))
 
 -- a table is the numbers of its rows, and what follows them
 next-cell : (n k : ℕ) (t : List ℤ) → n * 5 + k < length t → drop (n * 5 + k) t ≡ cell t n k ∷ drop (n * 5 + (k + 1)) t
@@ -119,16 +117,14 @@ one-row n t h e =
     ∙ sym (ap (λ m. drop m t) z ∙ a ∙ ap (λ l. cell t n 0 ∷ l) (b ∙ ap (λ l. cell t n 1 ∷ l) (c ∙ ap (λ l. cell t n 2 ∷ l) (d ∙ ap (λ l. cell t n 3 ∷ l) f))))
 
 rows-flat-out : (n : ℕ) (t : List ℤ) → n * 5 ≤ length t → ((i : ℕ) → i < n → leZ (pos 0) (cell t i 0) ≡ true) → flat (rowsIn n t) ++ drop (n * 5) t ≡ t
-unfolding flat
-rows-flat-out zero t h e = rw (rows-none t)
+rows-flat-out zero t h e = rw (rows-none t, flat-none)
 rows-flat-out (suc n) t h e =
     let r = tableRow t n in
     let w : suc n * 5 ≡ n * 5 + 5 = omega arith in
-    let c : flat (r ∷ []) ≡ cellsOf r = append-nil (cellsOf r) in
     ap₂ (λ l k. flat l ++ drop k t) (rows-snoc n t) w
-    ∙ ap (λ l. l ++ drop (n * 5 + 5) t) (flat-append (rowsIn n t) (r ∷ []))
-    ∙ append-assoc (flat (rowsIn n t)) (flat (r ∷ [])) (drop (n * 5 + 5) t)
-    ∙ ap (λ l. flat (rowsIn n t) ++ l) (ap (λ l. l ++ drop (n * 5 + 5) t) c ∙ one-row n t (omega arith) (e n (omega arith)))
+    ∙ ap (λ l. l ++ drop (n * 5 + 5) t) (flat-snoc (rowsIn n t) r)
+    ∙ append-assoc (flat (rowsIn n t)) (cellsOf r) (drop (n * 5 + 5) t)
+    ∙ ap (λ l. flat (rowsIn n t) ++ l) (one-row n t (omega arith) (e n (omega arith)))
     ∙ rows-flat-out n t (omega arith) (λ i g. e i (omega arith))
 
 -- a part of the rows is that part of their numbers

@@ -2,7 +2,10 @@ pub mod Shown
 pub mod Stepping
 pub mod Lower
 pub mod History
+pub mod Numbers
 pub mod Demands
 pub mod Calls
+pub mod Steps
 pub mod Ends
 pub mod Reading
+pub mod Examples

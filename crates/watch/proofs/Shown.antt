@@ -1,5 +1,5 @@
 -- The watch and table that show a watch on rows: its rows number for number, zeros behind them, and what lay after the last row.
-use Prim.Native.Nat.{ℕ, zero, suc, _+_, _*_, _-_, _≤_, _<_}
+use Prim.Native.Nat.{ℕ, suc, _+_, _*_, _-_, _≤_, _<_}
 use native.Mathlib.Omega.{arith}
 use native.Mathlib.Nat.{zero-add}
 use mathlib.Core.Path.{_≡_, refl, sym, ap, ap₂, _∙_}
@@ -8,23 +8,17 @@ use mathlib.Core.List.{List, [], _∷_, _++_, append-assoc}
 use lib.IntN.{ℤ, pos}
 use lib.ListN.{length, take, drop, set, replicate, length-append, length-replicate, replicate-append-replicate}
 use lib.Seq.{slice, take-at, drop-at, drop-drop, drop-append-add, set-at}
-use lib.Signed.{leZ}
-use borrow.Author.Tests.{le-leb}
-use Rattle.interval.specs.Instants.{eqZ}
-use Rattle.model.specs.Lists.{every}
 use Rattle.model.specs.Order.{Row}
 use Rattle.model.specs.RowSteps as rows
-use Rattle.table.specs.Table.{cell, rowsIn, cellsOf, flat, putRows, areZeros, zeroed}
-use Rattle.table.proofs.Rows.{rows-none, rows-puts, puts-flat, length-flat}
+use Rattle.table.specs.Table.{rowsIn, flat, putRows, areZeros, zeroed}
+use Rattle.table.proofs.Laws.{zeros-part, zeroed-is}
+use Rattle.table.proofs.Rows.{rows-none, rows-puts, puts-flat, length-flat, flat-append}
 use Rattle.watch.specs.Histories.{State}
+use Rattle.watch.specs.Demands.{tableOf}
 use Rattle.watch.specs.declared.Watch.{Watch}
 
 abbrev zeros : ℕ → List ℤ
 zeros n = replicate n (pos 0)
-
--- the numbers of a table with these rows, room for so many, and this tail
-abbrev pub tableOf : ℕ → List ℤ → List Row → List ℤ
-tableOf room tail rs = flat rs ++ (zeros ((room - length rs) * 5) ++ tail)
 
 abbrev pub watchOf : rows.Watch → Watch
 watchOf m = record { instant = m .openInstant; floor = m .floor; events = m .count; rows = length (m .rows); pending = length (m .pending); codes = m .pending ++ replicate (64 - length (m .pending)) 0 }
@@ -33,11 +27,6 @@ abbrev pub stateOf : ℕ → List ℤ → rows.Watch → State
 stateOf room tail m = record { watch = watchOf m; table = tableOf room tail (m .rows) }
 
 -- rows written out
-pub flat-append : (rs qs : List Row) → flat (rs ++ qs) ≡ flat rs ++ flat qs
-unfolding flat
-flat-append [] qs = refl
-flat-append (r ∷ rs) qs = ap (λ l. cellsOf r ++ l) (flat-append rs qs)
-
 flat-front : (rs : List Row) (u : List ℤ) → flat rs ++ u ≡ putRows 0 rs (zeros (length rs * 5) ++ u)
 flat-front rs u =
     let z = zeros (length rs * 5) in
@@ -52,29 +41,16 @@ rows-flat rs u =
     let fits : (0 + length rs) * 5 ≤ length t = simp (length-append, length-replicate) (omega arith) in
     ap (rowsIn (length rs)) (flat-front rs u) ∙ ap (λ n. rowsIn n (putRows 0 rs t)) (sym (zero-add (length rs))) ∙ rows-puts 0 rs t fits ∙ ap (λ l. l ++ rs) (rows-none t)
 
-pub entry-flat : (rs : List Row) (u : List ℤ) (i : ℕ) → i < length rs → leZ (pos 0) (cell (flat rs ++ u) i 0) ≡ true
-unfolding flat
-entry-flat [] u i h = absurd (omega arith)
-entry-flat (r ∷ rs) u zero h = le-leb 0 (r .entry) (omega arith)
-entry-flat (r ∷ rs) u (suc i) h =
-    let e : suc i * 5 + 0 ≡ suc (suc (suc (suc (suc (i * 5 + 0))))) = omega arith in
-    rw e (entry-flat rs u i (omega arith))
-
 -- the table's length, and the zeros behind its rows
 pub length-table : (room : ℕ) (tail : List ℤ) (rs : List Row) → length rs ≤ room → length (tableOf room tail rs) ≡ room * 5 + length tail
 length-table room tail rs h = simp (length-append, length-replicate, length-flat) (omega arith)
 
-every-zero : (n : ℕ) → every (λ z. eqZ z (pos 0)) (zeros n) ≡ true
-every-zero zero = refl
-every-zero (suc n) = every-zero n
-
 pub zeros-behind : (room : ℕ) (tail : List ℤ) (rs : List Row) → length rs ≤ room → areZeros (length rs * 5) (room * 5) (tableOf room tail rs) ≡ true
-unfolding areZeros
 zeros-behind room tail rs h =
     let z = zeros ((room - length rs) * 5) in
     let p : take (room * 5) (tableOf room tail rs) ≡ flat rs ++ z = ap (take (room * 5)) (sym (append-assoc (flat rs) z tail)) ∙ take-at (flat rs ++ z) tail (room * 5) (simp (length-append, length-replicate, length-flat) (omega arith)) in
     let q : slice (length rs * 5) (room * 5) (tableOf room tail rs) ≡ z = ap (drop (length rs * 5)) p ∙ drop-at (flat rs) z (length rs * 5) (length-flat rs) in
-    ap (every (λ x. eqZ x (pos 0))) q ∙ every-zero ((room - length rs) * 5)
+    zeros-part (length rs * 5) (room * 5) ((room - length rs) * 5) (tableOf room tail rs) q
 
 -- numbers further back
 pub drop-table : (room : ℕ) (tail : List ℤ) (rs : List Row) (n : ℕ) → length rs ≤ n → n ≤ room → drop (n * 5) (tableOf room tail rs) ≡ zeros ((room - n) * 5) ++ tail
@@ -101,7 +77,6 @@ table-more room tail rs qs h =
 
 -- rows dropped
 pub table-less : (room : ℕ) (tail : List ℤ) (rs qs : List Row) → length rs ≤ room → length qs ≤ length rs → zeroed (length qs * 5) (length rs * 5) (putRows 0 qs (tableOf room tail rs)) ≡ tableOf room tail qs
-unfolding zeroed
 table-less room tail rs qs h g =
     let n = length rs in
     let k = length qs in
@@ -115,7 +90,7 @@ table-less room tail rs qs h g =
     let back : drop (n * 5) v ≡ zeros ((room - n) * 5) ++ tail = ap (λ m. drop m v) far ∙ drop-append-add (flat qs) (drop (k * 5) t) ((n - k) * 5) ∙ drop-drop ((n - k) * 5) (k * 5) t ∙ ap (λ m. drop m t) sum ∙ drop-table room tail rs n (omega arith) h in
     let w : (room - k) * 5 ≡ (n * 5 - k * 5) + (room - n) * 5 = omega arith in
     let all : zeros (n * 5 - k * 5) ++ (zeros ((room - n) * 5) ++ tail) ≡ zeros ((room - k) * 5) ++ tail = sym (append-assoc (zeros (n * 5 - k * 5)) (zeros ((room - n) * 5)) tail) ∙ ap (λ l. l ++ tail) (replicate-append-replicate (n * 5 - k * 5) ((room - n) * 5) (pos 0) ∙ ap zeros (sym w)) in
-    ap (λ u. take (k * 5) u ++ (zeros (n * 5 - k * 5) ++ drop (n * 5) u)) put ∙ ap₂ (λ x y. x ++ (zeros (n * 5 - k * 5) ++ y)) front back ∙ ap (λ l. flat qs ++ l) all
+    ap (zeroed (k * 5) (n * 5)) put ∙ zeroed-is (k * 5) (n * 5) v ∙ ap₂ (λ x y. x ++ (zeros (n * 5 - k * 5) ++ y)) front back ∙ ap (λ l. flat qs ++ l) all
 
 -- one event more
 pub codes-more : (p : List ℕ) (k : ℕ) → length p < 64 → set (p ++ replicate (64 - length p) 0) (length p) k ≡ (p ++ k ∷ []) ++ replicate (64 - length (p ++ k ∷ [])) 0

@@ -2,15 +2,14 @@
 use Prim.Native.Nat.{ℕ, suc, _+_, _*_, _-_, _≤_, _<_}
 use native.Mathlib.Numerals.{add-one}
 use mathlib.Core.Path.{_≡_, refl, sym, ap, ap₂, _∙_}
-use mathlib.Core.Bool.{Bool, true, false, cond, not, _||_}
-use mathlib.Core.List.{List, [], _∷_, _++_, append-assoc, append-nil}
+use mathlib.Core.Bool.{Bool, true, false}
+use mathlib.Core.List.{List, [], _∷_, _++_}
 use borrow.Author.Tests.{leb-false, ltb-false}
 use lib.Dec.{leb, ltb}
 use lib.IntN.{ℤ}
 use lib.ListN.{length, drop, replicate, length-append, length-map}
 use lib.Seq.{take-at, drop-at}
-use lib.Signed.{ltZ, leZ}
-use Rattle.interval.specs.Instants.{isInstant}
+use Rattle.interval.specs.Instants.{isMarkRefused, isForgetRefused}
 use Rattle.chart.specs.Charts.{isUsable}
 use Rattle.chart.specs.declared.Chart.{Chart}
 use Rattle.model.specs.Capacity.{capacity}
@@ -20,43 +19,36 @@ use Rattle.model.specs.Recognitions.{Operator, Event}
 use Rattle.model.specs.Reference as ref
 use Rattle.model.specs.Reference.{Call}
 use Rattle.model.specs.RowSteps as rows
-use Rattle.model.specs.RowSteps.{Rule, rules, endsAt, derivedRows, extendRows, closeRows, forgetRows, isLate, renumbered, numbered}
+use Rattle.model.specs.RowSteps.{closeRows, forgetRows, isLate, renumberedBy, numbered}
 use Rattle.model.proofs.History.{keep-length}
-use Rattle.table.specs.Table.{putRows, zeroed}
+use Rattle.model.proofs.RowStepLaws as laws
+use Rattle.model.proofs.Steps.{close-more, forget-kept}
+use Rattle.table.specs.Table.{putRows}
 use Rattle.table.specs.Operators.{operatorsOf}
-use Rattle.watch.specs.Steps.{Step, refusedStep, takenStep, answered, roomIn, isWatchInJoint, checked, eventOwn, eventStep, withEvent, closedRows, marked, clockOwn, clockStep, keptRows, raised, forgetOwn, forgetStep}
+use Rattle.watch.specs.Steps.{Step, takenStep, answered, roomIn, isWatchConsistent, checked, eventOwn, eventStep, withEvent, closedRows, marked, clockOwn, clockStep, keptRows, raised, forgetOwn, forgetStep}
 use Rattle.watch.specs.Histories.{call}
+use Rattle.watch.specs.Demands.{tableOf}
 use Rattle.watch.specs.declared.Watch.{Watch}
 use Rattle.watch.specs.declared.Answer.{Answer}
-use Rattle.watch.proofs.Shown.{tableOf, watchOf, stateOf, rows-flat, length-table, table-more, table-less, codes-more}
+use Rattle.watch.proofs.Shown.{watchOf, stateOf, rows-flat, length-table, table-more, table-less, codes-more}
 
 -- closing appends to the rows there are
-grows : (es : List Event) (js : List Rule) (rs : List Row) → (qs : List Row) × (extendRows es js rs ≡ rs ++ qs)
-unfolding extendRows
-grows es [] rs = ([], sym (append-nil rs))
-grows es (j ∷ js) rs =
-    let d = derivedRows j es rs in
-    let g = grows es js (rs ++ d) in
-    (d ++ g .0, g .1 ∙ append-assoc rs d (g .0))
-
 close-appends : (o : ℤ) (es : List Event) (ops : List Operator) (rs : List Row) → closeRows o es ops rs ≡ rs ++ drop (length rs) (closeRows o es ops rs)
-unfolding closeRows
 close-appends o es ops rs =
-    let g = grows es (rules (endsAt o) 0 ops) rs in
+    let g = close-more o es ops rs in
     g .1 ∙ ap (λ l. rs ++ l) (sym (ap (drop (length rs)) (g .1) ∙ drop-at rs (g .0) (length rs) refl))
 
 kept-few : (ops : List Operator) (f : ℤ) (rs : List Row) → length (forgetRows ops f rs) ≤ length rs
-unfolding forgetRows
-kept-few ops f rs = rw (length-map (keep (isLate f) rs) (renumbered ops f rs)) (keep-length (isLate f) rs)
+kept-few ops f rs = rw (forget-kept ops f rs, length-map (keep (isLate f) rs) (renumberedBy ops (isLate f) rs)) (keep-length (isLate f) rs)
 
 -- what the next state shows
 abbrev pub stepOf : ℕ → List ℤ → ref.Answer rows.Watch → Step
 stepOf room tail a = record { answer = answered (a .number) (watchOf (a .state)); table = tableOf room tail (a .state .rows) }
 
-module _ (chart : Chart) (usable : isUsable chart ≡ true) (room : ℕ) (tail : List ℤ) (fits : capacity (room * 5 + length tail) ≡ room) (m : rows.Watch) (joint : isWatchInJoint chart (watchOf m) (tableOf room tail (m .rows)) ≡ true) (few : length (m .rows) ≤ room) (short : length (m .pending) ≤ 64) where
+module _ (chart : Chart) (usable : isUsable chart ≡ true) (room : ℕ) (tail : List ℤ) (fits : capacity (room * 5 + length tail) ≡ room) (m : rows.Watch) (consistent : isWatchConsistent chart (watchOf m) (tableOf room tail (m .rows)) ≡ true) (few : length (m .rows) ≤ room) (short : length (m .pending) ≤ 64) where
   passes : (own : Step) → checked chart (watchOf m) (tableOf room tail (m .rows)) own ≡ own
   unfolding checked
-  passes own = rw (usable, joint)
+  passes own = rw (usable, consistent)
 
   room-is : roomIn (tableOf room tail (m .rows)) ≡ room
   room-is = ap capacity (length-table room tail (m .rows) few) ∙ fits
@@ -66,13 +58,13 @@ module _ (chart : Chart) (usable : isUsable chart ≡ true) (room : ℕ) (tail :
   one-more k h = rw (add-one (m .count), codes-more (m .pending) k h, ← length-append (m .pending) (k ∷ []))
 
   event-shown : (k : ℕ) → eventStep chart (watchOf m) (tableOf room tail (m .rows)) k ≡ stepOf room tail (rows.watchEvent m k)
-  unfolding eventStep eventOwn rows.watchEvent
-  event-shown k = passes _ ∙ go (leb 1000000 (m .count)) (leb 64 (length (m .pending))) refl
+  unfolding eventStep eventOwn
+  event-shown k = passes _ ∙ go (leb 1000000 (m .count)) refl (leb 64 (length (m .pending))) refl
     where
-      go : (a b : Bool) → leb 64 (length (m .pending)) ≡ b → record { answer = cond a (answered 10 (watchOf m)) (cond b (answered 9 (watchOf m)) (answered 0 (withEvent (watchOf m) k))); table = tableOf room tail (m .rows) } ≡ stepOf room tail (cond a (ref.refused 10 m) (cond b (ref.refused 9 m) (ref.accepted (rows.watch (m .openInstant) (m .floor) (suc (m .count)) (m .pending ++ k ∷ []) (m .rows)))))
-      go true b e = refl
-      go false true e = refl
-      go false false e = ap (λ w. record { answer = answered 0 w; table = tableOf room tail (m .rows) }) (one-more k (leb-false 64 (length (m .pending)) e))
+      go : (a : Bool) → leb 1000000 (m .count) ≡ a → (b : Bool) → leb 64 (length (m .pending)) ≡ b → record { answer = eventOwn (watchOf m) k; table = tableOf room tail (m .rows) } ≡ stepOf room tail (rows.watchEvent m k)
+      go true d b e = rw (d, laws.event-10 m k d)
+      go false d true e = rw (d, e, laws.event-9 m k d e)
+      go false d false e = rw (d, e, laws.event-taken m k d e) (ap (λ w. record { answer = answered 0 w; table = tableOf room tail (m .rows) }) (one-more k (leb-false 64 (length (m .pending)) e)))
 
   -- the rows after closing are those of the watch on rows
   closed-same : closedRows chart (watchOf m) (tableOf room tail (m .rows)) ≡ rows.closedRows (operatorsOf chart) m
@@ -90,27 +82,27 @@ module _ (chart : Chart) (usable : isUsable chart ≡ true) (room : ℕ) (tail :
       table-more room tail (m .rows) qs (rw (← e) h) ∙ ap (tableOf room tail) (sym e)
 
   clock-shown : (x : ℤ) → clockStep chart (watchOf m) (tableOf room tail (m .rows)) x ≡ stepOf room tail (rows.watchClock (operatorsOf chart) room m x)
-  unfolding clockStep clockOwn rows.watchClock marked
-  clock-shown x = passes _ ∙ rw (closed-same, room-is) (go (not (isInstant x) || leZ x (m .openInstant)) (ltb room (length rs)) refl)
+  unfolding clockStep clockOwn marked
+  clock-shown x = passes _ ∙ go (isMarkRefused (m .openInstant) x) refl (ltb room (length rs)) refl
     where
       rs : List Row
       rs = rows.closedRows (operatorsOf chart) m
 
-      go : (a b : Bool) → ltb room (length rs) ≡ b → cond a (refusedStep 8 (watchOf m) (tableOf room tail (m .rows))) (cond b (refusedStep 12 (watchOf m) (tableOf room tail (m .rows))) (takenStep (marked (watchOf m) x (length rs)) (putRows (length (m .rows)) (drop (length (m .rows)) rs) (tableOf room tail (m .rows))))) ≡ stepOf room tail (cond a (ref.refused 8 m) (cond b (ref.refused 12 m) (ref.accepted (rows.watch x (m .floor) (m .count) [] rs))))
-      go true b e = refl
-      go false true e = refl
-      go false false e = ap (λ u. takenStep (marked (watchOf m) x (length rs)) u) (closed-table (ltb-false room (length rs) e))
+      go : (a : Bool) → isMarkRefused (m .openInstant) x ≡ a → (b : Bool) → ltb room (length rs) ≡ b → clockOwn chart (watchOf m) (tableOf room tail (m .rows)) x ≡ stepOf room tail (rows.watchClock (operatorsOf chart) room m x)
+      go true d b e = rw (d, laws.clock-8 (operatorsOf chart) room m x d)
+      go false d true e = rw (closed-same, room-is, d, e, laws.clock-12 (operatorsOf chart) room m x d e)
+      go false d false e = rw (closed-same, room-is, d, e, laws.clock-taken (operatorsOf chart) room m x d e) (ap (λ u. takenStep (marked (watchOf m) x (length rs)) u) (closed-table (ltb-false room (length rs) e)))
 
   forget-shown : (f : ℤ) → forgetStep chart (watchOf m) (tableOf room tail (m .rows)) f ≡ stepOf room tail (rows.watchForget (operatorsOf chart) m f)
-  unfolding forgetStep forgetOwn rows.watchForget keptRows raised
-  forget-shown f = passes _ ∙ rw (rows-flat (m .rows) _) (go (ltZ f (m .floor) || (ltZ (m .openInstant) f || not (isInstant f))))
+  unfolding forgetStep forgetOwn keptRows raised
+  forget-shown f = passes _ ∙ go (isForgetRefused (m .floor) (m .openInstant) f) refl
     where
       rs : List Row
       rs = forgetRows (operatorsOf chart) f (m .rows)
 
-      go : (a : Bool) → cond a (refusedStep 11 (watchOf m) (tableOf room tail (m .rows))) (takenStep (raised (watchOf m) f (length rs)) (zeroed (length rs * 5) (length (m .rows) * 5) (putRows 0 rs (tableOf room tail (m .rows))))) ≡ stepOf room tail (cond a (ref.refused 11 m) (ref.accepted (rows.watch (m .openInstant) f (m .count) (m .pending) rs)))
-      go true = refl
-      go false = ap (λ u. takenStep (raised (watchOf m) f (length rs)) u) (table-less room tail (m .rows) rs few (kept-few (operatorsOf chart) f (m .rows)))
+      go : (a : Bool) → isForgetRefused (m .floor) (m .openInstant) f ≡ a → forgetOwn chart (watchOf m) (tableOf room tail (m .rows)) f ≡ stepOf room tail (rows.watchForget (operatorsOf chart) m f)
+      go true d = rw (d, laws.forget-11 (operatorsOf chart) m f d)
+      go false d = rw (rows-flat (m .rows) _, d, laws.forget-taken (operatorsOf chart) m f d) (ap (λ u. takenStep (raised (watchOf m) f (length rs)) u) (table-less room tail (m .rows) rs few (kept-few (operatorsOf chart) f (m .rows))))
 
   pub call-shown : (c : Call) → call chart (stateOf room tail m) c ≡ stepOf room tail (rows.watchStep (operatorsOf chart) room m c)
   unfolding call

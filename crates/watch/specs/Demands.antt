@@ -1,64 +1,107 @@
 -- The three demands of the request, said of the step definitions; no proof stands here. proofs/Demands.antt proves each.
 -- The step definitions are what the contracts of the calls cite, so that what is said here holds of the code.
-use Prim.Native.Nat.{ℕ, _*_, _≤_}
+use Prim.Native.Nat.{ℕ, _*_, _-_, _≤_}
 use mathlib.Core.Path.{_≡_}
 use mathlib.Core.Bool.{Bool, true, false, not, _&&_}
 use mathlib.Core.Logic.{_↔_}
 use mathlib.Core.List.{List, [], _∷_, _++_, map}
 use lib.Dec.{T, eqb}
 use lib.IntN.{ℤ, pos}
-use lib.ListN.{length, take, drop}
+use lib.ListN.{length, take, drop, replicate}
 use lib.Signed.{ltZ}
 use Rattle.interval.specs.Instants.{isInstant, eqZ}
-use Rattle.chart.specs.Charts.{isUsable}
+use Rattle.chart.specs.Charts.{isUsable, noEntries, addLine, readChart}
 use Rattle.chart.specs.declared.Chart.{Chart}
+use Rattle.chart.specs.declared.ChartAnswer.{ChartAnswer}
 use Rattle.model.specs.Lists.{keep}
 use Rattle.model.specs.Recognitions.{Recognition, endOf}
-use Rattle.model.specs.Order.{before, listing, asRows}
+use Rattle.model.specs.Order.{before, listing, Row, asRows}
 use Rattle.model.specs.Reference.{Model, Call, opening, step, run, numbersOf, rowsOf, isAt}
 use Rattle.model.specs.Statements.{_∈_, Sorted, IsRecognition, Reads}
 use Rattle.model.specs.Reference as ref
-use Rattle.table.specs.Table.{rowsIn, flat, areZeros}
+use Rattle.table.specs.Table.{rowsIn, flat}
 use Rattle.table.specs.Operators.{operatorsOf}
 use Rattle.tree.specs.Tree.{recognitionBytes}
 use Rattle.watch.specs.Steps.{roomIn, emptyWatch, openingStep, checkNumber, endPart, endRows, rowPart, takenTree, treeStep}
 use Rattle.watch.specs.Histories.{State, state, call, after, answers, opened}
 use Rattle.watch.specs.declared.Watch.{Watch}
 
--- A history: an opening of this chart, table and instant, and then these calls. The watch and table after it; and the reference model, which is fed
--- the chart, the calls and the number of rows the table can hold.
+-- A history: an opening of this chart, table and instant, and then these calls. The watch and table after it; and the reference model, document 01's
+-- book, which is fed the chart, the calls and the number of rows the table can hold.
 abbrev pub history : Chart → List ℤ → ℤ → List Call → State
 history chart t o calls = after chart (opened chart t o) calls
 
-abbrev pub book : Chart → List ℤ → ℤ → List Call → Model
-book chart t o calls = run (step (operatorsOf chart) (roomIn t)) ((opening o) .state) calls
+abbrev pub modelAfter : Chart → List ℤ → ℤ → List Call → Model
+modelAfter chart t o calls = run (step (operatorsOf chart) (roomIn t)) ((opening o) .state) calls
+
+-- a table with these rows, of so many that it can hold, zeros for the others, and this tail
+abbrev pub tableOf : ℕ → List ℤ → List Row → List ℤ
+tableOf room tail rs = flat rs ++ (replicate ((room - length rs) * 5) (pos 0) ++ tail)
 
 -- "After every such list, the empty one too, the watch has the book's open instant, floor, count of events, number of rows and events of the open
 -- instant in their order. The rows in use are the book's, number for number; the others are zeros; the numbers after the last row the table can
 -- hold are those from before the opening. A row's references, followed down, give its recognition's own tree. Each call was accepted, or refused
 -- with a number, as in the book." And a call for the tree of a row writes that recognition's bytes, where the output lent is long enough:
 -- "Its length is handed back and the output past it stays."
-pub record FollowsBook (chart : Chart) (t : List ℤ) (o : ℤ) (calls : List Call) : Type 0 where
-  pub instant : (history chart t o calls) .watch .instant ≡ (book chart t o calls) .openInstant
-  pub floor : (history chart t o calls) .watch .floor ≡ (book chart t o calls) .floor
-  pub events : (history chart t o calls) .watch .events ≡ length ((book chart t o calls) .events)
-  pub rows : (history chart t o calls) .watch .rows ≡ length (rowsOf (operatorsOf chart) (book chart t o calls))
-  pub pending : take ((history chart t o calls) .watch .pending) ((history chart t o calls) .watch .codes) ≡ map (λ e. e .code) (keep (isAt ((book chart t o calls) .openInstant)) ((book chart t o calls) .events))
-  pub pendingCount : (history chart t o calls) .watch .pending ≡ length (keep (isAt ((book chart t o calls) .openInstant)) ((book chart t o calls) .events))
-  pub inUse : take ((history chart t o calls) .watch .rows * 5) ((history chart t o calls) .table) ≡ flat (rowsOf (operatorsOf chart) (book chart t o calls))
-  pub unused : areZeros ((history chart t o calls) .watch .rows * 5) (roomIn t * 5) ((history chart t o calls) .table) ≡ true
-  pub beyond : drop (roomIn t * 5) ((history chart t o calls) .table) ≡ drop (roomIn t * 5) t
-  pub trees : (us vs : List Recognition) (u : Recognition) → listing (operatorsOf chart) ((book chart t o calls) .events) ((book chart t o calls) .floor) ((book chart t o calls) .openInstant) ≡ us ++ u ∷ vs → Reads (rowsIn ((history chart t o calls) .watch .rows) ((history chart t o calls) .table)) (length us) u
-  pub bytes : (us vs : List Recognition) (u : Recognition) (out : List ℕ) → listing (operatorsOf chart) ((book chart t o calls) .events) ((book chart t o calls) .floor) ((book chart t o calls) .openInstant) ≡ us ++ u ∷ vs → length (recognitionBytes u) ≤ length out → treeStep chart ((history chart t o calls) .watch) ((history chart t o calls) .table) (length us) out ≡ takenTree (recognitionBytes u) out
+pub record FollowsModel (chart : Chart) (t : List ℤ) (o : ℤ) (calls : List Call) : Type 0 where
+  pub accepted : (openingStep chart t o) .answer .refusal ≡ 0
+  pub instant : (history chart t o calls) .watch .instant ≡ (modelAfter chart t o calls) .openInstant
+  pub floor : (history chart t o calls) .watch .floor ≡ (modelAfter chart t o calls) .floor
+  pub events : (history chart t o calls) .watch .events ≡ length ((modelAfter chart t o calls) .events)
+  pub rows : (history chart t o calls) .watch .rows ≡ length (rowsOf (operatorsOf chart) (modelAfter chart t o calls))
+  pub pending : take ((history chart t o calls) .watch .pending) ((history chart t o calls) .watch .codes) ≡ map (λ e. e .code) (keep (isAt ((modelAfter chart t o calls) .openInstant)) ((modelAfter chart t o calls) .events))
+  pub pendingCount : (history chart t o calls) .watch .pending ≡ length (keep (isAt ((modelAfter chart t o calls) .openInstant)) ((modelAfter chart t o calls) .events))
+  pub table : (history chart t o calls) .table ≡ tableOf (roomIn t) (drop (roomIn t * 5) t) (rowsOf (operatorsOf chart) (modelAfter chart t o calls))
+  pub trees : (us vs : List Recognition) (u : Recognition) → listing (operatorsOf chart) ((modelAfter chart t o calls) .events) ((modelAfter chart t o calls) .floor) ((modelAfter chart t o calls) .openInstant) ≡ us ++ u ∷ vs → Reads (rowsIn ((history chart t o calls) .watch .rows) ((history chart t o calls) .table)) (length us) u
+  pub bytes : (us vs : List Recognition) (u : Recognition) (out : List ℕ) → listing (operatorsOf chart) ((modelAfter chart t o calls) .events) ((modelAfter chart t o calls) .floor) ((modelAfter chart t o calls) .openInstant) ≡ us ++ u ∷ vs → length (recognitionBytes u) ≤ length out → treeStep chart ((history chart t o calls) .watch) ((history chart t o calls) .table) (length us) out ≡ takenTree (recognitionBytes u) out
   pub numbers : answers chart (opened chart t o) calls ≡ numbersOf (step (operatorsOf chart) (roomIn t)) ((opening o) .state) calls
 
 -- Demand 3, for every chart that 14 lets through, every table, every opening instant in range and every list of calls
 abbrev pub Demand3 : Type 0
-Demand3 = (chart : Chart) → isUsable chart ≡ true → (t : List ℤ) (o : ℤ) → isInstant o ≡ true → (calls : List Call) → FollowsBook chart t o calls
+Demand3 = (chart : Chart) → isUsable chart ≡ true → (t : List ℤ) (o : ℤ) → isInstant o ≡ true → (calls : List Call) → FollowsModel chart t o calls
 
--- Demand 1: "a refused event, mark or forget hands back the watch it got, and no refusal alters a lent byte". A read cannot alter the table
--- it is lent.
+-- The numbers that each call is refused with. "A refused opening (14, then 8)"
+abbrev pub openingNumbers : List ℕ
+openingNumbers = 14 ∷ 8 ∷ []
+
+-- "Calls on a watch check 14, 13, then their own: 10 before 9, 8 before 12, 15 before 16."; "11 a forget below the floor, above the open instant or
+-- out of range"
+abbrev pub checkNumbers : List ℕ
+checkNumbers = 14 ∷ 13 ∷ []
+
+abbrev pub callNumbers : Call → List ℕ
+callNumbers (ref.event k) = checkNumbers ++ 10 ∷ 9 ∷ []
+callNumbers (ref.clock x) = checkNumbers ++ 8 ∷ 12 ∷ []
+callNumbers (ref.forget f) = checkNumbers ++ 11 ∷ []
+
+abbrev pub treeNumbers : List ℕ
+treeNumbers = checkNumbers ++ 15 ∷ 16 ∷ []
+
+-- "1 no line; 2 a 33rd line; 3 a line not of the form above; 4 entry number not the next; 5 operand not lower; 6 code or length out of range";
+-- "in a line 2, 3, 4, 6, 5"
+abbrev pub lineNumbers : List ℕ
+lineNumbers = 2 ∷ 3 ∷ 4 ∷ 6 ∷ 5 ∷ []
+
+abbrev pub chartNumbers : List ℕ
+chartNumbers = 1 ∷ lineNumbers
+
+-- "Returned: the number, the line counted from 1 (line 1 for refusal 1) and a chart of no entries"; "refusal number and line out, both 0 for a chart
+-- taken"
+pub record ChartAnswered (numbers : List ℕ) (a : ChartAnswer) : Type 0 where
+  pub number : a .refusal ∈ (0 ∷ numbers)
+  pub together : (a .refusal ≡ 0) ↔ (a .line ≡ 0)
+  pub none : (a .refusal ≡ 0 → ⊥) → a .chart ≡ noEntries
+
+-- Demand 1: "every call ... refuses by a listed number what it cannot take; a refused event, mark or forget hands back the watch it got, and no refusal
+-- alters a lent byte". A read cannot alter the table it is lent. Crate log has the demand for a line of the log.
 pub record Demand1 : Type 0 where
+  -- 0, or a number that the call is refused with
+  pub callsNumbered : (chart : Chart) (s : State) (c : Call) → (call chart s c) .answer .refusal ∈ (0 ∷ callNumbers c)
+  pub openingsNumbered : (chart : Chart) (t : List ℤ) (o : ℤ) → (openingStep chart t o) .answer .refusal ∈ (0 ∷ openingNumbers)
+  pub checksNumbered : (chart : Chart) (w : Watch) (t : List ℤ) → checkNumber chart w t ∈ (0 ∷ checkNumbers)
+  pub treesNumbered : (chart : Chart) (w : Watch) (t : List ℤ) (i : ℕ) (out : List ℕ) → (treeStep chart w t i out) .answer .refusal ∈ (0 ∷ treeNumbers)
+  pub charts : (s : List ℕ) → ChartAnswered chartNumbers (readChart s)
+  pub chartLines : (c : Chart) (s : List ℕ) → ChartAnswered lineNumbers (addLine c s)
   -- "Every other refusal from 8 on returns the watch given. After a refusal all lent memory holds what it held before."
   pub calls : (chart : Chart) (s : State) (c : Call) → ((call chart s c) .answer .refusal ≡ 0 → ⊥) → state (call chart s c) ≡ s
   -- "A refused opening (14, then 8) returns an empty watch at instant 0"
@@ -83,13 +126,14 @@ unfoldable pub nothingForgotten : Chart → State → List Call → Bool
 nothingForgotten chart s [] = true
 nothingForgotten chart s (c ∷ cs) = not (isForget c && eqb ((call chart s c) .answer .refusal) 0) && nothingForgotten chart (state (call chart s c)) cs
 
--- the rows in use are those of ts, which has each recognition over the closed instants, those before the open one, one time, none besides, in the
--- order of rows
+-- the rows in use are as many as ts has, and are its rows; ts has each recognition over the closed instants, those before the open one, one time, none
+-- besides, in the order of rows
 pub record HoldsRecognitions (chart : Chart) (t : List ℤ) (o : ℤ) (calls : List Call) : Type 0 where
   pub ts : List Recognition
+  pub rows : (history chart t o calls) .watch .rows ≡ length ts
   pub inUse : take ((history chart t o calls) .watch .rows * 5) ((history chart t o calls) .table) ≡ flat (asRows ts)
   pub increasing : Sorted before ts
-  pub members : (u : Recognition) → (u ∈ ts) ↔ (IsRecognition (operatorsOf chart) ((book chart t o calls) .events) u × T (ltZ (endOf u) ((history chart t o calls) .watch .instant)))
+  pub members : (u : Recognition) → (u ∈ ts) ↔ (IsRecognition (operatorsOf chart) ((modelAfter chart t o calls) .events) u × T (ltZ (endOf u) ((history chart t o calls) .watch .instant)))
 
 -- Demand 2: "While nothing has been forgotten, in a history as 3 has it, the table after each accepted clock mark holds, for each chart entry, the
 -- recognitions that the published definition gives for the closed instants: each of them one time, none besides, in the stated order." It is so

@@ -1,22 +1,20 @@
 -- What each call on a watch answers, and what the lent memory holds after it, for every watch, chart, table and argument. Document 01,
 -- "Instants, events, rows", "Who can be turned back, and with which number" and "Reading".
 use Prim.Native.Nat.{ℕ, suc, _+_, _*_, _-_}
-use mathlib.Core.Bool.{Bool, cond, not, _||_}
+use mathlib.Core.Bool.{Bool, cond}
 use mathlib.Core.List.{List, [], _++_}
 use lib.Dec.{ltb, leb, eqb}
 use lib.IntN.{ℤ, pos}
 use lib.ListN.{length, take, drop, set, replicate}
-use lib.Signed.{ltZ, leZ}
-use Rattle.interval.specs.Instants.{isInstant}
+use Rattle.interval.specs.Instants.{isInstant, firstFloor, isMarkRefused, isForgetRefused}
 use Rattle.chart.specs.Charts.{isUsable}
 use Rattle.chart.specs.declared.Chart.{Chart}
 use Rattle.model.specs.Capacity.{capacity}
 use Rattle.model.specs.Order.{Row}
-use Rattle.model.specs.Reference.{firstFloor}
 use Rattle.model.specs.RowSteps.{numbered, closeRows, forgetRows}
 use Rattle.table.specs.Table.{rowsIn, putRows, zeroed, part}
 use Rattle.table.specs.Operators.{operatorsOf}
-use Rattle.joint.specs.Joint.{inJoint}
+use Rattle.consistency.specs.Consistency.{areConsistent}
 use Rattle.forgetting.specs.Ends.{endingBefore, endingBy}
 use Rattle.tree.specs.Tree.{treeBytes}
 use Rattle.watch.specs.declared.Watch.{Watch}
@@ -54,14 +52,14 @@ openingStep chart t o =
     (refusedStep 14 (emptyWatch (pos 0)) t)
 
 -- "Calls on a watch check 14, 13, then their own"
-abbrev pub isWatchInJoint : Chart → Watch → List ℤ → Bool
-isWatchInJoint chart w t = inJoint chart (w .instant) (w .floor) (w .events) (w .rows) (w .pending) t
+abbrev pub isWatchConsistent : Chart → Watch → List ℤ → Bool
+isWatchConsistent chart w t = areConsistent chart (w .instant) (w .floor) (w .events) (w .rows) (w .pending) t
 
 unfoldable pub checkNumber : Chart → Watch → List ℤ → ℕ
-checkNumber chart w t = cond (isUsable chart) (cond (isWatchInJoint chart w t) 0 13) 14
+checkNumber chart w t = cond (isUsable chart) (cond (isWatchConsistent chart w t) 0 13) 14
 
 unfoldable pub checked : Chart → Watch → List ℤ → Step → Step
-checked chart w t own = cond (isUsable chart) (cond (isWatchInJoint chart w t) own (refusedStep 13 w t)) (refusedStep 14 w t)
+checked chart w t own = cond (isUsable chart) (cond (isWatchConsistent chart w t) own (refusedStep 13 w t)) (refusedStep 14 w t)
 
 -- "An event ... happens at the open instant"; "10 before 9"
 unfoldable pub withEvent : Watch → ℕ → Watch
@@ -91,7 +89,7 @@ marked w x n = record { instant = x; floor = w .floor; events = w .events; rows 
 -- "8 ... a clock mark out of range or not after the open instant; 12 table full"
 unfoldable pub clockOwn : Chart → Watch → List ℤ → ℤ → Step
 clockOwn chart w t x =
-    cond (not (isInstant x) || leZ x (w .instant)) (refusedStep 8 w t)
+    cond (isMarkRefused (w .instant) x) (refusedStep 8 w t)
     (cond (ltb (roomIn t) (length (closedRows chart w t))) (refusedStep 12 w t)
     (takenStep (marked w x (length (closedRows chart w t))) (putRows (w .rows) (drop (w .rows) (closedRows chart w t)) t)))
 
@@ -109,7 +107,7 @@ raised w f n = record { instant = w .instant; floor = f; events = w .events; row
 -- "11 a forget below the floor, above the open instant or out of range"
 unfoldable pub forgetOwn : Chart → Watch → List ℤ → ℤ → Step
 forgetOwn chart w t f =
-    cond (ltZ f (w .floor) || (ltZ (w .instant) f || not (isInstant f))) (refusedStep 11 w t)
+    cond (isForgetRefused (w .floor) (w .instant) f) (refusedStep 11 w t)
     (takenStep (raised w f (length (keptRows chart w t f))) (zeroed (length (keptRows chart w t f) * 5) (w .rows * 5) (putRows 0 (keptRows chart w t f) t)))
 
 unfoldable pub forgetStep : Chart → Watch → List ℤ → ℤ → Step

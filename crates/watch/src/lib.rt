@@ -1,8 +1,5 @@
 // The chronicle watch: a watch by value, its calls, and the caller's table lent to each of them.
 ghost use mathlib.Core.Path.{_≡_};
-ghost use mathlib.Core.Bool.{not, _||_};
-ghost use lib.Signed.{ltZ, leZ};
-ghost use Rattle.interval.specs.Instants.{isInstant};
 ghost use Prim.Native.Nat.{_<_};
 ghost use Rattle.watch.specs.Steps.{emptyWatch, openingStep, checkNumber, withEvent, eventOwn, eventStep, closedNumber, closedTable, marked, clockOwn, clockStep, raised, forgetOwn, forgetStep, endRows, endPart, treeOwn, treeStep};
 use chart::Chart;
@@ -45,7 +42,7 @@ fn empty_watch(instant: i32) -> Watch
 {
     Watch {
         instant,
-        floor: -1000000000,
+        floor: interval::first_floor(),
         events: 0,
         rows: 0,
         pending: 0,
@@ -92,8 +89,9 @@ impl Watch {
         next
     }
 
-    // An event of code k on a watch that is known to be in joint: 10, then 9. Constant time.
-    pub fn event_in_joint(self, k: u8) -> Answer
+    // An event of code k on a watch that is known to be consistent: 10, then 9. Constant time.
+    pub fn event_unchecked(self, chart: Chart, table: &[i32], k: u8) -> Answer
+        requires { ⌜ checkNumber chart self (now table) ≡ 0 ⌝ }
         ensures { λ r. ⌜ r ≡ eventOwn self k ⌝ }
     {
         if 1000000 <= self.events {
@@ -146,7 +144,7 @@ impl Watch {
         if !chart::is_usable(chart) {
             return 14;
         }
-        if !joint::is_in_joint(
+        if !consistency::is_consistent(
             chart,
             self.instant,
             self.floor,
@@ -171,7 +169,7 @@ impl Watch {
                 watch: self,
             };
         }
-        self.event_in_joint(k)
+        self.event_unchecked(chart, table, k)
     }
 
     // A clock mark: closes the open instant and opens `instant`: 14, 13, 8, 12. A check, then closing.
@@ -185,15 +183,15 @@ impl Watch {
                 watch: self,
             };
         }
-        self.clock_in_joint(chart, table, instant)
+        self.clock_unchecked(chart, table, instant)
     }
 
-    // A clock mark on a watch that is known to be in joint. With nothing pending it looks at each entry of the chart; otherwise see closing::close.
-    pub fn clock_in_joint(self, chart: Chart, table: &mut [i32], instant: i32) -> Answer
+    // A clock mark on a watch that is known to be consistent. With nothing pending it looks at each entry of the chart; otherwise see closing::close.
+    pub fn clock_unchecked(self, chart: Chart, table: &mut [i32], instant: i32) -> Answer
         requires { ⌜ checkNumber chart self (now table) ≡ 0 ⌝ }
         ensures { λ r. ⌜ (r ≡ (clockOwn chart self (now (table .entry)) instant) .answer) × (now (table .exit) ≡ (clockOwn chart self (now (table .entry)) instant) .table) ⌝ }
     {
-        if !is_later(self.instant, instant) {
+        if interval::is_mark_refused(self.instant, instant) {
             return Answer {
                 refusal: 8,
                 watch: self,
@@ -235,15 +233,15 @@ impl Watch {
                 watch: self,
             };
         }
-        self.forget_in_joint(chart, table, f)
+        self.forget_unchecked(chart, table, f)
     }
 
-    // A forget on a watch that is known to be in joint. One walk of the rows.
-    pub fn forget_in_joint(self, chart: Chart, table: &mut [i32], f: i32) -> Answer
+    // A forget on a watch that is known to be consistent. One walk of the rows.
+    pub fn forget_unchecked(self, chart: Chart, table: &mut [i32], f: i32) -> Answer
         requires { ⌜ checkNumber chart self (now table) ≡ 0 ⌝ }
         ensures { λ r. ⌜ (r ≡ (forgetOwn chart self (now (table .entry)) f) .answer) × (now (table .exit) ≡ (forgetOwn chart self (now (table .entry)) f) .table) ⌝ }
     {
-        if !is_floor(self.floor, self.instant, f) {
+        if interval::is_forget_refused(self.floor, self.instant, f) {
             return Answer {
                 refusal: 11,
                 watch: self,
@@ -296,12 +294,12 @@ impl Watch {
                 length: 0,
             };
         }
-        self.tree_in_joint(chart, table, i, out)
+        self.tree_unchecked(chart, table, i, out)
     }
 
-    // The same without the check, on a watch that is known to be in joint. The bytes are counted first, so that a refusal leaves the output
+    // The same without the check, on a watch that is known to be consistent. The bytes are counted first, so that a refusal leaves the output
     // as it was.
-    fn tree_in_joint(self, chart: Chart, table: &[i32], i: usize, out: &mut [u8]) -> TreeAnswer
+    fn tree_unchecked(self, chart: Chart, table: &[i32], i: usize, out: &mut [u8]) -> TreeAnswer
         requires { ⌜ checkNumber chart self (now table) ≡ 0 ⌝ }
         ensures { λ r. ⌜ (r ≡ (treeOwn chart self (now (table .entry)) i (now (out .entry))) .answer) × (now (out .exit) ≡ (treeOwn chart self (now (table .entry)) i (now (out .entry))) .out) ⌝ }
     {
@@ -322,27 +320,4 @@ impl Watch {
         let length = tree::write_tree(chart, table, rows, i, out);
         TreeAnswer { refusal: 0, length }
     }
-}
-
-// Whether x is an instant after the open one.
-fn is_later(opened: i32, x: i32) -> bool
-    ensures { λ r. ⌜ r ≡ not (not (isInstant x) || leZ x opened) ⌝ }
-{
-    if !interval::is_instant(x) {
-        return false;
-    }
-    opened < x
-}
-
-// Whether f may be the floor: an instant from the floor there is to the open one.
-fn is_floor(floor: i32, opened: i32, f: i32) -> bool
-    ensures { λ r. ⌜ r ≡ not (ltZ f floor || (ltZ opened f || not (isInstant f))) ⌝ }
-{
-    if f < floor {
-        return false;
-    }
-    if opened < f {
-        return false;
-    }
-    interval::is_instant(f)
 }

@@ -102,36 +102,44 @@ returns-2 c =
     let r = drop (l .loop .at) (l .before .before .before .before .args .s .now) in
     simp (answered a) at (c .refused2 .ensures) ∙ sym (step-refused (l .loop .chart) r (unread a) (λ e. c .before .if2 .taken (ap (λ x. x .refusal) (answered a) ∙ e))) ∙ l .loop .inv .2
 
-with-entry-requires : tie.Need-with-entry-requires Inv-loop μ-loop
-with-entry-requires c κs =
-    let d = c .before in
-    let t = goes-on d in
-    omega (arith, t .room)
+-- there is room for its entry
+roomy : (c : tie.Else2 Inv-loop μ-loop) → c .before .before .before .before .before .before .loop .chart .count < 32
+roomy c =
+    let t = goes-on c in
+    let l = c .before .before .before .before .before .before in
+    omega (arith, t .room, l .loop .inv .1)
+
+mul-e : tie.Need-mul-e Inv-loop μ-loop
+mul-e c = omega (arith, roomy (c .before))
+
+element-set-from-e : tie.Need-element-set-from-e Inv-loop μ-loop
+element-set-from-e c = roomy (c .before)
+
+add-chart : tie.Need-add-chart Inv-loop μ-loop
+add-chart c = omega (arith, roomy (c .before))
 
 add-at : tie.Need-add-at Inv-loop μ-loop
 add-at c =
-    let a = c .before .before .before in
+    let a = c .before .before in
     let l = a .before .before .before .before .before in
     omega (arith, part-size a, l .before .before .before .before .good .0 .0)
 
 loop-less : tie.Need-loop-less Inv-loop μ-loop
 loop-less c =
-    let d = c .before .before in
+    let d = c .before in
     let t = goes-on d in
     omega (arith, part-size (d .before), t .some, sized (d .before .before .before))
 
 loop-again : tie.Need-loop-again Inv-loop μ-loop
 unfolding withEntry
 loop-again c =
-    let d = c .before .before in
+    let d = c .before in
     let a = d .before in
     let l = a .before .before .before .before .before in
     let s = l .before .before .before .before .args .s .now in
     let r = drop (l .loop .at) s in
-    let t = goes-on d in
-    let n : c .with-entry .result .count ≡ l .loop .chart .count + 1 = ap (λ x. x .count) (c .with-entry .ensures) in
     let z : (lineAnswer (l .loop .chart .count) (lineSize r) r) .refusal ≡ 0 = ap (λ x. x .refusal) (sym (answered a)) ∙ d .if2 .left in
-    (omega (arith, part-size a), omega (arith, t .room), rw (c .with-entry .ensures, sized (a .before .before), ← drop-drop (lineSize r) (l .loop .at) s, answered a) (sym (step-taken (l .loop .chart) r (unread a) z) ∙ l .loop .inv .2))
+    (omega (arith, part-size a), omega (arith, roomy d), rw (sized (a .before .before), ← drop-drop (lineSize r) (l .loop .at) s, answered a) (sym (step-taken (l .loop .chart) r (unread a) z) ∙ l .loop .inv .2))
 
 returns-3 : tie.Need-returns-3 Inv-loop μ-loop
 returns-3 c =
@@ -161,7 +169,9 @@ read-spec =
     cast-refused
     refused-requires-2
     returns-2
-    with-entry-requires
+    mul-e
+    element-set-from-e
+    add-chart
     add-at
     loop-less
     loop-again

@@ -54,7 +54,7 @@ same-length c = refl
 returns : tie.Need-returns Inv-loop μ-loop Inv-candidates μ-candidates
 returns c =
     let s = c .before .before .before in
-    nothing _ _ _ _ (s .pre .0 .fit) (absences-none _ _ _ _ _ _ _ (simp (same32, s .fits .a) at (sym (c .before .has-row .ensures) ∙ not-true _ (c .if1 .taken))))
+    nothing _ _ _ _ (absences-none _ _ _ _ _ _ _ (simp (same32, s .fits .a) at (sym (c .before .has-row .ensures) ∙ not-true _ (c .if1 .taken))))
 
 top-of-requires : tie.Need-top-of-requires Inv-loop μ-loop Inv-candidates μ-candidates
 top-of-requires c κs = let s = c .before .before .before .before in omega (arith, s .pre .0 .held, s .pre .0 .most, s .pre .0 .fit)

@@ -19,11 +19,15 @@ sub-end-of c = search needs
 end-of-requires : tie.Need-end-of-requires
 end-of-requires c κs = search needs
 
+is-no-later-requires : tie.Need-is-no-later-requires
+is-no-later-requires c κs = search needs
+
 returns-2 : tie.Need-returns-2
 returns-2 c =
-    let s = c .before in
-    let f : SFits w32 (c .end-of .result) = record { sfits = c .end-of .ok } in
-    simp (same32, s .before .fits .start, f) (simp (c .end-of .ensures) (sym (within-at _ _ _ (s .if1 .left))))
+    let d = c .before in
+    let s = d .before in
+    let f : SFits w32 (d .end-of .result) = record { sfits = d .end-of .ok } in
+    simp (c .is-no-later .ensures, same32, s .before .fits .start, f) (simp (d .end-of .ensures) (sym (within-at _ _ _ (s .if1 .left))))
 
 pub is-within-spec : {M : Type 1} → statement M
-is-within-spec = tie.close (tie.spec returns sub-end-of end-of-requires returns-2)
+is-within-spec = tie.close (tie.spec returns sub-end-of end-of-requires is-no-later-requires returns-2)

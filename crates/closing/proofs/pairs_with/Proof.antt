@@ -1,15 +1,14 @@
 -- `pairs_with` meets its contract: what the rows s left append is what all were to append.
 use Prim.Native.Nat.{_-_}
 use borrow.Author.Needs.{needs}
-use mathlib.Core.Path.{refl, _∙_}
+use mathlib.Core.Path.{_∙_}
 use native.Mathlib.Omega.{arith}
 use borrow.Author.Tests.{not-true, not-false}
 use mir.Syntax.{w32}
 use mir.Val.{SFits, toZ}
 use Rattle.interval.proofs.Machine.{same32}
 use Rattle.model.specs.Lists.{each}
-use Rattle.table.specs.Table.{fill}
-use Rattle.closing.proofs.Filling.{Filling, begin, turn, stop, over, appendable}
+use Rattle.closing.proofs.Filling.{Filling, nothing, begin, turn, stop, over, appendable}
 use Rattle.closing.specs.Added.{span, pairRow, pairsWith}
 use Rattle.closing.proofs.Laws.{of-entry, pair-same}
 use Rattle.closing.proofs.pairs_with.Statement.{statement}
@@ -29,12 +28,12 @@ same-length : tie.Need-same-length Inv-loop μ-loop
 same-length c = search needs
 
 returns : tie.Need-returns Inv-loop μ-loop
-unfolding pairsWith fill
+unfolding pairsWith
 returns c =
     let v = c .before .before .before in
     let g = v .args in
     let no = of-entry (g .t .now) (g .r) (g .a) (v .fits .a) (c .before .is-of .ensures) (not-true _ (c .if1 .taken)) in
-    simp no (refl, refl)
+    nothing _ _ _ _ (simp no)
 
 start-of-requires : tie.Need-start-of-requires Inv-loop μ-loop
 start-of-requires c κs = omega arith

@@ -1,8 +1,7 @@
 -- `push_arm` meets its contract: a row is appended if row i is one of the operand.
 use borrow.Author.Needs.{needs}
-use mathlib.Core.Path.{refl}
-use Rattle.table.specs.Table.{fill}
 use Rattle.closing.proofs.Laws.{of-entry}
+use Rattle.closing.proofs.Filling.{nothing}
 use Rattle.closing.specs.Added.{armRow}
 use Rattle.closing.proofs.push_arm.Statement.{statement}
 use Rattle.closing.proofs.push_arm.Tie as tie
@@ -29,12 +28,12 @@ same-length-2 : tie.Need-same-length-2
 same-length-2 c = search needs
 
 returns-2 : tie.Need-returns-2
-unfolding armRow fill
+unfolding armRow
 returns-2 c =
     let s = c .before .before .before in
     let g = s .args in
     let no = of-entry (g .t .now) (g .i) (g .a) (s .fits .a) (c .before .is-of .ensures) (c .if1 .left) in
-    simp no (refl, refl)
+    nothing _ _ _ _ (simp no)
 
 pub push-arm-spec : {M : Type 1} → statement M
 push-arm-spec =

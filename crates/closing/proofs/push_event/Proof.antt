@@ -1,12 +1,11 @@
 -- `push_event` meets its contract: a row is appended if the code is the one asked for.
 use borrow.Author.Needs.{needs}
-use mathlib.Core.Path.{refl}
 use native.Mathlib.Omega.{arith}
 use mir.Syntax.{w32}
 use mir.ValLaws.{toZ-pos}
 use borrow.Author.Tests.{eq-eqb, ne-eqb}
 use Rattle.interval.proofs.Machine.{same32}
-use Rattle.table.specs.Table.{fill}
+use Rattle.closing.proofs.Filling.{nothing}
 use Rattle.closing.specs.Added.{eventRow}
 use Rattle.closing.proofs.push_event.Statement.{statement}
 use Rattle.closing.proofs.push_event.Tie as tie
@@ -28,8 +27,8 @@ returns c =
     simp (eq-eqb _ _ (d .if1 .taken)) (simp (same32, f .instant, toZ-pos w32 (d .before .args .serial) (omega arith)) at (c .before .push-row .ensures))
 
 returns-2 : tie.Need-returns-2
-unfolding eventRow fill
-returns-2 c = simp (ne-eqb _ _ (c .if1 .left)) (refl, refl)
+unfolding eventRow
+returns-2 c = nothing _ _ _ _ (simp (ne-eqb _ _ (c .if1 .left)))
 
 pub push-event-spec : {M : Type 1} → statement M
 push-event-spec =

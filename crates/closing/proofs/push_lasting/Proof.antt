@@ -1,11 +1,11 @@
 -- `push_lasting` meets its contract: a row is appended if row i is one of the operand and lasts so long.
 use borrow.Author.Needs.{needs}
-use mathlib.Core.Path.{refl, sym, _∙_}
+use mathlib.Core.Path.{sym, _∙_}
 use mir.Syntax.{w32}
 use mir.Val.{SFits}
 use Rattle.interval.proofs.Machine.{same32}
-use Rattle.table.specs.Table.{fill}
 use Rattle.closing.proofs.Laws.{of-entry}
+use Rattle.closing.proofs.Filling.{nothing}
 use Rattle.closing.specs.Added.{lengthRow}
 use Rattle.closing.proofs.push_lasting.Statement.{statement}
 use Rattle.closing.proofs.push_lasting.Tie as tie
@@ -47,7 +47,7 @@ same-length-2 : tie.Need-same-length-2
 same-length-2 c = search needs
 
 returns-2 : tie.Need-returns-2
-unfolding lengthRow fill
+unfolding lengthRow
 returns-2 c =
     let l = c .before in
     let n = l .before in
@@ -58,17 +58,17 @@ returns-2 c =
     let fs : SFits w32 (s .start-of .result) = record { sfits = s .start-of .ok } in
     let fe : SFits w32 (n .end-of .result) = record { sfits = n .end-of .ok } in
     let short = sym (simp (s .start-of .ensures, n .end-of .ensures) at (simp (same32, fs, fe) at (l .has-length .ensures))) ∙ c .if2 .left in
-    simp (yes, short) (refl, refl)
+    nothing _ _ _ _ (simp (yes, short))
 
 same-length-3 : tie.Need-same-length-3
 same-length-3 c = search needs
 
 returns-3 : tie.Need-returns-3
-unfolding lengthRow fill
+unfolding lengthRow
 returns-3 c =
     let g = c .before .before .before in
     let no = of-entry (g .args .t .now) (g .args .i) (g .args .a) (g .fits .a) (c .before .is-of .ensures) (c .if1 .left) in
-    simp no (refl, refl)
+    nothing _ _ _ _ (simp no)
 
 pub push-lasting-spec : {M : Type 1} → statement M
 push-lasting-spec =

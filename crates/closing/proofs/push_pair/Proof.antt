@@ -1,13 +1,13 @@
 -- `push_pair` meets its contract: a row is appended if row s is one of the operand and the pair is related.
 use borrow.Author.Needs.{needs}
-use mathlib.Core.Path.{refl, sym, _∙_}
+use mathlib.Core.Path.{sym, _∙_}
 use native.Mathlib.Omega.{arith}
 use mir.Syntax.{w32}
 use mir.Val.{SFits}
 use mir.ValLaws.{toZ-pos}
 use Rattle.interval.proofs.Machine.{same32}
-use Rattle.table.specs.Table.{fill}
 use Rattle.closing.proofs.Laws.{of-entry}
+use Rattle.closing.proofs.Filling.{nothing}
 use Rattle.closing.specs.Added.{pairRow}
 use Rattle.closing.proofs.push_pair.Statement.{statement}
 use Rattle.closing.proofs.push_pair.Tie as tie
@@ -68,7 +68,7 @@ same-length-2 : tie.Need-same-length-2
 same-length-2 c = search needs
 
 returns-2 : tie.Need-returns-2
-unfolding pairRow fill
+unfolding pairRow
 returns-2 c =
     let l = c .before in
     let n = l .before in
@@ -80,17 +80,17 @@ returns-2 c =
     let fs : SFits w32 (s .start-of .result) = record { sfits = s .start-of .ok } in
     let fe : SFits w32 (n .end-of .result) = record { sfits = n .end-of .ok } in
     let apart = sym (simp (s .start-of .ensures, n .end-of .ensures) at (simp (same32, fs, fe, f .start, f .end) at (l .is-related .ensures))) ∙ c .if2 .left in
-    simp (yes, apart) (refl, refl)
+    nothing _ _ _ _ (simp (yes, apart))
 
 same-length-3 : tie.Need-same-length-3
 same-length-3 c = search needs
 
 returns-3 : tie.Need-returns-3
-unfolding pairRow fill
+unfolding pairRow
 returns-3 c =
     let g = c .before .before .before in
     let no = of-entry (g .args .t .now) (g .args .s) (g .args .b) (g .fits .b) (c .before .is-of .ensures) (c .if1 .left) in
-    simp no (refl, refl)
+    nothing _ _ _ _ (simp no)
 
 pub push-pair-spec : {M : Type 1} → statement M
 push-pair-spec =

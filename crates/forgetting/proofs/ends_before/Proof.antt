@@ -1,13 +1,20 @@
 -- `ends_before` meets its contract: the flag chooses the comparison.
+use borrow.Author.Needs.{needs}
 use Rattle.interval.proofs.Machine.{same32}
 use Rattle.forgetting.proofs.ends_before.Statement.{statement}
 use Rattle.forgetting.proofs.ends_before.Tie as tie
 
+is-no-later-requires : tie.Need-is-no-later-requires
+is-no-later-requires c κs = search needs
+
 returns : tie.Need-returns
-returns c = simp (c .if1 .taken, same32, c .before .fits .end, c .before .fits .e)
+returns c = let f = c .before .before .fits in simp (c .before .if1 .taken, c .is-no-later .ensures, same32, f .end, f .e)
+
+is-before-requires : tie.Need-is-before-requires
+is-before-requires c κs = search needs
 
 returns-2 : tie.Need-returns-2
-returns-2 c = simp (c .if1 .left, same32, c .before .fits .end, c .before .fits .e)
+returns-2 c = let f = c .before .before .fits in simp (c .before .if1 .left, c .is-before .ensures, same32, f .end, f .e)
 
 pub ends-before-spec : {M : Type 1} → statement M
-ends-before-spec = tie.close (tie.spec returns returns-2)
+ends-before-spec = tie.close (tie.spec is-no-later-requires returns is-before-requires returns-2)

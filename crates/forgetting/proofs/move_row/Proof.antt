@@ -1,59 +1,54 @@
 -- `move_row` meets its contract: the row written is the row read, with its references renumbered unless it is an event's.
-use mathlib.Core.Path.{ap, _∙_}
 use Prim.Native.Nat.{_+_, _*_, _≤_, _<_}
-use lib.ListN.{length, getD}
-use mir.Val.{SFits, toZ, ofZ}
-use Rattle.forgetting.proofs.References.{refers-more}
-use Rattle.forgetting.proofs.OneRow.{moved-event, moved-other}
-use Rattle.table.specs.Table.{cell, putRow}
+use mathlib.Core.Path.{_≡_, ap, _∙_}
+use mathlib.Core.Bool.{false}
 use native.Mathlib.Omega.{arith}
-use native.Mathlib.Nat.{add-zero}
-use lib.IntN.{pos, natAbs}
+use lib.IntN.{ℤ, pos, natAbs}
+use lib.ListN.{length}
+use lib.Signed.{ltZ}
 use mir.Syntax.{w32}
-use Rattle.interval.proofs.Machine.{same32, cast-up}
+use mir.Val.{SFits}
+use Rattle.interval.proofs.Machine.{same32}
+use Rattle.table.specs.Table.{cell, putRow}
+use Rattle.table.specs.Ready.{Refers}
+use Rattle.forgetting.specs.Walk.{HasMark}
+use Rattle.forgetting.proofs.References.{refers-below}
+use Rattle.forgetting.proofs.OneRow.{moved-event, moved-other}
 use borrow.Author.Needs.{needs}
 use Rattle.forgetting.proofs.move_row.Statement.{statement}
 use Rattle.forgetting.proofs.move_row.Tie as tie
 
--- the five numbers read are in range
+-- the four numbers read are in range
 record Read (c : tie.After-end) : Type 0 where
-  entry : SFits w32 (getD (c .before .before .before .before .before .before .args .table .now) (c .before .before .before .before .before .before .args .i * 5) (pos 0))
-  left : SFits w32 (cell (c .before .before .before .before .before .before .args .table .now) (c .before .before .before .before .before .before .args .i) 1)
-  right : SFits w32 (cell (c .before .before .before .before .before .before .args .table .now) (c .before .before .before .before .before .before .args .i) 2)
-  start : SFits w32 (cell (c .before .before .before .before .before .before .args .table .now) (c .before .before .before .before .before .before .args .i) 3)
-  end : SFits w32 (cell (c .before .before .before .before .before .before .args .table .now) (c .before .before .before .before .before .before .args .i) 4)
+  left : SFits w32 (cell (c .before .before .before .before .args .table .now) (c .before .before .before .before .args .i) 1)
+  right : SFits w32 (cell (c .before .before .before .before .args .table .now) (c .before .before .before .before .args .i) 2)
+  start : SFits w32 (cell (c .before .before .before .before .args .table .now) (c .before .before .before .before .args .i) 3)
+  end : SFits w32 (cell (c .before .before .before .before .args .table .now) (c .before .before .before .before .args .i) 4)
 
 read : (c : tie.After-end) → Read c
 read c = record {
-  entry = record { sfits = c .before .before .before .before .entry .given };
   left = record { sfits = c .before .before .before .left .given };
   right = record { sfits = c .before .before .right .given };
   start = record { sfits = c .before .start .given };
   end = record { sfits = c .end .given };
 }
 
--- there is room at place p, and the entry is a chart's
-room : (c : tie.After-end) → let s = c .before .before .before .before .before .before in (s .args .p < 65535) × (s .args .p * 5 + 5 ≤ length (s .args .table .now)) × (natAbs (toZ w32 (ofZ w32 (getD (s .args .table .now) (s .args .i * 5) (pos 0)))) < 32)
+-- place p has its mark, and so has the row that a reference is to
+here : (s : tie.Start) → HasMark (s .args .table .now) (s .args .p)
+here s = s .pre .marks (s .args .p) (omega (arith, s .pre .lower))
+
+there : (s : tie.Start) (z : ℤ) → Refers (s .args .i) z → ltZ z (pos 0) ≡ false → HasMark (s .args .table .now) (natAbs z)
+there s z r e = s .pre .marks (natAbs z) (omega (arith, refers-below (s .args .i) z r e))
+
+-- there is room at place p, and the entry with the mark fits
+room : (c : tie.After-shift-at) → let s = c .before .before .before .before .before .before in (s .args .p < 65535) × (s .args .p * 5 + 5 ≤ length (s .args .table .now)) × (s .args .entry + c .shift-at .result * 32 < 2147483648)
 room c =
     let s = c .before .before .before .before .before .before in
-    let b = s .pre .ready .below in
-    let r = read c in
-    (omega arith, omega arith, rw (same32 _ (r .entry)) (rw add-zero at b))
+    let h = here s in
+    (h .few, h .fit, omega (arith, s .pre .small, c .shift-at .ensures))
 
 mul-at : tie.Need-mul-at
 mul-at c = search needs
-
-mul-entry : tie.Need-mul-entry
-mul-entry c = search needs
-
-slice-copy-out-entry : tie.Need-slice-copy-out-entry
-slice-copy-out-entry c = search needs
-
-cast-entry : tie.Need-cast-entry
-cast-entry c =
-    let s = c .before .before in
-    let f : SFits w32 (getD (s .args .table .now) (s .args .i * 5) (pos 0)) = record { sfits = c .entry .given } in
-    rw (same32 _ f) (cast-up _ f (rw add-zero at (s .pre .ready .above)))
 
 add-left : tie.Need-add-left
 add-left c = search needs
@@ -91,8 +86,17 @@ mul-end c = search needs
 slice-copy-out-end : tie.Need-slice-copy-out-end
 slice-copy-out-end c = search needs
 
+shift-at-requires : tie.Need-shift-at-requires
+shift-at-requires c κs = here (c .before .before .before .before .before)
+
+mul-e : tie.Need-mul-e
+mul-e c = omega (arith, room c .2)
+
+add-e : tie.Need-add-e
+add-e c = omega (arith, room c .2)
+
 array-read-if1 : tie.Need-array-read-if1
-array-read-if1 c = room c .2
+array-read-if1 c = search needs
 
 put-row-requires : tie.Need-put-row-requires
 put-row-requires c κs = room (c .before .before)
@@ -102,55 +106,50 @@ same-length c = search needs
 
 returns : tie.Need-returns
 returns c =
-    let e = c .before .before .before .before in
-    let s = e .before .before .before .before .before .before in
-    let r = read e in
-    let flag = simp (same32, r .entry) at (c .before .before .before .if1 .taken) in
-    let put = simp (same32, r .entry, r .left, r .right, r .start, r .end) at (c .before .put-row .ensures) in
-    put ∙ ap (λ x. putRow (s .args .p) x (s .args .table .now)) (moved-event (s .args .t1) (s .args .places .now) (s .args .table .now) (s .args .i) flag)
+    let h = c .before .before .before .before in
+    let s = h .before .before .before .before .before .before in
+    let r = read (h .before .before) in
+    let put = simp (same32, r .left, r .right, r .start, r .end, h .shift-at .ensures) at (c .before .put-row .ensures) in
+    put ∙ ap (λ x. putRow (s .args .p) x (s .args .table .now)) (moved-event (s .args .t1) (s .args .i) (s .args .p) (s .args .entry) (s .args .table .now) (c .before .before .before .if1 .taken))
 
 place-of-requires : tie.Need-place-of-requires
 place-of-requires c κs =
-    let s = c .before .before .before .before .before .before .before in
-    let r = read (c .before) in
-    let flag = simp (same32, r .entry) at (c .if1 .left) in
-    rw (same32 _ (r .left)) (refers-more _ _ _ (s .pre .lent) (s .pre .ready .left (rw add-zero flag)))
+    let h = c .before .before in
+    let s = h .before .before .before .before .before .before in
+    rw (same32 _ (read (h .before .before) .left)) (there s _ (s .pre .left (c .before .if1 .left)))
 
 place-of-requires-2 : tie.Need-place-of-requires-2
 place-of-requires-2 c κs =
-    let s = c .before .before .before .before .before .before .before .before in
-    let r = read (c .before .before) in
-    rw (same32 _ (r .right)) (refers-more _ _ _ (s .pre .lent) (s .pre .ready .right))
+    let h = c .before .before .before .before in
+    let s = h .before .before .before .before .before .before in
+    rw (same32 _ (read (h .before .before) .right)) (there s _ (s .pre .right))
 
 put-row-requires-2 : tie.Need-put-row-requires-2
-put-row-requires-2 c κs = room (c .before .before .before .before)
+put-row-requires-2 c κs = room (c .before .before .before .before .before .before)
 
 same-length-2 : tie.Need-same-length-2
 same-length-2 c = search needs
 
 returns-2 : tie.Need-returns-2
 returns-2 c =
-    let e = c .before .before .before .before .before .before in
-    let s = e .before .before .before .before .before .before in
-    let r = read e in
-    let a = c .before .before .before .before .place-of in
-    let b = c .before .before .before .place-of2 in
-    let fa : SFits w32 (a .result) = record { sfits = a .ok } in
-    let fb : SFits w32 (b .result) = record { sfits = b .ok } in
-    let flag = simp (same32, r .entry) at (c .before .before .before .before .before .if1 .left) in
-    let put = simp (same32, fa, fb, r .entry, r .start, r .end) at (c .before .put-row2 .ensures) in
-    let left = simp (same32, r .left) at (a .ensures) in
-    let right = simp (same32, r .right) at (b .ensures) in
-    put ∙ ap (λ x. putRow (s .args .p) x (s .args .table .now)) (moved-other (s .args .t1) (s .args .places .now) (s .args .table .now) (s .args .i) (a .result) (b .result) flag left right)
+    let y = c .before .before .before in
+    let x = y .before .before in
+    let e = x .before .before in
+    let h = e .before in
+    let s = h .before .before .before .before .before .before in
+    let r = read (h .before .before) in
+    let fa : SFits w32 (x .place-of .result) = record { sfits = x .place-of .ok } in
+    let fb : SFits w32 (y .place-of2 .result) = record { sfits = y .place-of2 .ok } in
+    let put = simp (same32, fa, fb, r .start, r .end, h .shift-at .ensures) at (c .before .put-row2 .ensures) in
+    let left = simp (same32, r .left) at (x .place-of .ensures) in
+    let right = simp (same32, r .right) at (y .place-of2 .ensures) in
+    put ∙ ap (λ q. putRow (s .args .p) q (s .args .table .now)) (moved-other (s .args .t1) (s .args .i) (s .args .p) (s .args .entry) (s .args .table .now) (x .place-of .result) (y .place-of2 .result) (e .if1 .left) left right)
 
 pub move-row-spec : {M : Type 1} → statement M
 move-row-spec =
     tie.close
     (tie.spec
     mul-at
-    mul-entry
-    slice-copy-out-entry
-    cast-entry
     add-left
     mul-left
     slice-copy-out-left
@@ -163,6 +162,9 @@ move-row-spec =
     add-end
     mul-end
     slice-copy-out-end
+    shift-at-requires
+    mul-e
+    add-e
     array-read-if1
     put-row-requires
     same-length

@@ -7,7 +7,7 @@ use borrow.Author.Needs.{needs}
 use lib.ListN.{length}
 use Rattle.text.proofs.Laws.{part-from}
 use Rattle.log.specs.Log.{openWord, eventWord, clockWord, forgetWord, startsWith}
-use Rattle.log.proofs.Laws.{tabbed, starts-length, opening-call, event-call, clock-call, forget-call, no-call}
+use Rattle.log.proofs.Laws.{tabbed, starts-length, opening-call, event-call, clock-call, forget-call, no-call, answered}
 use Rattle.log.proofs.read_call.Statement.{statement}
 use Rattle.log.proofs.read_call.Tie as tie
 
@@ -54,7 +54,7 @@ read-event-requires : tie.Need-read-event-requires
 read-event-requires c κs = search needs
 
 returns : tie.Need-returns
-returns c = simp part-from at (c .read-event .ensures) ∙ sym (event-call _ (event-front (c .before .before)))
+returns c = answered _ _ (simp part-from at (c .read-event .ensures) ∙ sym (event-call _ (event-front (c .before .before))))
 
 slice-aggregate-starts-with-2 : tie.Need-slice-aggregate-starts-with-2
 slice-aggregate-starts-with-2 c = search needs
@@ -75,7 +75,7 @@ read-clock-requires : tie.Need-read-clock-requires
 read-clock-requires c κs = search needs
 
 returns-2 : tie.Need-returns-2
-returns-2 c = simp part-from at (c .read-clock .ensures) ∙ sym (clock-call _ (clock-front (c .before .before)))
+returns-2 c = answered _ _ (simp part-from at (c .read-clock .ensures) ∙ sym (clock-call _ (clock-front (c .before .before))))
 
 slice-aggregate-starts-with-3 : tie.Need-slice-aggregate-starts-with-3
 slice-aggregate-starts-with-3 c = search needs
@@ -96,7 +96,7 @@ read-forget-requires : tie.Need-read-forget-requires
 read-forget-requires c κs = search needs
 
 returns-3 : tie.Need-returns-3
-returns-3 c = simp part-from at (c .read-forget .ensures) ∙ sym (forget-call _ (forget-front (c .before .before)))
+returns-3 c = answered _ _ (simp part-from at (c .read-forget .ensures) ∙ sym (forget-call _ (forget-front (c .before .before))))
 
 slice-aggregate-starts-with-4 : tie.Need-slice-aggregate-starts-with-4
 slice-aggregate-starts-with-4 c = search needs
@@ -117,20 +117,21 @@ read-opening-requires : tie.Need-read-opening-requires
 read-opening-requires c κs = search needs
 
 returns-4 : tie.Need-returns-4
-returns-4 c = simp part-from at (c .read-opening .ensures) ∙ sym (opening-call _ (opening-front (c .before .before)))
+returns-4 c = answered _ _ (simp part-from at (c .read-opening .ensures) ∙ sym (opening-call _ (opening-front (c .before .before))))
 
 returns-5 : tie.Need-returns-5
 returns-5 c =
     let f = c .before .before .before in
     let k = f .before .before .before in
     let e = k .before .before .before in
-    sym
+    answered _ _
+    (sym
     (no-call
     _
     (sym (c .before .starts-with4 .ensures) ∙ c .if4 .left)
     (sym (e .before .starts-with .ensures) ∙ e .if1 .left)
     (sym (k .before .starts-with2 .ensures) ∙ k .if2 .left)
-    (sym (f .before .starts-with3 .ensures) ∙ f .if3 .left))
+    (sym (f .before .starts-with3 .ensures) ∙ f .if3 .left)))
 
 pub read-call-spec : {M : Type 1} → statement M
 read-call-spec =

@@ -5,19 +5,19 @@ use borrow.Author.Tests.{not-true, not-false}
 use mir.Syntax.{w32}
 use mir.Val.{SFits}
 use Rattle.interval.specs.Instants.{isInstant}
-use Rattle.interval.proofs.Machine.{same32, same64}
-use Rattle.program.proofs.Lines.{instant-fits, clock-out, clock-in}
+use Rattle.interval.proofs.Machine.{same32, same64, instant-fits}
+use Rattle.program.proofs.Lines.{clock-out, clock-in}
 use Rattle.program.proofs.clock_at.Statement.{statement}
 use Rattle.program.proofs.clock_at.Tie as tie
 
-known : (c : tie.After-is-instant) → isInstant (c .before .args .x) ≡ c .is-instant .result
-known c = sym (c .is-instant .ensures ∙ ap isInstant (same64 _ (c .before .fits .x)))
+known : (c : tie.After-is-wide-instant) → isInstant (c .before .args .x) ≡ c .is-wide-instant .result
+known c = sym (c .is-wide-instant .ensures ∙ ap isInstant (same64 _ (c .before .fits .x)))
 
 fits : (c : tie.Else1) → SFits w32 (c .before .before .args .x)
 fits c = instant-fits _ (known (c .before) ∙ not-false _ (c .if1 .left))
 
-is-instant-requires : tie.Need-is-instant-requires
-is-instant-requires c κs = search needs
+is-wide-instant-requires : tie.Need-is-wide-instant-requires
+is-wide-instant-requires c κs = search needs
 
 returns : tie.Need-returns
 returns c =
@@ -25,11 +25,11 @@ returns c =
     let g = s .args in
     clock-out (g .chart) (g .watch) (g .table .now) (s .pre) (g .x) (known (c .before) ∙ not-true _ (c .if1 .taken))
 
-cast-clock-in-joint : tie.Need-cast-clock-in-joint
-cast-clock-in-joint c = subst (SFits w32) (sym (same64 _ (c .before .before .before .fits .x))) (fits (c .before))
+cast-clock-unchecked : tie.Need-cast-clock-unchecked
+cast-clock-unchecked c = subst (SFits w32) (sym (same64 _ (c .before .before .before .fits .x))) (fits (c .before))
 
-clock-in-joint-requires : tie.Need-clock-in-joint-requires
-clock-in-joint-requires c κs = search needs
+clock-unchecked-requires : tie.Need-clock-unchecked-requires
+clock-unchecked-requires c κs = search needs
 
 same-length : tie.Need-same-length
 same-length c = search needs
@@ -41,10 +41,10 @@ returns-2 c =
     let g = s .args in
     let wide = same64 _ (s .fits .x) in
     let same = same32 _ (fits d) in
-    let own = c .before .clock-in-joint .ensures in
+    let own = c .before .clock-unchecked .ensures in
     clock-in (g .chart) (g .watch) (g .table .now) (s .pre) (g .x) _ _ (simp (wide, same) at (own .0), simp (wide, same) at (own .1))
 
 pub clock-at-spec : {M : Type 1} → statement M
 clock-at-spec =
     tie.close
-    (tie.spec is-instant-requires returns cast-clock-in-joint clock-in-joint-requires same-length returns-2)
+    (tie.spec is-wide-instant-requires returns cast-clock-unchecked clock-unchecked-requires same-length returns-2)

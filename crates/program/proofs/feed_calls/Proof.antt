@@ -9,7 +9,7 @@ use Rattle.text.specs.Text.{lineSize}
 use Rattle.text.proofs.Laws.{part-from}
 use Rattle.program.specs.Runs.{Read, Reached, isRefused}
 use Rattle.program.proofs.Reading.{read-none, next-inside, next-short, read-next}
-use Rattle.program.proofs.LogLines.{playing, is-playing, playing-joint, line-taken, line-refused, read-stopped, refused-stopped, line-room}
+use Rattle.program.proofs.LogLines.{playing, is-playing, playing-consistent, line-taken, line-refused, read-stopped, refused-stopped, line-room}
 use Rattle.program.proofs.feed_calls.Statement.{statement}
 use Rattle.program.proofs.feed_calls.Tie as tie
 
@@ -43,7 +43,7 @@ part-call-line-end : tie.Need-part-call-line-end Inv-loop μ-loop
 part-call-line-end c = let l = c .before .before in omega (arith, next-inside _ _ _ _ _ (l .loop .inv .2) (l .loop .inv .1))
 
 call-line-requires : tie.Need-call-line-requires Inv-loop μ-loop
-call-line-requires c κs = let l = c .before .before .before in playing-joint _ _ _ _ (l .loop .inv .2 .reached)
+call-line-requires c κs = let l = c .before .before .before in playing-consistent _ _ _ _ (l .loop .inv .2 .reached)
 
 add-stopped-run : tie.Need-add-stopped-run Inv-loop μ-loop
 add-stopped-run c =

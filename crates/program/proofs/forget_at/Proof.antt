@@ -5,19 +5,19 @@ use borrow.Author.Tests.{not-true, not-false}
 use mir.Syntax.{w32}
 use mir.Val.{SFits}
 use Rattle.interval.specs.Instants.{isInstant}
-use Rattle.interval.proofs.Machine.{same32, same64}
-use Rattle.program.proofs.Lines.{instant-fits, forget-out, forget-in}
+use Rattle.interval.proofs.Machine.{same32, same64, instant-fits}
+use Rattle.program.proofs.Lines.{forget-out, forget-in}
 use Rattle.program.proofs.forget_at.Statement.{statement}
 use Rattle.program.proofs.forget_at.Tie as tie
 
-known : (c : tie.After-is-instant) → isInstant (c .before .args .f) ≡ c .is-instant .result
-known c = sym (c .is-instant .ensures ∙ ap isInstant (same64 _ (c .before .fits .f)))
+known : (c : tie.After-is-wide-instant) → isInstant (c .before .args .f) ≡ c .is-wide-instant .result
+known c = sym (c .is-wide-instant .ensures ∙ ap isInstant (same64 _ (c .before .fits .f)))
 
 fits : (c : tie.Else1) → SFits w32 (c .before .before .args .f)
 fits c = instant-fits _ (known (c .before) ∙ not-false _ (c .if1 .left))
 
-is-instant-requires : tie.Need-is-instant-requires
-is-instant-requires c κs = search needs
+is-wide-instant-requires : tie.Need-is-wide-instant-requires
+is-wide-instant-requires c κs = search needs
 
 returns : tie.Need-returns
 returns c =
@@ -25,11 +25,11 @@ returns c =
     let g = s .args in
     forget-out (g .chart) (g .watch) (g .table .now) (s .pre) (g .f) (known (c .before) ∙ not-true _ (c .if1 .taken))
 
-cast-forget-in-joint : tie.Need-cast-forget-in-joint
-cast-forget-in-joint c = subst (SFits w32) (sym (same64 _ (c .before .before .before .fits .f))) (fits (c .before))
+cast-forget-unchecked : tie.Need-cast-forget-unchecked
+cast-forget-unchecked c = subst (SFits w32) (sym (same64 _ (c .before .before .before .fits .f))) (fits (c .before))
 
-forget-in-joint-requires : tie.Need-forget-in-joint-requires
-forget-in-joint-requires c κs = search needs
+forget-unchecked-requires : tie.Need-forget-unchecked-requires
+forget-unchecked-requires c κs = search needs
 
 same-length : tie.Need-same-length
 same-length c = search needs
@@ -41,10 +41,10 @@ returns-2 c =
     let g = s .args in
     let wide = same64 _ (s .fits .f) in
     let same = same32 _ (fits d) in
-    let own = c .before .forget-in-joint .ensures in
+    let own = c .before .forget-unchecked .ensures in
     forget-in (g .chart) (g .watch) (g .table .now) (s .pre) (g .f) _ _ (simp (wide, same) at (own .0), simp (wide, same) at (own .1))
 
 pub forget-at-spec : {M : Type 1} → statement M
 forget-at-spec =
     tie.close
-    (tie.spec is-instant-requires returns cast-forget-in-joint forget-in-joint-requires same-length returns-2)
+    (tie.spec is-wide-instant-requires returns cast-forget-unchecked forget-unchecked-requires same-length returns-2)

@@ -5,14 +5,14 @@ use borrow.Author.Tests.{not-true, not-false}
 use mir.Syntax.{w32}
 use mir.Val.{SFits}
 use Rattle.interval.specs.Instants.{isInstant}
-use Rattle.interval.proofs.Machine.{same32, same64}
+use Rattle.interval.proofs.Machine.{same32, same64, instant-fits}
 use Rattle.watch.specs.Steps.{openingStep}
-use Rattle.program.proofs.Lines.{instant-fits, open-out, step-refused, step-taken}
+use Rattle.program.proofs.Lines.{open-out, step-refused, step-taken}
 use Rattle.program.proofs.open_at.Statement.{statement}
 use Rattle.program.proofs.open_at.Tie as tie
 
-known : (c : tie.After-is-instant) → isInstant (c .before .args .o) ≡ c .is-instant .result
-known c = sym (c .is-instant .ensures ∙ ap isInstant (same64 _ (c .before .fits .o)))
+known : (c : tie.After-is-wide-instant) → isInstant (c .before .args .o) ≡ c .is-wide-instant .result
+known c = sym (c .is-wide-instant .ensures ∙ ap isInstant (same64 _ (c .before .fits .o)))
 
 fits : (c : tie.Else1) → SFits w32 (c .before .before .args .o)
 fits c = instant-fits _ (known (c .before) ∙ not-false _ (c .if1 .left))
@@ -25,8 +25,8 @@ opened c =
     let same = same32 _ (fits d) in
     (simp (wide, same) at (c .opening .ensures .0), simp (wide, same) at (c .opening .ensures .1))
 
-is-instant-requires : tie.Need-is-instant-requires
-is-instant-requires c κs = search needs
+is-wide-instant-requires : tie.Need-is-wide-instant-requires
+is-wide-instant-requires c κs = search needs
 
 add-refused-run : tie.Need-add-refused-run
 add-refused-run c = search needs
@@ -77,7 +77,7 @@ pub open-at-spec : {M : Type 1} → statement M
 open-at-spec =
     tie.close
     (tie.spec
-    is-instant-requires
+    is-wide-instant-requires
     add-refused-run
     refused-run-requires
     returns

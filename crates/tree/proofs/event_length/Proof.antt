@@ -1,6 +1,6 @@
 -- `event_length` meets its contract: the letter and the serial.
 use native.Mathlib.Omega.{arith}
-use mathlib.Core.Path.{_≡_, _∙_}
+use mathlib.Core.Path.{_≡_}
 use lib.ListN.{length}
 use borrow.Author.Needs.{needs}
 use Rattle.interval.proofs.Machine.{same32}

@@ -21,8 +21,8 @@ returns c =
     let e = check-refused (g .chart) (g .self) (g .table .now) (clockOwn (g .chart) (g .self) (g .table .now) (g .instant)) (λ z. c .if1 .taken (k .check .ensures ∙ z)) in
     (ap (λ n. answered n (g .self)) (k .check .ensures) ∙ sym (ap (λ s. s .answer) e), sym (ap (λ s. s .table) e))
 
-clock-in-joint-requires : tie.Need-clock-in-joint-requires
-clock-in-joint-requires c κs = search needs
+clock-unchecked-requires : tie.Need-clock-unchecked-requires
+clock-unchecked-requires c κs = search needs
 
 same-length-2 : tie.Need-same-length-2
 same-length-2 c = search needs
@@ -34,11 +34,11 @@ returns-2 c =
     let s = d .before .before .before in
     let g = s .args in
     let i = same32 _ (s .fits .instant) in
-    let own = c .before .clock-in-joint .ensures in
+    let own = c .before .clock-unchecked .ensures in
     let e = check-passed (g .chart) (g .self) (g .table .now) (clockOwn (g .chart) (g .self) (g .table .now) (g .instant)) (sym (d .before .check .ensures) ∙ d .if1 .left) in
     (simp i at (own .0) ∙ sym (ap (λ x. x .answer) e), simp i at (own .1) ∙ sym (ap (λ x. x .table) e))
 
 pub clock-spec : {M : Type 1} → statement M
 clock-spec =
     tie.close
-    (tie.spec check-requires same-length returns clock-in-joint-requires same-length-2 returns-2)
+    (tie.spec check-requires same-length returns clock-unchecked-requires same-length-2 returns-2)

@@ -4,9 +4,11 @@ use native.Mathlib.Omega.{arith}
 use mir.Syntax.{w32}
 use mir.Val.{SFits}
 use Rattle.interval.proofs.Machine.{same32}
-use Prim.Native.Nat.{_-_}
+use Prim.Native.Nat.{suc, _-_}
+use mathlib.Core.Path.{_∙_}
+use lib.ListN.{take}
 use native.Mathlib.Numerals.{add-one}
-use Rattle.closing.specs.Closed as closing
+use Rattle.closing.proofs.Entries.{closed-is}
 use Rattle.watch.specs.Steps.{closedNumber, closedTable, closedRows}
 use Rattle.watch.proofs.Calls.{told}
 use Rattle.watch.proofs.Watch.closed.Statement.{statement}
@@ -31,13 +33,15 @@ same-length : tie.Need-same-length
 same-length c = search needs
 
 returns : tie.Need-returns
-unfolding closedNumber closedTable closedRows closing.closedCount closing.closedTable closing.rowsClosed
+unfolding closedNumber closedTable closedRows
 returns c =
     let e = c .before .close .ensures in
     let i = same32 _ (instant (c .before .before)) in
-    let w = c .before .before .before .before .before .before .args .self in
+    let g = c .before .before .before .before .before .before .args in
+    let w = g .self in
     let n = add-one (w .events - w .pending) in
-    (simp (i, n) at (e .0), simp (i, n) at (e .1))
+    let q = closed-is (g .chart) (w .instant) (suc (w .events - w .pending)) (take (w .pending) (w .codes)) (w .rows) (g .table .now) in
+    (simp (i, n) at (e .0) ∙ q .0, simp (i, n) at (e .1) ∙ q .1)
 
 pub closed-spec : {M : Type 1} → statement M
 closed-spec = tie.close (tie.spec sub-first add-first close-requires same-length returns)

@@ -15,15 +15,15 @@ returns c =
     let g = c .before .before .args in
     ap (λ n. answered n (g .self)) (c .before .check .ensures) ∙ sym (ap (λ s. s .answer) (check-refused (g .chart) (g .self) (g .table .now) _ (λ z. c .if1 .taken (c .before .check .ensures ∙ z))))
 
-event-in-joint-requires : tie.Need-event-in-joint-requires
-event-in-joint-requires c κs = search needs
+event-unchecked-requires : tie.Need-event-unchecked-requires
+event-unchecked-requires c κs = search needs
 
 returns-2 : tie.Need-returns-2
 unfolding eventStep
 returns-2 c =
     let d = c .before in
     let g = d .before .before .args in
-    c .event-in-joint .ensures ∙ sym (ap (λ s. s .answer) (check-passed (g .chart) (g .self) (g .table .now) _ (sym (d .before .check .ensures) ∙ d .if1 .left)))
+    c .event-unchecked .ensures ∙ sym (ap (λ s. s .answer) (check-passed (g .chart) (g .self) (g .table .now) _ (sym (d .before .check .ensures) ∙ d .if1 .left)))
 
 pub event-spec : {M : Type 1} → statement M
-event-spec = tie.close (tie.spec check-requires returns event-in-joint-requires returns-2)
+event-spec = tie.close (tie.spec check-requires returns event-unchecked-requires returns-2)

@@ -21,8 +21,8 @@ returns c =
     let e = check-refused (g .chart) (g .self) (g .table .now) (forgetOwn (g .chart) (g .self) (g .table .now) (g .f)) (λ z. c .if1 .taken (k .check .ensures ∙ z)) in
     (ap (λ n. answered n (g .self)) (k .check .ensures) ∙ sym (ap (λ s. s .answer) e), sym (ap (λ s. s .table) e))
 
-forget-in-joint-requires : tie.Need-forget-in-joint-requires
-forget-in-joint-requires c κs = search needs
+forget-unchecked-requires : tie.Need-forget-unchecked-requires
+forget-unchecked-requires c κs = search needs
 
 same-length-2 : tie.Need-same-length-2
 same-length-2 c = search needs
@@ -34,11 +34,11 @@ returns-2 c =
     let s = d .before .before .before in
     let g = s .args in
     let i = same32 _ (s .fits .f) in
-    let own = c .before .forget-in-joint .ensures in
+    let own = c .before .forget-unchecked .ensures in
     let e = check-passed (g .chart) (g .self) (g .table .now) (forgetOwn (g .chart) (g .self) (g .table .now) (g .f)) (sym (d .before .check .ensures) ∙ d .if1 .left) in
     (simp i at (own .0) ∙ sym (ap (λ x. x .answer) e), simp i at (own .1) ∙ sym (ap (λ x. x .table) e))
 
 pub forget-spec : {M : Type 1} → statement M
 forget-spec =
     tie.close
-    (tie.spec check-requires same-length returns forget-in-joint-requires same-length-2 returns-2)
+    (tie.spec check-requires same-length returns forget-unchecked-requires same-length-2 returns-2)

@@ -15,8 +15,8 @@ returns c =
     let e = tree-refused (g .chart) (g .self) (g .table .now) (g .i) (g .out .now) (λ z. c .if1 .taken (k .check .ensures ∙ z)) in
     (ap (λ n. record { refusal = n; length = 0 }) (k .check .ensures) ∙ sym (ap (λ s. s .answer) e), sym (ap (λ s. s .out) e))
 
-tree-in-joint-requires : tie.Need-tree-in-joint-requires
-tree-in-joint-requires c κs = search needs
+tree-unchecked-requires : tie.Need-tree-unchecked-requires
+tree-unchecked-requires c κs = search needs
 
 same-length : tie.Need-same-length
 same-length c = search needs
@@ -27,9 +27,9 @@ returns-2 c =
     let d = w .before .before in
     let g = d .before .before .before .args in
     let e = tree-passed (g .chart) (g .self) (g .table .now) (g .i) (g .out .now) (sym (d .before .check .ensures) ∙ d .if1 .left) in
-    (w .tree-in-joint .ensures .0 ∙ sym (ap (λ s. s .answer) e), w .tree-in-joint .ensures .1 ∙ sym (ap (λ s. s .out) e))
+    (w .tree-unchecked .ensures .0 ∙ sym (ap (λ s. s .answer) e), w .tree-unchecked .ensures .1 ∙ sym (ap (λ s. s .out) e))
 
 pub tree-spec : {M : Type 1} → statement M
 tree-spec =
     tie.close
-    (tie.spec check-requires returns tree-in-joint-requires same-length returns-2)
+    (tie.spec check-requires returns tree-unchecked-requires same-length returns-2)

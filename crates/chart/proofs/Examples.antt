@@ -1,0 +1,182 @@
+-- Charts as text: what each operator word means, each refusal, and the order of refusals in a line. One list of cases, one theorem that the
+-- checker computes. What must come out was found by hand from document 01. No contract says as much of the words, since the code
+-- and its contract share the list of them.
+use Prim.Native.Nat.{ℕ}
+use Prim.Native.String.{String}
+use mathlib.Core.Path.{_≡_, refl}
+use mathlib.Core.List.{List, [], _∷_, _++_, map}
+use lib.ListN.{take, replicate}
+use Rattle.interval.specs.Instants.{isLength}
+use Rattle.interval.specs.declared.Relation.the-variants.{Seq, And, Meets, Overlaps, Starts, During, Finishes, Equals}
+use Rattle.interval.specs.declared.Edges.the-variants.{ClosedClosed, OpenOpen, ClosedOpen, OpenClosed}
+use Rattle.interval.specs.declared.LengthTest.the-variants.{Lasts, AtMost, AtLeast}
+use Rattle.text.specs.Text.{split, lines}
+use Rattle.text.specs.Quoted.{bytes, tabbed, unended, text}
+use Rattle.decimal.specs.Spelling.{isDigit, allDigits, valueFrom, hasLeadingZero, isNumber, numberOf}
+use Rattle.chart.specs.Operators.{words, sameBytes, placeOf, operatorOf, edgesOf, relationOf, lengthTestOf, kindOf, inRange, areLower}
+use Rattle.chart.specs.Records.{withCode, eventLine, withOperands, secondOperand, operandsLine, byOperator, operatorLine, numbered, parsedLine, checkedEntry, checkedLine, answerTo}
+use Rattle.chart.specs.Charts.{noEntries, withEntry, refusedChart, readLines, orNoLine, readChart}
+use Rattle.chart.specs.declared.Entry.{Entry}
+use Rattle.chart.specs.declared.operator.Kind.{Kind}
+use Rattle.chart.specs.declared.operator.Kind.the-variants.{Event, Or, Pair, Absence, Length}
+
+-- what an entry means: its operator and its operands
+pub record Meaning : Type 0 where
+  pub kind : Kind
+  pub a : ℕ
+  pub b : ℕ
+
+abbrev means : Kind → ℕ → ℕ → Meaning
+means k a b = record { kind = k; a = a; b = b }
+
+-- what a chart is answered with: refusal and line, both 0 where it is taken, and what its entries mean
+pub record Reading : Type 0 where
+  pub refusal : ℕ
+  pub line : ℕ
+  pub entries : List Meaning
+
+abbrev pub reading : List ℕ → Reading
+reading s =
+    let r = readChart s in
+    record { refusal = r .refusal; line = r .line; entries = map (λ (e : Entry). means (kindOf (e .op)) (e .a) (e .b)) (take (r .chart .count) (r .chart .entries)) }
+
+pub record Case : Type 0 where
+  pub chart : List ℕ
+  pub expected : Reading
+
+abbrev taken : List ℕ → List Meaning → Case
+taken s ms = record { chart = s; expected = record { refusal = 0; line = 0; entries = ms } }
+
+-- "the number, the line counted from 1 (line 1 for refusal 1) and a chart of no entries"
+abbrev refused : List ℕ → ℕ → ℕ → Case
+refused s n line = record { chart = s; expected = record { refusal = n; line = line; entries = [] } }
+
+-- a line of a chart, and what it means
+record Written : Type 0 where
+  line : String
+  meaning : Meaning
+
+infix 80 _⇒_
+abbrev _⇒_ : String → Meaning → Written
+l ⇒ m = record { line = l; meaning = m }
+
+-- the 17 words, in the order of the operator table. In an absence "the first sign is the early edge and the second the late one": `[` early
+-- and `]` late are closed, `]` early and `[` late are open.
+abbrev operatorTable : List Written
+operatorTable =
+    "0 event 0" ⇒ means Event 0 0 ∷
+    "1 event 255" ⇒ means Event 255 0 ∷
+    "2 seq 0 1" ⇒ means (Pair Seq) 0 1 ∷
+    "3 or 2 1" ⇒ means Or 2 1 ∷
+    "4 and 3 3" ⇒ means (Pair And) 3 3 ∷
+    "5 -[] 0 1" ⇒ means (Absence ClosedClosed) 0 1 ∷
+    "6 -][ 0 1" ⇒ means (Absence OpenOpen) 0 1 ∷
+    "7 -[[ 0 1" ⇒ means (Absence ClosedOpen) 0 1 ∷
+    "8 -]] 0 1" ⇒ means (Absence OpenClosed) 0 1 ∷
+    "9 meets 0 8" ⇒ means (Pair Meets) 0 8 ∷
+    "10 overlaps 0 9" ⇒ means (Pair Overlaps) 0 9 ∷
+    "11 starts 10 0" ⇒ means (Pair Starts) 10 0 ∷
+    "12 during 0 1" ⇒ means (Pair During) 0 1 ∷
+    "13 finishes 0 1" ⇒ means (Pair Finishes) 0 1 ∷
+    "14 equals 0 1" ⇒ means (Pair Equals) 0 1 ∷
+    "15 lasts 14 0" ⇒ means (Length Lasts) 14 0 ∷
+    "16 atmost 15 2000000000" ⇒ means (Length AtMost) 15 2000000000 ∷
+    "17 atleast 0 17" ⇒ means (Length AtLeast) 0 17 ∷ []
+
+abbrev tableOfWords : List Case
+tableOfWords = taken (text (map (λ (w : Written). w .line) operatorTable)) (map (λ (w : Written). w .meaning) operatorTable) ∷ []
+
+-- 31 lines, one less than a chart takes
+abbrev lines31 : List String
+lines31 =
+    "0 event 1" ∷ "1 event 1" ∷ "2 event 1" ∷ "3 event 1" ∷ "4 event 1" ∷ "5 event 1" ∷ "6 event 1" ∷ "7 event 1" ∷
+    "8 event 1" ∷ "9 event 1" ∷ "10 event 1" ∷ "11 event 1" ∷ "12 event 1" ∷ "13 event 1" ∷ "14 event 1" ∷ "15 event 1" ∷
+    "16 event 1" ∷ "17 event 1" ∷ "18 event 1" ∷ "19 event 1" ∷ "20 event 1" ∷ "21 event 1" ∷ "22 event 1" ∷ "23 event 1" ∷
+    "24 event 1" ∷ "25 event 1" ∷ "26 event 1" ∷ "27 event 1" ∷ "28 event 1" ∷ "29 event 1" ∷ "30 event 1" ∷ []
+
+abbrev full : List ℕ
+full = text (lines31 ++ "31 event 1" ∷ [])
+
+-- "1 no line; 2 a 33rd line": 32 lines are taken
+abbrev tooFewOrMany : List Case
+tooFewOrMany =
+    refused (text []) 1 1 ∷
+    taken full (replicate 32 (means Event 1 0)) ∷
+    refused (full ++ text ("32 event 1" ∷ [])) 2 33 ∷ []
+
+-- "3 a line not of the form above": an empty line; no operand, one too few, one too many; a word that is none, with a letter too few or too many, in
+-- capitals; no entry number; two tabs; a tab in front or behind; a space for a tab; a leading zero; a minus; no digit; 11 digits; no byte 10, a byte 13
+abbrev notOfTheForm : List Case
+notOfTheForm = map (λ (s : List ℕ). refused (text ("0 event 1" ∷ []) ++ s) 3 2) (
+    text ("" ∷ []) ∷
+    text ("1 event" ∷ []) ∷
+    text ("1 seq 0" ∷ []) ∷
+    text ("1 event 1 0" ∷ []) ∷
+    text ("1 seq 0 0 0" ∷ []) ∷
+    text ("1 -[ 0 0" ∷ []) ∷
+    text ("1 -[]] 0 0" ∷ []) ∷
+    text ("1 SEQ 0 0" ∷ []) ∷
+    text ("event 1" ∷ []) ∷
+    text ("1 event  1" ∷ []) ∷
+    text (" 1 event 1" ∷ []) ∷
+    text ("1 event 1 " ∷ []) ∷
+    bytes "1\tevent 1\n" ∷
+    text ("01 event 1" ∷ []) ∷
+    text ("1 event 01" ∷ []) ∷
+    text ("1 event -1" ∷ []) ∷
+    text ("1 lasts 0 -1" ∷ []) ∷
+    text ("1 seq 0 x" ∷ []) ∷
+    text ("1 lasts 0 10000000000" ∷ []) ∷
+    unended "1 event 1" ∷
+    bytes "1\tevent\t1\r\n" ∷ [])
+
+-- "4 entry number not the next; 5 operand not lower; 6 code or length out of range"
+abbrev notOfTheTable : List Case
+notOfTheTable =
+    refused (text ("1 event 1" ∷ [])) 4 1 ∷
+    refused (text ("0 event 1" ∷ "0 event 1" ∷ [])) 4 2 ∷
+    refused (text ("0 event 1" ∷ "2 event 1" ∷ [])) 4 2 ∷
+    refused (text ("0 event 1" ∷ "1 seq 0 1" ∷ [])) 5 2 ∷
+    refused (text ("0 event 1" ∷ "1 or 1 0" ∷ [])) 5 2 ∷
+    refused (text ("0 event 1" ∷ "1 -[] 0 1" ∷ [])) 5 2 ∷
+    refused (text ("0 event 1" ∷ "1 lasts 1 0" ∷ [])) 5 2 ∷
+    refused (text ("0 event 256" ∷ [])) 6 1 ∷
+    refused (text ("0 event 1" ∷ "1 atmost 0 2000000001" ∷ [])) 6 2 ∷ []
+
+-- "in a line 2, 3, 4, 6, 5": each line refused has a fault that comes later in this order, too
+abbrev inALine : List Case
+inALine =
+    -- 2 before 3, 4, 6 and 5
+    refused (full ++ text ("x" ∷ [])) 2 33 ∷
+    refused (full ++ text ("33 event 1" ∷ [])) 2 33 ∷
+    refused (full ++ text ("32 event 256" ∷ [])) 2 33 ∷
+    refused (full ++ text ("32 seq 32 32" ∷ [])) 2 33 ∷
+    refused (full ++ unended "0 seq 40 40") 2 33 ∷
+    -- 3 before 4, 6 and 5
+    refused (text ("1 event" ∷ [])) 3 1 ∷
+    refused (text ("0 event 256 0" ∷ [])) 3 1 ∷
+    refused (text ("0 seq 0" ∷ [])) 3 1 ∷
+    refused (unended "1 lasts 1 2000000001") 3 1 ∷
+    -- 4 before 6 and 5
+    refused (text ("1 event 256" ∷ [])) 4 1 ∷
+    refused (text ("1 seq 1 1" ∷ [])) 4 1 ∷
+    refused (text ("1 lasts 1 2000000001" ∷ [])) 4 1 ∷
+    -- 6 before 5, and 5 alone
+    refused (text ("0 lasts 0 2000000001" ∷ [])) 6 1 ∷
+    refused (text ("0 lasts 0 2000000000" ∷ [])) 5 1 ∷ []
+
+-- "lines from the first": the first fault of a chart is reported, whatever its number. The later line has the fault that comes first in a line.
+abbrev fromTheFirst : List Case
+fromTheFirst =
+    refused (text (lines31 ++ "31 seq 31 31" ∷ "32 event 1" ∷ [])) 5 32 ∷
+    refused (text ("0 event 1" ∷ "1 seq 1 1" ∷ "2 lasts 0 2000000001" ∷ "x" ∷ [])) 5 2 ∷
+    refused (text ("0 event 256" ∷ "2 event 1" ∷ [])) 6 1 ∷
+    refused (text ("0 event 1" ∷ "2 event 1" ∷ "x" ∷ [])) 4 2 ∷
+    refused (text ("0 event 1" ∷ "x" ∷ [] ++ lines31)) 3 2 ∷ []
+
+pub cases : List Case
+cases = tableOfWords ++ tooFewOrMany ++ notOfTheForm ++ notOfTheTable ++ inALine ++ fromTheFirst
+
+pub examples : map (λ (c : Case). reading (c .chart)) cases ≡ map (λ (c : Case). c .expected) cases
+unfolding cases bytes tabbed unended text split lines isLength isDigit allDigits valueFrom hasLeadingZero isNumber numberOf words sameBytes placeOf operatorOf edgesOf relationOf lengthTestOf kindOf inRange areLower withCode eventLine withOperands secondOperand operandsLine byOperator operatorLine numbered parsedLine checkedEntry checkedLine answerTo noEntries withEntry refusedChart readLines orNoLine readChart
+examples = refl

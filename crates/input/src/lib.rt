@@ -1,0 +1,181 @@
+// The standard input, read in pieces and played to its end. No contract can say what a file descriptor hands over; so those here say that there are
+// pieces of which the run, the table and what is printed are those of crate `program`.
+ghost use mathlib.Core.Path.{_≡_};
+ghost use mathlib.Core.Bool.{Bool, true, false};
+ghost use mathlib.Core.List.{List};
+ghost use Prim.Native.Nat.{ℕ, _+_, _≤_, _<_};
+ghost use lib.IntN.{ℤ};
+ghost use lib.ListN.{length, take, drop};
+ghost use Rattle.program.specs.Runs.{Reached, HasLines, HasFew, isRefused, fed};
+ghost use Rattle.input.specs.Inputs.{held, isFailed, pieceOf, Turned, endOf, OfInput, ListsInput};
+use libc::EINTR;
+use libc::STDERR_FILENO;
+use libc::STDIN_FILENO;
+use program::Run;
+
+// A run and whether reading the input failed; then the run is not finished.
+pub struct Played {
+    pub run: Run,
+    pub failed: bool,
+}
+
+// How many bytes a listing has at the front of the output, and whether reading the input failed; then they are none.
+pub struct Listed {
+    pub length: usize,
+    pub failed: bool,
+}
+
+// A run after one reading, how many bytes are kept for the next, whether this one was the last, and whether it failed.
+struct Turn {
+    run: Run,
+    kept: usize,
+    ended: bool,
+    failed: bool,
+}
+
+// Plays the standard input to its end and writes what the listing program prints for it at the front of the output. Nothing is read, and the length
+// is 0, where the output has less than 40 bytes and 81 for each row the table can hold.
+pub fn list_input(table: &mut [i32], out: &mut [u8]) -> Listed
+    ensures { λ r. ⌜ ListsInput (now (table .entry)) (now (out .entry)) r (now (table .exit)) (now (out .exit)) ⌝ }
+{
+    let room = table::rows_that_fit(table.len());
+    if out.len() < 40 + room * 81 {
+        return Listed {
+            length: 0,
+            failed: false,
+        };
+    }
+    let played = play_input(table);
+    if played.failed {
+        return Listed {
+            length: 0,
+            failed: true,
+        };
+    }
+    let run = played.run;
+    let length = run.print(table, out);
+    Listed {
+        length,
+        failed: false,
+    }
+}
+
+// Plays the standard input to its end. A proved loop has to end, and nothing says that an input does; so it counts its turns down, from a number
+// that no run uses up; if one did, that would count as a reading that failed.
+pub fn play_input(table: &mut [i32]) -> Played
+    ensures { λ r. ⌜ OfInput (now (table .entry)) r (now (table .exit)) ⌝ }
+{
+    let mut buf = io::large_buffer();
+    let mut run = program::start();
+    let mut kept: usize = 0;
+    let mut turns: u64 = 140737488355328;
+    while turns > 0 {
+        let t = take_piece(run, table, &mut buf, kept);
+        if t.ended {
+            return end_of(t);
+        }
+        run = t.run;
+        kept = t.kept;
+        turns -= 1;
+    }
+    Played { run, failed: true }
+}
+
+// Says on standard error, in one line that begins with the program's name, that the standard input could not be read, and the system's reason.
+pub fn say_not_read(name: &[u8]) {
+    io::write_all(STDERR_FILENO, name);
+    os::fail(b": standard input could not be read");
+}
+
+// Says in the same way that not all of the output could be written.
+pub fn say_not_written(name: &[u8]) {
+    io::write_all(STDERR_FILENO, name);
+    os::fail(b": standard output could not be written");
+}
+
+// The run after the last reading.
+fn end_of(t: Turn) -> Played
+    requires { ⌜ HasLines (t .run) 1 × HasFew (t .run) ⌝ }
+    ensures { λ r. ⌜ r ≡ endOf t ⌝ }
+{
+    let run = t.run;
+    if t.failed {
+        return Played { run, failed: true };
+    }
+    let kept = t.kept;
+    let last = run.finish(kept);
+    Played {
+        run: last,
+        failed: false,
+    }
+}
+
+// Reads once, behind the bytes kept, and plays what came. A reading that a signal interrupted is tried again at the next turn.
+fn take_piece(run: Run, table: &mut [i32], buf: &mut [u8], kept: usize) -> Turn
+    requires { ⌜ (length (now buf) ≡ 65536) × Reached (record { run = run; table = now table }) × (isRefused (run .stage) ≡ false) × HasLines run 65537 × (kept < 64) ⌝ }
+    ensures { λ r. ⌜ ((again : Bool) × (got : ℤ) × (piece : List ℕ) × Turned again got piece (held run (now (table .entry)) kept (now (buf .entry))) r (now (table .exit)) (now (buf .exit))) × Reached (record { run = r .run; table = now (table .exit) }) × (isRefused (r .run .stage) ≡ false → r .run .line ≤ run .line + 65536) × (r .kept < 64) × (r .ended ≡ false → isRefused (r .run .stage) ≡ false) ⌝ }
+{
+    let got = read_behind(buf, kept);
+    if is_interrupted(got) {
+        return Turn {
+            run,
+            kept,
+            ended: false,
+            failed: false,
+        };
+    }
+    play_got(run, table, buf, kept, got)
+}
+
+// Reads once, into the buffer behind the bytes kept: how many came, 0 at the end of the input, less where reading failed.
+fn read_behind(buf: &mut [u8], kept: usize) -> isize
+    requires { ⌜ kept ≤ length (now buf) ⌝ }
+    ensures { λ r. ⌜ take kept (now (buf .exit)) ≡ take kept (now (buf .entry)) ⌝ }
+{
+    libc::read(STDIN_FILENO, &mut buf[kept..])
+}
+
+// Whether the reading just made, which answered so, failed because a signal came before a byte did.
+fn is_interrupted(got: isize) -> bool
+    ensures { λ r. ⌜ (r ≡ true → isFailed got ≡ true) ⌝ }
+{
+    if got < 0 {
+        return os::errno() == EINTR;
+    }
+    false
+}
+
+// Plays what a reading brought behind the bytes kept.
+fn play_got(run: Run, table: &mut [i32], buf: &mut [u8], kept: usize, got: isize) -> Turn
+    requires { ⌜ (length (now buf) ≡ 65536) × Reached (record { run = run; table = now table }) × HasLines run 65537 × (kept < 64) ⌝ }
+    ensures { λ r. ⌜ Turned false got (pieceOf got (drop kept (now (buf .entry)))) (held run (now (table .entry)) kept (now (buf .entry))) r (now (table .exit)) (now (buf .exit)) × Reached (record { run = r .run; table = now (table .exit) }) × (isRefused (r .run .stage) ≡ false → r .run .line ≤ run .line + 65536) × (r .kept < 64) × (r .ended ≡ false → isRefused (r .run .stage) ≡ false) ⌝ }
+{
+    let n = io::count(got, &buf[kept..]);
+    if n == 0 {
+        return Turn {
+            run,
+            kept,
+            ended: true,
+            failed: got < 0,
+        };
+    }
+    play_piece(run, table, buf, kept, n)
+}
+
+// Plays so many bytes that came behind those kept, and moves what is to be kept of them to the front. Linear in the bytes, and for each line the
+// cost of its call on the watch.
+fn play_piece(run: Run, table: &mut [i32], buf: &mut [u8], kept: usize, n: usize) -> Turn
+    requires { ⌜ (kept + n ≤ length (now buf)) × Reached (record { run = run; table = now table }) × HasLines run (kept + n + 1) ⌝ }
+    ensures { λ r. ⌜ (held (r .run) (now (table .exit)) (r .kept) (now (buf .exit)) ≡ fed (held run (now (table .entry)) kept (now (buf .entry))) (take n (drop kept (now (buf .entry))))) × (r .kept < 64) × (r .ended ≡ isRefused (r .run .stage)) × (r .failed ≡ false) ⌝ }
+{
+    let end = kept + n;
+    let fed = run.feed(table, &buf[..end]);
+    let rest = program::keep_rest(buf, fed.used, end);
+    let next = fed.run;
+    Turn {
+        run: next,
+        kept: rest,
+        ended: program::is_refused(next),
+        failed: false,
+    }
+}

@@ -1,4 +1,0 @@
-pub mod Tests
-pub mod Rows
-pub mod Ready
-pub mod Theorems

@@ -1,0 +1,184 @@
+-- What the listing program prints, from text to text: P1 to P8, the four absences, the ends of the range of instants, and refusals. One list of
+-- cases, one theorem that the checker computes by the definition alone. What must be printed stands in document 01 or was found by hand from it.
+-- P1 to P8 stand here only; behind the list is the tree of P1's row 7.
+use Prim.Native.Nat.{ℕ}
+use Prim.Native.String.{String}
+use mathlib.Core.Path.{_≡_, refl}
+use mathlib.Core.List.{List, [], _∷_, _++_, map}
+use lib.ListN.{replicate}
+use Rattle.interval.specs.Instants.{isInstant, isLength, firstFloor, isMarkRefused, isForgetRefused}
+use Rattle.interval.specs.Conditions.{isRelated, isForbidding, hasLength}
+use Rattle.text.specs.Text.{split, lines}
+use Rattle.text.specs.Quoted.{bytes, tabbed, unended, text}
+use Rattle.decimal.specs.Spelling.{isDigit, allDigits, valueFrom, hasLeadingZero, isNumber, numberOf, withoutMinus, withMinus, instantOf, digitsWithin, spelledNumber, spelled}
+use Rattle.chart.specs.Operators.{words, sameBytes, placeOf, operatorOf, edgesOf, relationOf, lengthTestOf, kindOf, inRange, areLower}
+use Rattle.chart.specs.Records.{withCode, eventLine, withOperands, secondOperand, operandsLine, byOperator, operatorLine, numbered, parsedLine, checkedEntry, checkedLine, answerTo}
+use Rattle.chart.specs.Charts.{noEntries, withEntry, refusedChart, readLines, orNoLine}
+use Rattle.model.specs.Recognitions.{Operator, recognitionsOf, withEntries, recognitions}
+use Rattle.model.specs.Order.{compare, listing}
+use Rattle.model.specs.Reference.{opening, eventStep, clockStep, forgetStep}
+use Rattle.table.specs.Table.{flat}
+use Rattle.table.specs.Operators.{operatorBy, operatorsOf}
+use Rattle.tree.specs.Tree.{arityOf, rowBytes, referenceBytes, treeWithin, treeBytes}
+use Rattle.log.specs.Log.{callWords, eventCall, instantCall, wordCall, fieldsCall, callOf}
+use Rattle.printing.specs.Listing.{numbersText, rowTexts}
+use Rattle.program.specs.Outcomes.{Outcome, listed, refused, callIn, openingAnswer, callAnswer, playCalls, playLog, chartLines, logLines, playLines, outcomeText, printedFor}
+
+-- how many rows the table can hold, the input, and what must be printed
+pub record Case : Type 0 where
+  pub room : ℕ
+  pub input : List ℕ
+  pub printed : List ℕ
+
+-- A chart, an empty line and a log, and the lines that must be printed. "tabs shown as spaces"
+abbrev prints : ℕ → List String → List String → List String → Case
+prints room chart log printed = record { room = room; input = text (chart ++ "" ∷ log); printed = text printed }
+
+-- the listing has these rows
+abbrev lists : ℕ → List String → List String → List String → Case
+lists room chart log rows = prints room chart log ("row entry left right start end" ∷ rows)
+
+-- "Given chart .. and log .., it prints:"; the chart has its last line here from outside, since P2 changes it
+abbrev chart1 : String → List String
+chart1 last =
+    "0 event 1" ∷
+    "1 event 2" ∷
+    "2 event 3" ∷
+    "3 seq 0 1" ∷
+    last ∷ []
+
+abbrev log1 : List String
+log1 =
+    "open -2" ∷
+    "event 1" ∷
+    "clock 0" ∷
+    "event 2" ∷
+    "clock 3" ∷
+    "event 3" ∷
+    "event 2" ∷
+    "clock 4" ∷ []
+
+abbrev rows1-7 : List String
+rows1-7 =
+    "0 0 1 -1 -2 -2" ∷
+    "1 1 2 -1 0 0" ∷
+    "2 3 0 1 -2 0" ∷
+    "3 4 2 -1 -2 0" ∷
+    "4 1 4 -1 3 3" ∷
+    "5 2 3 -1 3 3" ∷
+    "6 3 0 4 -2 3" ∷ []
+
+abbrev rows1 : List String
+rows1 = rows1-7 ++ "7 4 6 -1 -2 3" ∷ []
+
+abbrev P1-P8 : List Case
+P1-P8 =
+    -- "P1 this listing"
+    lists 3000 (chart1 "4 -[[ 3 2") log1 rows1 ∷
+    -- "P2 with `-[]` row 7 is gone"
+    lists 3000 (chart1 "4 -[] 3 2") log1 rows1-7 ∷
+    -- "P3 with `forget 0` last, three rows stay: `1 2 -1 0 0`, `1 4 -1 3 3`, `2 3 -1 3 3`"
+    lists 3000 (chart1 "4 -[[ 3 2") (log1 ++ "forget 0" ∷ []) ("0 1 2 -1 0 0" ∷ "1 1 4 -1 3 3" ∷ "2 2 3 -1 3 3" ∷ []) ∷
+    -- "P4 `meets 0 0` on one event gives a row"
+    lists 3000 ("0 event 1" ∷ "1 meets 0 0" ∷ []) ("open 0" ∷ "event 1" ∷ "clock 1" ∷ []) ("0 0 1 -1 0 0" ∷ "1 1 0 0 0 0" ∷ []) ∷
+    -- "P5 `seq 0 0` on two events of one instant gives none"
+    lists 3000 ("0 event 1" ∷ "1 seq 0 0" ∷ []) ("open 0" ∷ "event 1" ∷ "event 1" ∷ "clock 1" ∷ []) ("0 0 1 -1 0 0" ∷ "1 0 2 -1 0 0" ∷ []) ∷
+    -- "P6 `or 0 0` gives two per event"
+    lists 3000 ("0 event 1" ∷ "1 or 0 0" ∷ []) ("open 0" ∷ "event 1" ∷ "clock 1" ∷ []) ("0 0 1 -1 0 0" ∷ "1 1 0 -1 0 0" ∷ "2 1 -1 0 0 0" ∷ []) ∷
+    -- "P7 `atmost` 5 drops length 5": of lengths 4 and 5 the first stays
+    lists 3000 ("0 event 1" ∷ "1 event 2" ∷ "2 seq 0 1" ∷ "3 atmost 2 5" ∷ []) ("open 0" ∷ "event 1" ∷ "clock 4" ∷ "event 2" ∷ "clock 5" ∷ "event 2" ∷ "clock 6" ∷ [])
+    ("0 0 1 -1 0 0" ∷ "1 1 2 -1 4 4" ∷ "2 2 0 1 0 4" ∷ "3 3 2 -1 0 4" ∷ "4 1 3 -1 5 5" ∷ "5 2 0 4 0 5" ∷ []) ∷
+    -- "P8 a table of 7 rows refuses P1's last mark with 12, one of 8 takes it"
+    prints 7 (chart1 "4 -[[ 3 2") log1 ("refused 12 14" ∷ []) ∷
+    lists 8 (chart1 "4 -[[ 3 2") log1 rows1 ∷ []
+
+-- P1 to P8 do not tell -][ from -[[, nor -]] from -[]. Here s, of entry 1, is at 2, and the rows r of entry 2 are from 1 to 2, where s is at the late
+-- edge, from 1 to 3, where it is inside, and from 2 to 3, where it is at the early edge.
+abbrev absences : List Case
+absences =
+    -- the edges included: s forbids each r
+    edges "3 -[] 2 1" ("0 0 1 -1 1 1" ∷ "1 0 2 -1 2 2" ∷ "2 1 3 -1 2 2" ∷ "3 2 0 1 1 2" ∷ "4 0 4 -1 3 3" ∷ "5 2 0 4 1 3" ∷ "6 2 1 4 2 3" ∷ []) ∷
+    -- neither edge: it forbids only the r from 1 to 3
+    edges "3 -][ 2 1" ("0 0 1 -1 1 1" ∷ "1 0 2 -1 2 2" ∷ "2 1 3 -1 2 2" ∷ "3 2 0 1 1 2" ∷ "4 3 3 -1 1 2" ∷ "5 0 4 -1 3 3" ∷ "6 2 0 5 1 3" ∷ "7 2 1 5 2 3" ∷ "8 3 7 -1 2 3" ∷ []) ∷
+    -- the early edge only: the r from 1 to 2 stays
+    edges "3 -[[ 2 1" ("0 0 1 -1 1 1" ∷ "1 0 2 -1 2 2" ∷ "2 1 3 -1 2 2" ∷ "3 2 0 1 1 2" ∷ "4 3 3 -1 1 2" ∷ "5 0 4 -1 3 3" ∷ "6 2 0 5 1 3" ∷ "7 2 1 5 2 3" ∷ []) ∷
+    -- the late edge only: the r from 2 to 3 stays
+    edges "3 -]] 2 1" ("0 0 1 -1 1 1" ∷ "1 0 2 -1 2 2" ∷ "2 1 3 -1 2 2" ∷ "3 2 0 1 1 2" ∷ "4 0 4 -1 3 3" ∷ "5 2 0 4 1 3" ∷ "6 2 1 4 2 3" ∷ "7 3 6 -1 2 3" ∷ []) ∷ []
+  where
+    edges : String → List String → Case
+    edges last rows = lists 3000 ("0 event 1" ∷ "1 event 2" ∷ "2 seq 0 0" ∷ last ∷ []) ("open 1" ∷ "event 1" ∷ "clock 2" ∷ "event 1" ∷ "event 2" ∷ "clock 3" ∷ "event 1" ∷ "clock 4" ∷ []) rows
+
+-- the first and the last instant; a log that has only its opening; a table of no rows
+abbrev ends : List Case
+ends =
+    lists 3000 ("0 event 255" ∷ []) ("open -1000000000" ∷ "event 255" ∷ "clock 1000000000" ∷ []) ("0 0 1 -1 -1000000000 -1000000000" ∷ []) ∷
+    lists 3000 ("0 event 1" ∷ []) ("open 0" ∷ []) [] ∷
+    lists 0 ("0 event 1" ∷ []) ("open 0" ∷ "event 0" ∷ "clock 1" ∷ []) [] ∷ []
+
+-- "A refusal prints only one line: `refused`, number, line of the whole input (one past the last if a line is missing)". An input, the number and the line
+abbrev refusals : List Case
+refusals =
+    -- empty input; an empty line and nothing else: 1
+    input [] "refused 1 1" ∷
+    input (text ("" ∷ [])) "refused 1 1" ∷
+    input (text ("" ∷ "open 0" ∷ [])) "refused 1 1" ∷
+    -- the empty line is missing: the log is read as chart, 3; or there is no log, 7, one past the last line
+    input (text ("0 event 1" ∷ "open 0" ∷ "clock 1" ∷ [])) "refused 3 2" ∷
+    input (text ("0 event 1" ∷ [])) "refused 7 2" ∷
+    input (text ("0 event 1" ∷ "" ∷ [])) "refused 7 3" ∷
+    -- the last line has no byte 10: in the chart, in the log, first of the log, and "The first empty line ends the chart": a second one is a log line
+    input (unended "0 event 1") "refused 3 1" ∷
+    input (text ("0 event 1" ∷ "" ∷ "open 0" ∷ []) ++ unended "clock 1") "refused 7 4" ∷
+    input (text ("0 event 1" ∷ "" ∷ []) ++ unended "open 0") "refused 7 3" ∷
+    input (text ("0 event 1" ∷ "" ∷ "" ∷ "open 0" ∷ [])) "refused 7 3" ∷
+    -- the chart's own
+    prints 3000 ("0 event 1" ∷ "2 event 1" ∷ []) ("x" ∷ []) ("refused 4 2" ∷ []) ∷
+    prints 3000 ("0 event 1" ∷ "1 seq 0 1" ∷ []) ("open 0" ∷ []) ("refused 5 2" ∷ []) ∷
+    prints 3000 ("0 event 256" ∷ []) ("open 0" ∷ []) ("refused 6 1" ∷ []) ∷
+    -- "7 a log line not of its form, a code above 255, `open` missing or repeated"; the first refusal ends the run
+    log ("open 0" ∷ "event 1 " ∷ "x" ∷ []) "refused 7 4" ∷
+    log ("open 0" ∷ "event 256" ∷ []) "refused 7 4" ∷
+    log ("clock 0" ∷ []) "refused 7 3" ∷
+    log ("open 0" ∷ "open 1" ∷ []) "refused 7 4" ∷
+    log ("open -0" ∷ []) "refused 7 3" ∷
+    -- "8 an opening instant out of range, or a clock mark out of range or not after the open instant"
+    log ("open -1000000001" ∷ []) "refused 8 3" ∷
+    log ("open 1000000001" ∷ []) "refused 8 3" ∷
+    log ("open 0" ∷ "clock 0" ∷ []) "refused 8 4" ∷
+    log ("open 0" ∷ "clock 1000000001" ∷ []) "refused 8 4" ∷
+    -- "9 a 65th event in one instant"
+    log ("open 0" ∷ replicate 65 "event 1") "refused 9 68" ∷
+    -- "11 a forget below the floor, above the open instant or out of range"
+    log ("open 0" ∷ "forget -1" ∷ "forget -2" ∷ []) "refused 11 5" ∷
+    log ("open 0" ∷ "forget 1" ∷ []) "refused 11 4" ∷
+    log ("open 0" ∷ "forget -1000000001" ∷ []) "refused 11 4" ∷
+    -- "8 before 12": on a table too full a mark in range is refused with 12, one out of range or not after the open instant with 8
+    prints 0 ("0 event 1" ∷ []) ("open 0" ∷ "event 1" ∷ "clock 1000000000" ∷ []) ("refused 12 5" ∷ []) ∷
+    prints 0 ("0 event 1" ∷ []) ("open 0" ∷ "event 1" ∷ "clock 1000000001" ∷ []) ("refused 8 5" ∷ []) ∷
+    prints 0 ("0 event 1" ∷ []) ("open 0" ∷ "event 1" ∷ "clock 0" ∷ []) ("refused 8 5" ∷ []) ∷ []
+  where
+    input : List ℕ → String → Case
+    input s line = record { room = 3000; input = s; printed = text (line ∷ []) }
+
+    log : List String → String → Case
+    log calls line = prints 3000 ("0 event 1" ∷ []) calls (line ∷ [])
+
+pub cases : List Case
+cases = P1-P8 ++ absences ++ ends ++ refusals
+
+pub examples : map (λ (c : Case). printedFor (c .room) (c .input)) cases ≡ map (λ (c : Case). c .printed) cases
+unfolding cases bytes tabbed unended text split lines isInstant isLength firstFloor isMarkRefused isForgetRefused isRelated isForbidding hasLength isDigit allDigits valueFrom hasLeadingZero isNumber numberOf withoutMinus withMinus instantOf digitsWithin spelledNumber spelled words sameBytes placeOf operatorOf edgesOf relationOf lengthTestOf kindOf inRange areLower withCode eventLine withOperands secondOperand operandsLine byOperator operatorLine numbered parsedLine checkedEntry checkedLine answerTo noEntries withEntry refusedChart readLines orNoLine recognitionsOf withEntries recognitions compare listing opening eventStep clockStep forgetStep operatorBy operatorsOf callWords eventCall instantCall wordCall fieldsCall callOf numbersText rowTexts callIn openingAnswer callAnswer playCalls playLog chartLines logLines playLines outcomeText printedFor
+examples = refl
+
+-- the tree of row i of those that an input comes to, its references followed down
+abbrev rowTree : List Operator → Outcome → ℕ → List ℕ
+rowTree ops (listed rs) i = treeBytes ops (flat rs) i
+rowTree ops (refused n line) i = []
+
+abbrev treeFor : ℕ → List ℕ → ℕ → List ℕ
+treeFor room input i = rowTree (operatorsOf ((orNoLine (chartLines (lines input))) .chart)) (playLines room (lines input)) i
+
+-- "Row 7's tree is `<<e1,e4>>`."
+pub tree-of-row-7 : treeFor 3000 (text (chart1 "4 -[[ 3 2" ++ "" ∷ log1)) 7 ≡ bytes "<<e1,e4>>"
+unfolding bytes tabbed unended text split lines isInstant isLength firstFloor isMarkRefused isForgetRefused isRelated isForbidding isDigit allDigits valueFrom hasLeadingZero isNumber numberOf withoutMinus withMinus instantOf digitsWithin spelledNumber spelled words sameBytes placeOf operatorOf edgesOf relationOf lengthTestOf kindOf inRange areLower withCode eventLine withOperands secondOperand operandsLine byOperator operatorLine numbered parsedLine checkedEntry checkedLine answerTo noEntries withEntry refusedChart readLines orNoLine recognitionsOf withEntries recognitions compare listing opening eventStep clockStep operatorBy operatorsOf callWords eventCall instantCall wordCall fieldsCall callOf callIn openingAnswer callAnswer playCalls playLog chartLines logLines playLines flat arityOf rowBytes referenceBytes treeWithin treeBytes
+tree-of-row-7 = refl

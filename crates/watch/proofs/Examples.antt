@@ -1,0 +1,301 @@
+-- The calls on a watch, computed: which number comes first where two could be given, and what each call hands back. One list of cases and one
+-- theorem for each kind of answer. What must come out was found by hand from document 01. No contract says as much, since the code and its contract share the definitions.
+use Prim.Native.Nat.{ℕ, _-_}
+use Prim.Native.String.{String}
+use mathlib.Core.Path.{_≡_, refl}
+use mathlib.Core.Bool.{cond}
+use mathlib.Core.List.{List, [], _∷_, _++_, map}
+use lib.IntN.{ℤ, pos}
+use lib.ListN.{length, replicate}
+use Rattle.interval.specs.Instants.{isInstant, isLength, firstFloor, isMarkRefused, isForgetRefused}
+use Rattle.interval.specs.Conditions.{isRelated, isForbidding, hasLength}
+use Rattle.text.specs.Text.{split, lines}
+use Rattle.text.specs.Quoted.{bytes, tabbed, unended, text}
+use Rattle.decimal.specs.Spelling.{isDigit, allDigits, valueFrom, hasLeadingZero, isNumber, numberOf, withoutMinus, withMinus, instantOf, digitsWithin, spelledNumber, spelled}
+use Rattle.chart.specs.Operators.{words, sameBytes, placeOf, operatorOf, edgesOf, relationOf, lengthTestOf, kindOf, inRange, areLower}
+use Rattle.chart.specs.Records.{entry, withCode, eventLine, withOperands, secondOperand, operandsLine, byOperator, operatorLine, numbered, parsedLine, checkedEntry, checkedLine, answerTo}
+use Rattle.chart.specs.Charts.{noEntries, withEntry, refusedChart, readLines, orNoLine, readChart, entryFits, allBelow, isUsable}
+use Rattle.chart.specs.declared.Chart.{Chart}
+use Rattle.chart.specs.declared.Entry.{Entry}
+use Rattle.model.specs.Capacity.{capacity}
+use Rattle.model.specs.Reference.{Call, event, clock, forget}
+use Rattle.model.specs.RowSteps.{extendRows, closeRows, keepRows, forgetRows}
+use Rattle.table.specs.Table.{rowsIn, putRow, putRows, areZeros, zeroed}
+use Rattle.table.specs.Operators.{operatorBy, operatorsOf}
+use Rattle.consistency.specs.Consistency.{isWatchInRange, isTableRowConsistent, areConsistent}
+use Rattle.consistency.proofs.Examples as consistency
+use Rattle.consistency.proofs.Examples.{chartOf, table, minus}
+use Rattle.tree.specs.Tree.{arityOf, rowBytes, referenceBytes, treeWithin, treeBytes}
+use Rattle.watch.specs.Steps.{Step, TreeStep, openingStep, checkNumber, checked, withEvent, eventOwn, eventStep, closedRows, marked, clockOwn, clockStep, keptRows, raised, forgetOwn, forgetStep, endPart, endRows, treeOwn, treeStep}
+use Rattle.watch.specs.Histories.{call}
+use Rattle.watch.specs.declared.Watch.{Watch}
+use Rattle.watch.specs.declared.Part.{Part}
+
+-- a watch: open instant, floor, count of events, count of rows, and the codes of the pending events
+abbrev watch : ℤ → ℤ → ℕ → ℕ → List ℕ → Watch
+watch o f events rows ks = record { instant = o; floor = f; events = events; rows = rows; pending = length ks; codes = ks ++ replicate (64 - length ks) 0 }
+
+-- "an empty watch ...: floor -1,000,000,000, counts 0, no events"
+abbrev emptyAt : ℤ → Watch
+emptyAt o = watch o (minus 1000000000) 0 0 []
+
+abbrev oneEntry : Chart
+oneEntry = chartOf ("0 event 1" ∷ [])
+
+abbrev noEntry : Chart
+noEntry = chartOf []
+
+-- Check calls: chart, watch and table, and the number that every call on them is refused with first, 0 for none.
+pub record Check : Type 0 where
+  pub chart : Chart
+  pub watch : Watch
+  pub table : List ℤ
+  pub number : ℕ
+
+abbrev check : Chart → Watch → List ℤ → ℕ → Check
+check chart w t n = record { chart = chart; watch = w; table = t; number = n }
+
+-- "14 a chart of no entries, of over 32, or with an entry breaking the operator table". An operator's code is its place in that table: 0 is event,
+-- 1 seq, 14 lasts, and 17 is none.
+abbrev charts : List Check
+charts =
+    of 0 [] 14 ∷
+    of 1 (entry 0 255 0 ∷ []) 0 ∷
+    of 1 (entry 0 256 0 ∷ []) 14 ∷
+    of 1 (entry 0 1 1 ∷ []) 14 ∷
+    of 1 (entry 17 0 0 ∷ []) 14 ∷
+    of 2 (entry 0 1 0 ∷ entry 1 0 0 ∷ []) 0 ∷
+    of 2 (entry 0 1 0 ∷ entry 1 1 0 ∷ []) 14 ∷
+    of 2 (entry 0 1 0 ∷ entry 1 0 1 ∷ []) 14 ∷
+    of 2 (entry 0 1 0 ∷ entry 14 0 2000000000 ∷ []) 0 ∷
+    of 2 (entry 0 1 0 ∷ entry 14 0 2000000001 ∷ []) 14 ∷
+    of 32 (replicate 32 (entry 0 1 0)) 0 ∷
+    of 33 (replicate 32 (entry 0 1 0)) 14 ∷ []
+  where
+    of : ℕ → List Entry → ℕ → Check
+    of count es n = check (record { count = count; entries = es ++ replicate (32 - length es) (entry 0 0 0) }) (emptyAt (pos 0)) [] n
+
+-- "Calls on a watch check 14, 13": the chart has no entry, and the floor is above the open instant
+abbrev firstChart : List Check
+firstChart = check noEntry (watch (pos 0) (pos 1) 0 0 []) [] 14 ∷ check oneEntry (watch (pos 0) (pos 1) 0 0 []) [] 13 ∷ []
+
+-- "13 watch or table out of joint": the cases of crate `consistency`. The codes of pending events are not looked at.
+abbrev outOfJoint : List Check
+outOfJoint = map asCheck consistency.cases
+  where
+    asCheck : consistency.Case → Check
+    asCheck c = check (c .chart) (record { instant = c .instant; floor = c .floor; events = c .events; rows = c .rows; pending = c .pending; codes = replicate 64 0 }) (c .table) (cond (c .consistent) 0 13)
+
+pub checkCases : List Check
+checkCases = charts ++ firstChart ++ outOfJoint
+
+pub checks : map (λ (c : Check). checkNumber (c .chart) (c .watch) (c .table)) checkCases ≡ map (λ (c : Check). c .number) checkCases
+unfolding checkCases consistency.cases isInstant isLength isRelated hasLength split lines bytes tabbed unended text isDigit allDigits valueFrom hasLeadingZero isNumber numberOf withoutMinus withMinus instantOf words sameBytes placeOf operatorOf edgesOf relationOf lengthTestOf kindOf inRange areLower withCode eventLine withOperands secondOperand operandsLine byOperator operatorLine numbered parsedLine checkedEntry checkedLine answerTo noEntries withEntry refusedChart readLines orNoLine readChart entryFits allBelow isUsable capacity rowsIn areZeros operatorBy operatorsOf isWatchInRange isTableRowConsistent areConsistent checkNumber
+checks = refl
+
+-- What a call hands back: its number, the watch and the table after it.
+pub record Outcome : Type 0 where
+  pub number : ℕ
+  pub watch : Watch
+  pub table : List ℤ
+
+abbrev outcome : ℕ → Watch → List ℤ → Outcome
+outcome n w t = record { number = n; watch = w; table = t }
+
+abbrev pub ofStep : Step → Outcome
+ofStep s = outcome (s .answer .refusal) (s .answer .watch) (s .table)
+
+-- Openings: chart, table and instant, and what is handed back.
+pub record Opening : Type 0 where
+  pub chart : Chart
+  pub table : List ℤ
+  pub instant : ℤ
+  pub expected : Outcome
+
+abbrev opens : Chart → List ℤ → ℤ → Outcome → Opening
+opens chart t o expected = record { chart = chart; table = t; instant = o; expected = expected }
+
+-- two rows, and three numbers after the last row
+abbrev used : List ℤ
+used = table ("0 1 -1 0 0" ∷ "0 2 -1 3 3" ∷ "7 8 9" ∷ [])
+
+abbrev cleared : List ℤ
+cleared = table ("0 0 0 0 0" ∷ "0 0 0 0 0" ∷ "7 8 9" ∷ [])
+
+pub openingCases : List Opening
+openingCases =
+    -- "Opening a watch fills all rows with zeros"; "Numbers after the last row the table can hold are never altered."
+    opens oneEntry used (pos 5) (outcome 0 (emptyAt (pos 5)) cleared) ∷
+    opens oneEntry used (minus 1000000000) (outcome 0 (emptyAt (minus 1000000000)) cleared) ∷
+    opens oneEntry used (pos 1000000000) (outcome 0 (emptyAt (pos 1000000000)) cleared) ∷
+    -- "A refused opening (14, then 8) returns an empty watch at instant 0: floor -1,000,000,000, counts 0, no events."
+    opens oneEntry used (minus 1000000001) (outcome 8 (emptyAt (pos 0)) used) ∷
+    opens oneEntry used (pos 1000000001) (outcome 8 (emptyAt (pos 0)) used) ∷
+    opens noEntry used (pos 5) (outcome 14 (emptyAt (pos 0)) used) ∷
+    opens noEntry used (pos 1000000001) (outcome 14 (emptyAt (pos 0)) used) ∷ []
+
+pub openings : map (λ (c : Opening). ofStep (openingStep (c .chart) (c .table) (c .instant))) openingCases ≡ map (λ (c : Opening). c .expected) openingCases
+unfolding openingCases isInstant firstFloor split lines bytes tabbed unended text isDigit allDigits valueFrom hasLeadingZero isNumber numberOf withoutMinus withMinus instantOf words sameBytes placeOf operatorOf kindOf inRange areLower withCode eventLine byOperator operatorLine numbered parsedLine checkedEntry checkedLine answerTo noEntries withEntry refusedChart readLines orNoLine readChart entryFits allBelow isUsable capacity zeroed openingStep
+openings = refl
+
+-- Events, clock marks and forgets: chart, watch, table and call, and what is handed back.
+pub record Called : Type 0 where
+  pub chart : Chart
+  pub watch : Watch
+  pub table : List ℤ
+  pub call : Call
+  pub expected : Outcome
+
+abbrev takes : Chart → Watch → List ℤ → Call → Watch → List ℤ → Called
+takes chart w t c w' t' = record { chart = chart; watch = w; table = t; call = c; expected = outcome 0 w' t' }
+
+-- "Every other refusal from 8 on returns the watch given. After a refusal all lent memory holds what it held before."
+abbrev refuses : Chart → Watch → List ℤ → Call → ℕ → Called
+refuses chart w t c n = record { chart = chart; watch = w; table = t; call = c; expected = outcome n w t }
+
+-- "Calls on a watch check 14, 13, then their own": the floor is above the open instant; there are as many events and as many of the open instant as may
+-- be, and the mark and the forget are out of range
+abbrev firstChecks : List Called
+firstChecks =
+    refuses noEntry inconsistent [] (event 1) 14 ∷ refuses oneEntry inconsistent [] (event 1) 13 ∷ refuses oneEntry consistent [] (event 1) 10 ∷
+    refuses noEntry inconsistent [] (clock (pos 1000000001)) 14 ∷ refuses oneEntry inconsistent [] (clock (pos 1000000001)) 13 ∷ refuses oneEntry consistent [] (clock (pos 1000000001)) 8 ∷
+    refuses noEntry inconsistent [] (forget (pos 1000000001)) 14 ∷ refuses oneEntry inconsistent [] (forget (pos 1000000001)) 13 ∷ refuses oneEntry consistent [] (forget (pos 1000000001)) 11 ∷ []
+  where
+    inconsistent : Watch
+    inconsistent = watch (pos 0) (pos 1) 1000000 0 (replicate 64 1)
+
+    consistent : Watch
+    consistent = watch (pos 0) (pos 0) 1000000 0 (replicate 64 1)
+
+-- "10 before 9"
+abbrev eventCalls : List Called
+eventCalls =
+    refuses oneEntry (watch (pos 0) (pos 0) 1000000 0 (replicate 64 1)) [] (event 1) 10 ∷
+    refuses oneEntry (watch (pos 0) (pos 0) 1000000 0 []) [] (event 1) 10 ∷
+    refuses oneEntry (watch (pos 0) (pos 0) 999999 0 (replicate 64 1)) [] (event 1) 9 ∷
+    takes oneEntry (watch (pos 0) (pos 0) 999999 0 (replicate 63 1)) [] (event 255) (watch (pos 0) (pos 0) 1000000 0 (replicate 63 1 ++ 255 ∷ [])) [] ∷ []
+
+-- "8 before 12": one event of code 1 is pending, and there is room for no row
+abbrev markOrder : List Called
+markOrder =
+    refuses oneEntry pendingOne [] (clock (pos 1000000001)) 8 ∷
+    refuses oneEntry pendingOne [] (clock (minus 1000000001)) 8 ∷
+    refuses oneEntry pendingOne [] (clock (pos 3)) 8 ∷
+    refuses oneEntry pendingOne [] (clock (pos 1000000000)) 12 ∷
+    refuses oneEntry pendingOne [] (clock (pos 4)) 12 ∷ []
+  where
+    pendingOne : Watch
+    pendingOne = watch (pos 3) (pos 0) 1 0 (1 ∷ [])
+
+-- Two events in sequence. Events of code 1 came at 1 and at 3; one of code 2, at 5, brings three rows more.
+abbrev inSequence : Chart
+inSequence = chartOf ("0 event 1" ∷ "1 event 2" ∷ "2 seq 0 1" ∷ [])
+
+abbrev twoRows : List String
+twoRows = "0 1 -1 1 1" ∷ "0 2 -1 3 3" ∷ []
+
+abbrev fiveRows : List String
+fiveRows = twoRows ++ "1 3 -1 5 5" ∷ "2 0 2 1 5" ∷ "2 1 2 3 5" ∷ []
+
+-- "12 table full: the due rows, old and new together, exceed the rows the table can hold"; "Closing alters only the new rows."
+abbrev marks : List Called
+marks =
+    takes inSequence before (table (twoRows ++ replicate 3 "0 0 0 0 0" ++ "7 8 9" ∷ [])) (clock (pos 6)) (watch (pos 6) (pos 0) 3 5 []) (table (fiveRows ++ "7 8 9" ∷ [])) ∷
+    refuses inSequence before (table (twoRows ++ replicate 2 "0 0 0 0 0" ++ "7 8 9" ∷ [])) (clock (pos 6)) 12 ∷ []
+  where
+    before : Watch
+    before = watch (pos 5) (pos 0) 3 2 (2 ∷ [])
+
+-- the watch after that mark, with this floor and this many rows, and an event pending
+abbrev five : ℤ → ℕ → Watch
+five floor n = watch (pos 6) floor 4 n (9 ∷ [])
+
+-- "A forget f raises the floor to f, drops every row that starts before f, moves the others down in order, renumbers their references and fills the freed
+-- rows with zeros."; "11 a forget below the floor, above the open instant or out of range"
+abbrev forgets : List Called
+forgets =
+    takes inSequence (five (pos 1) 5) (table fiveRows) (forget (pos 1)) (five (pos 1) 5) (table fiveRows) ∷
+    takes inSequence (five (pos 1) 5) (table (fiveRows ++ "7 8 9" ∷ [])) (forget (pos 2)) (five (pos 2) 3) (table ("0 2 -1 3 3" ∷ "1 3 -1 5 5" ∷ "2 0 1 3 5" ∷ "0 0 0 0 0" ∷ "0 0 0 0 0" ∷ "7 8 9" ∷ [])) ∷
+    takes inSequence (five (pos 1) 5) (table fiveRows) (forget (pos 6)) (five (pos 6) 0) (table (replicate 5 "0 0 0 0 0")) ∷
+    refuses inSequence (five (pos 1) 5) (table fiveRows) (forget (pos 0)) 11 ∷
+    refuses inSequence (five (pos 1) 5) (table fiveRows) (forget (pos 7)) 11 ∷
+    refuses inSequence (five (pos 1) 5) (table fiveRows) (forget (minus 1000000001)) 11 ∷ []
+
+pub callCases : List Called
+callCases = firstChecks ++ eventCalls ++ markOrder ++ marks ++ forgets
+
+pub calls : map (λ (c : Called). ofStep (call (c .chart) (record { watch = c .watch; table = c .table }) (c .call))) callCases ≡ map (λ (c : Called). c .expected) callCases
+unfolding callCases isInstant isMarkRefused isForgetRefused isRelated isForbidding hasLength split lines bytes tabbed unended text isDigit allDigits valueFrom hasLeadingZero isNumber numberOf withoutMinus withMinus instantOf words sameBytes placeOf operatorOf kindOf inRange areLower withCode eventLine withOperands secondOperand operandsLine byOperator operatorLine numbered parsedLine checkedEntry checkedLine answerTo noEntries withEntry refusedChart readLines orNoLine readChart entryFits allBelow isUsable capacity extendRows closeRows keepRows forgetRows rowsIn putRow putRows areZeros zeroed operatorBy operatorsOf isWatchInRange isTableRowConsistent areConsistent checked withEvent eventOwn eventStep closedRows marked clockOwn clockStep keptRows raised forgetOwn forgetStep call
+calls = refl
+
+-- Trees of the five rows: chart, watch, row and output lent; the number, the length and the output after it.
+pub record Written : Type 0 where
+  pub number : ℕ
+  pub length : ℕ
+  pub out : List ℕ
+
+abbrev written : ℕ → ℕ → String → Written
+written n l s = record { number = n; length = l; out = bytes s }
+
+abbrev pub ofTree : TreeStep → Written
+ofTree s = record { number = s .answer .refusal; length = s .answer .length; out = s .out }
+
+pub record Tree : Type 0 where
+  pub chart : Chart
+  pub watch : Watch
+  pub row : ℕ
+  pub out : List ℕ
+  pub expected : Written
+
+abbrev tree : Chart → Watch → ℕ → String → Written → Tree
+tree chart w i out expected = record { chart = chart; watch = w; row = i; out = bytes out; expected = expected }
+
+pub treeCases : List Tree
+treeCases =
+    -- "A tree is written `e` and serial for an event; `<L,R>` for two"; "Its length is handed back and the output past it stays."
+    tree inSequence (five (pos 0) 5) 0 "....." (written 0 2 "e1...") ∷
+    tree inSequence (five (pos 0) 5) 4 "........." (written 0 7 "<e2,e3>..") ∷
+    tree inSequence (five (pos 0) 5) 4 "......." (written 0 7 "<e2,e3>") ∷
+    -- "a refused tree returns the number and length 0"; "After a refusal all lent memory holds what it held before."
+    tree inSequence (five (pos 0) 5) 4 "......" (written 16 0 "......") ∷
+    tree inSequence (five (pos 0) 5) 5 "........." (written 15 0 ".........") ∷
+    -- "14, 13, then their own: ... 15 before 16"
+    tree inSequence (five (pos 0) 5) 5 "" (written 15 0 "") ∷
+    tree inSequence (five (pos 7) 5) 5 "" (written 13 0 "") ∷
+    tree noEntry (five (pos 7) 5) 5 "" (written 14 0 "") ∷ []
+
+pub trees : map (λ (c : Tree). ofTree (treeStep (c .chart) (c .watch) (table fiveRows) (c .row) (c .out))) treeCases ≡ map (λ (c : Tree). c .expected) treeCases
+unfolding treeCases isInstant isRelated split lines bytes tabbed unended text isDigit allDigits valueFrom hasLeadingZero isNumber numberOf withoutMinus withMinus instantOf digitsWithin spelledNumber spelled words sameBytes placeOf operatorOf kindOf inRange areLower withCode eventLine withOperands secondOperand operandsLine byOperator operatorLine numbered parsedLine checkedEntry checkedLine answerTo noEntries withEntry refusedChart readLines orNoLine readChart entryFits allBelow isUsable capacity rowsIn areZeros operatorBy operatorsOf isWatchInRange isTableRowConsistent areConsistent arityOf rowBytes referenceBytes treeWithin treeBytes checkNumber treeOwn treeStep
+trees = refl
+
+-- Reads of the five rows: chart, watch and end; the first row of the part, how many rows it has, and the part.
+pub record Found : Type 0 where
+  pub rows : Part
+  pub part : List ℤ
+
+abbrev found : ℕ → ℕ → List String → Found
+found first count rs = record { rows = record { first = first; count = count }; part = table rs }
+
+pub record Read : Type 0 where
+  pub chart : Chart
+  pub watch : Watch
+  pub end : ℤ
+  pub expected : Found
+
+abbrev reads : Chart → Watch → ℤ → Found → Read
+reads chart w e expected = record { chart = chart; watch = w; end = e; expected = expected }
+
+pub readCases : List Read
+readCases =
+    -- "The rows with a given end are handed back as that part of the caller's table; it may be empty."
+    reads inSequence (five (pos 0) 5) (pos 1) (found 0 1 ("0 1 -1 1 1" ∷ [])) ∷
+    reads inSequence (five (pos 0) 5) (pos 5) (found 2 3 ("1 3 -1 5 5" ∷ "2 0 2 1 5" ∷ "2 1 2 3 5" ∷ [])) ∷
+    reads inSequence (five (pos 0) 5) (pos 4) (found 2 0 []) ∷
+    reads inSequence (five (pos 0) 5) (pos 6) (found 5 0 []) ∷
+    -- "A refused read returns an empty part"
+    reads inSequence (five (pos 7) 5) (pos 5) (found 0 0 []) ∷
+    reads noEntry (five (pos 0) 5) (pos 5) (found 0 0 []) ∷ []
+
+pub parts : map (λ (c : Read). record { rows = endRows (c .chart) (c .watch) (table fiveRows) (c .end); part = endPart (c .chart) (c .watch) (table fiveRows) (c .end) }) readCases ≡ map (λ (c : Read). c .expected) readCases
+unfolding readCases isInstant isRelated split lines bytes tabbed unended text isDigit allDigits valueFrom hasLeadingZero isNumber numberOf withoutMinus withMinus instantOf words sameBytes placeOf operatorOf kindOf inRange areLower withCode eventLine withOperands secondOperand operandsLine byOperator operatorLine numbered parsedLine checkedEntry checkedLine answerTo noEntries withEntry refusedChart readLines orNoLine readChart entryFits allBelow isUsable capacity rowsIn areZeros operatorBy operatorsOf isWatchInRange isTableRowConsistent areConsistent checkNumber endPart endRows
+parts = refl

@@ -1,0 +1,73 @@
+-- Laws of the calls on a watch and of histories that other crates go by.
+use Prim.Native.Nat.{ℕ, _*_}
+use native.Mathlib.Omega.{arith}
+use mathlib.Core.Path.{_≡_, refl, ap}
+use mathlib.Core.Bool.{Bool, true, false, cond}
+use mathlib.Core.List.{List, [], _∷_, _++_}
+use lib.IntN.{ℤ, pos}
+use lib.ListN.{length}
+use Rattle.interval.specs.Instants.{isInstant}
+use Rattle.chart.specs.Charts.{isUsable}
+use Rattle.chart.specs.declared.Chart.{Chart}
+use Rattle.model.specs.Reference.{Call, event, clock, forget}
+use Rattle.model.proofs.Capacity.{capacity-fits}
+use Rattle.table.specs.Table.{zeroed}
+use Rattle.table.proofs.Laws.{length-zeroed}
+use Rattle.watch.specs.Steps.{refusedStep, takenStep, emptyWatch, roomIn, openingStep, checkNumber, eventOwn, eventStep, clockOwn, clockStep, forgetOwn, forgetStep}
+use Rattle.watch.specs.Histories.{State, state, call, after, answers}
+use Rattle.watch.specs.declared.Watch.{Watch}
+use Rattle.watch.proofs.Calls.{check-passed}
+
+module _ (chart : Chart) (s : State) where
+  -- which step a call is
+  pub event-call : (k : ℕ) → call chart s (event k) ≡ eventStep chart (s .watch) (s .table) k
+  unfolding call
+  event-call k = refl
+
+  pub clock-call : (x : ℤ) → call chart s (clock x) ≡ clockStep chart (s .watch) (s .table) x
+  unfolding call
+  clock-call x = refl
+
+  pub forget-call : (f : ℤ) → call chart s (forget f) ≡ forgetStep chart (s .watch) (s .table) f
+  unfolding call
+  forget-call f = refl
+
+  pub after-none : after chart s [] ≡ s
+  unfolding after
+  after-none = refl
+
+-- one call more at the end of a history
+module _ (chart : Chart) where
+  pub after-more : (s : State) (cs : List Call) (c : Call) → after chart s (cs ++ c ∷ []) ≡ state (call chart (after chart s cs) c)
+  unfolding after
+  after-more s [] c = refl
+  after-more s (d ∷ cs) c = after-more (state (call chart s d)) cs c
+
+  pub answers-more : (s : State) (cs : List Call) (c : Call) → answers chart s (cs ++ c ∷ []) ≡ answers chart s cs ++ (call chart (after chart s cs) c) .answer .refusal ∷ []
+  unfolding answers after
+  answers-more s [] c = refl
+  answers-more s (d ∷ cs) c = ap (_∷_ ((call chart s d) .answer .refusal)) (answers-more (state (call chart s d)) cs c)
+
+-- the calls on a consistent watch and table
+module _ (chart : Chart) (w : Watch) (t : List ℤ) (z : checkNumber chart w t ≡ 0) where
+  pub event-passed : (k : ℕ) → eventStep chart w t k ≡ record { answer = eventOwn w k; table = t }
+  unfolding eventStep
+  event-passed k = check-passed chart w t (record { answer = eventOwn w k; table = t }) z
+
+  pub clock-passed : (x : ℤ) → clockStep chart w t x ≡ clockOwn chart w t x
+  unfolding clockStep
+  clock-passed x = check-passed chart w t (clockOwn chart w t x) z
+
+  pub forget-passed : (f : ℤ) → forgetStep chart w t f ≡ forgetOwn chart w t f
+  unfolding forgetStep
+  forget-passed f = check-passed chart w t (forgetOwn chart w t f) z
+
+-- an opening keeps the length of the table
+pub opening-length : (chart : Chart) (t : List ℤ) (o : ℤ) → length ((openingStep chart t o) .table) ≡ length t
+unfolding openingStep
+opening-length chart t o = go (isUsable chart) (isInstant o)
+  where
+    go : (a b : Bool) → length ((cond a (cond b (takenStep (emptyWatch o) (zeroed 0 (roomIn t * 5) t)) (refusedStep 8 (emptyWatch (pos 0)) t)) (refusedStep 14 (emptyWatch (pos 0)) t)) .table) ≡ length t
+    go true true = length-zeroed 0 (roomIn t * 5) t (omega arith) (omega (arith, capacity-fits (length t)))
+    go true false = refl
+    go false b = refl

@@ -1,0 +1,171 @@
+/*
+ * Measures the stack that each call of include/chronicle.h uses, and fails where one uses more than CHRONICLE_STACK.
+ *
+ * Each call is made in a thread of its own, whose stack is painted before: what is no longer painted afterwards was
+ * used. What a thread uses for itself is measured by one that makes no call, and taken off. The calls are made where they
+ * reach deepest: on charts that nest all 32 entries, by operators of every form.
+ */
+#define _POSIX_C_SOURCE 200809L
+#include "chronicle.h"
+
+#include <pthread.h>
+#include <stdio.h>
+#include <stdlib.h>
+#include <string.h>
+
+enum {
+    PAINTED = 1 << 20,
+    PAINT = 0xa5,
+    ROWS = 3000,
+    NUMBERS = 5 * ROWS,
+    OUTPUT = 40 + 81 * ROWS,
+    TREE = 4000,
+    ENTRIES = 32
+};
+
+/* What the calls are made on; the answers go here too, so that no answer takes room on the painted stack. */
+static struct subject {
+    uint8_t text[ENTRIES * 64 + 4096];
+    size_t text_length;
+    size_t chart_length;
+    struct chronicle_chart chart;
+    struct chronicle_watch watch;
+    int32_t table[NUMBERS];
+    uint8_t out[OUTPUT];
+    struct chronicle_verdict verdict;
+    struct chronicle_chart_answer read;
+    struct chronicle_answer answer;
+    struct chronicle_rows rows;
+    struct chronicle_tree_answer tree;
+    size_t listed;
+    uint32_t refusal;
+} s;
+
+static void no_call(void) {}
+static void check_chart(void) { s.verdict = chronicle_check_chart(s.text, s.chart_length); }
+static void read_chart(void) { s.read = chronicle_read_chart(s.text, s.chart_length); }
+static void open_watch(void) { s.answer = chronicle_open(s.chart, s.table, NUMBERS, 0); }
+static void event(void) { s.answer = chronicle_event(s.watch, s.chart, s.table, NUMBERS, 1); }
+static void mark(void) { s.answer = chronicle_clock(s.watch, s.chart, s.table, NUMBERS, s.watch.instant + 1); }
+static void forget(void) { s.answer = chronicle_forget(s.watch, s.chart, s.table, NUMBERS, s.watch.instant - 1); }
+static void check(void) { s.refusal = chronicle_check(s.watch, s.chart, s.table, NUMBERS); }
+static void rows_ending(void) { s.rows = chronicle_rows_ending(s.watch, s.chart, s.table, NUMBERS, 0); }
+static void tree(void) { s.tree = chronicle_tree(s.watch, s.chart, s.table, NUMBERS, s.watch.rows - 1, s.out, TREE); }
+static void list(void) { s.listed = chronicle_list(s.text, s.text_length, s.table, NUMBERS, s.out, OUTPUT); }
+
+static void fail(const char *what)
+{
+    fprintf(stderr, "stack: %s\n", what);
+    exit(1);
+}
+
+static void *run(void *call)
+{
+    (*(void (**)(void))call)();
+    return NULL;
+}
+
+/* How many bytes of a painted stack a thread uses that makes this call. */
+static size_t used_by(void (*call)(void))
+{
+    static _Alignas(4096) uint8_t stack[PAINTED];
+    memset(stack, PAINT, PAINTED);
+    pthread_attr_t attributes;
+    pthread_t thread;
+    if (pthread_attr_init(&attributes) != 0 || pthread_attr_setstack(&attributes, stack, PAINTED) != 0 ||
+        pthread_create(&thread, &attributes, run, &call) != 0 || pthread_join(thread, NULL) != 0)
+        fail("no thread");
+    pthread_attr_destroy(&attributes);
+    size_t unused = 0;
+    while (unused < PAINTED && stack[unused] == PAINT)
+        unused++;
+    return PAINTED - unused;
+}
+
+static void add_line(const char *line)
+{
+    size_t n = strlen(line);
+    if (s.text_length + n > sizeof s.text)
+        fail("the text is too long");
+    memcpy(s.text + s.text_length, line, n);
+    s.text_length += n;
+}
+
+/* Two events, and behind them entries of one operator, each over the one before it; a log of as many events. */
+static void write_input(const char *word, const char *second)
+{
+    char line[64];
+    s.text_length = 0;
+    add_line("0\tevent\t1\n1\tevent\t2\n");
+    for (int i = 2; i < ENTRIES; i++) {
+        snprintf(line, sizeof line, "%d\t%s\t%d\t%s\n", i, word, i == 2 ? 0 : i - 1, second);
+        add_line(line);
+    }
+    s.chart_length = s.text_length;
+    add_line("\nopen\t0\nevent\t1\nevent\t1\nclock\t1\nforget\t0\nevent\t1\nclock\t2\n");
+}
+
+/* Plays an event of code 1 at each instant until so many rows are in use. */
+static void fill(size_t rows)
+{
+    s.read = chronicle_read_chart(s.text, s.chart_length);
+    s.chart = s.read.chart;
+    s.answer = chronicle_open(s.chart, s.table, NUMBERS, 0);
+    while (s.answer.refusal == 0 && s.answer.watch.rows < rows) {
+        s.answer = chronicle_event(s.answer.watch, s.chart, s.table, NUMBERS, 1);
+        if (s.answer.refusal == 0)
+            s.answer = chronicle_clock(s.answer.watch, s.chart, s.table, NUMBERS, s.answer.watch.instant + 1);
+    }
+    if (s.read.refusal != 0 || s.answer.refusal != 0)
+        fail("the table could not be filled");
+    s.watch = s.answer.watch;
+}
+
+static struct call {
+    const char *name;
+    void (*make)(void);
+    size_t most;
+} calls[] = {
+    {"chronicle_check_chart", check_chart, 0}, {"chronicle_read_chart", read_chart, 0},
+    {"chronicle_check", check, 0},             {"chronicle_rows_ending", rows_ending, 0},
+    {"chronicle_tree", tree, 0},               {"chronicle_event", event, 0},
+    {"chronicle_clock", mark, 0},              {"chronicle_forget", forget, 0},
+    {"chronicle_open", open_watch, 0},         {"chronicle_list", list, 0},
+};
+
+/* Makes every call on the chart and the rows there are, in an order in which each finds what it needs. */
+static void measure(size_t of_thread)
+{
+    for (size_t i = 0; i < sizeof calls / sizeof *calls; i++) {
+        size_t used = used_by(calls[i].make) - of_thread;
+        if (used > calls[i].most)
+            calls[i].most = used;
+        if (calls[i].make == event)
+            s.watch = s.answer.watch;
+    }
+    if (s.verdict.refusal != 0 || s.refusal != 0 || s.tree.refusal != 0 || s.tree.length == 0 || s.listed == 0)
+        fail("a call was refused");
+}
+
+int main(void)
+{
+    static const struct {
+        const char *word, *second;
+    } charts[] = {{"lasts", "0"}, {"-[]", "1"}, {"equals", "0"}, {"or", "1"}, {"and", "1"}, {"seq", "1"}};
+    static const size_t rows[] = {1, 2000};
+    used_by(no_call);
+    size_t of_thread = used_by(no_call);
+    for (size_t i = 0; i < sizeof charts / sizeof *charts; i++)
+        for (size_t j = 0; j < sizeof rows / sizeof *rows; j++) {
+            write_input(charts[i].word, charts[i].second);
+            fill(rows[j]);
+            measure(of_thread);
+        }
+    int is_enough = 1;
+    for (size_t i = 0; i < sizeof calls / sizeof *calls; i++) {
+        printf("%-22s %6zu bytes of stack\n", calls[i].name, calls[i].most);
+        is_enough &= calls[i].most <= CHRONICLE_STACK;
+    }
+    printf("a thread itself: %zu; the header says: %d\n", of_thread, CHRONICLE_STACK);
+    return is_enough ? 0 : 1;
+}

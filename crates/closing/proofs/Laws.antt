@@ -89,10 +89,10 @@ module _ (a : ℤ) (i n : ℕ) (t : List ℤ) where
   pub next-none : i ≤ n → NextOf a i n t i
   next-none h = record { least = omega arith; most = h; none = λ j p q. absurd (omega arith) }
 
-  pub next-one : (r : ℕ) → NextOf a i n t r → r < n → eqZ (cell t r 0) a ≡ false → NextOf a i n t (r + 1)
-  next-one r f h e = record { least = omega (arith, f .least); most = omega arith; none = λ j p q. go j p q (ℕ-discrete j r) }
+  pub next-one : (r k : ℕ) → NextOf a i n t r → r < n → k ≡ r + 1 → eqZ (cell t r 0) a ≡ false → NextOf a i n t k
+  next-one r k f h s e = record { least = omega (arith, f .least); most = omega arith; none = λ j p q. go j p q (ℕ-discrete j r) }
     where
-      go : (j : ℕ) → i ≤ j → j < r + 1 → Dec (j ≡ r) → eqZ (cell t j 0) a ≡ false
+      go : (j : ℕ) → i ≤ j → j < k → Dec (j ≡ r) → eqZ (cell t j 0) a ≡ false
       go j p q (yes d) = rw d e
       go j p q (no d) = f .none j p (omega arith)
 

@@ -399,17 +399,44 @@ fn left_from(t: &[i32], m: usize, n: usize, c: Relation, b: i32) -> usize
     n
 }
 
-// The next row of entry a from row i on, or n. One look at each row up to it.
+// The next row of entry a from row i on, or n. One look at each row up to it. Mostly there is no row to look at.
 fn next_of(t: &[i32], i: usize, n: usize, a: i32) -> usize
     requires { ⌜ (i ≤ n) × (n ≤ 65535) × (n * 5 ≤ length (now t)) ⌝ }
     ensures { λ r. ⌜ NextOf a i n (now (t .entry)) r ⌝ }
 {
-    let mut r = i;
+    if n <= i {
+        return i;
+    }
+    let mut r = pass_fours(t, i, n, a);
     while r < n {
         if is_of(t, r, a) {
             return r;
         }
         r += 1;
+    }
+    r
+}
+
+// The same search, four rows to a turn, which spares the steps of the loop; where none is found, up to three rows are left.
+fn pass_fours(t: &[i32], i: usize, n: usize, a: i32) -> usize
+    requires { ⌜ (i ≤ n) × (n ≤ 65535) × (n * 5 ≤ length (now t)) ⌝ }
+    ensures { λ r. ⌜ NextOf a i n (now (t .entry)) r ⌝ }
+{
+    let mut r = i;
+    while r + 4 <= n {
+        if is_of(t, r, a) {
+            return r;
+        }
+        if is_of(t, r + 1, a) {
+            return r + 1;
+        }
+        if is_of(t, r + 2, a) {
+            return r + 2;
+        }
+        if is_of(t, r + 3, a) {
+            return r + 3;
+        }
+        r += 4;
     }
     r
 }

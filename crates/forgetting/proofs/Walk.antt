@@ -4,18 +4,19 @@ use native.Mathlib.Omega.{arith}
 use native.Mathlib.Decide.{ℕ-discrete}
 use native.Mathlib.Numerals.{add-one}
 use mathlib.Core.Path.{_≡_, refl, sym, ap, _∙_}
-use mathlib.Core.Bool.{Bool, true, false, cond}
+use mathlib.Core.Bool.{Bool, true, false}
 use mathlib.Core.List.{List, [], _∷_, _++_, map, map-append}
 use lib.IntN.{ℤ, pos, natAbs}
 use lib.ListN.{length, getD, take, drop, set, length-map, length-set}
 use lib.Seq.{take-all, getD-set-same, getD-drop, drop-drop, drop-set-lt}
-use lib.Signed.{leZ}
+use lib.Signed.{ltZ, leZ}
+use Rattle.interval.proofs.Signed.{signed}
 use Rattle.model.specs.Lists.{keep}
 use Rattle.model.specs.Order.{Row, row}
 use Rattle.model.specs.RowSteps.{rowAt, isLate, moved}
 use Rattle.table.specs.Table.{cell, tableRow, rowsIn, putRow}
 use Rattle.table.proofs.Rows.{rows-none, rows-snoc, length-rows, row-at, length-put, rows-put, drop-put}
-use Rattle.forgetting.specs.Walk.{eventIn, entryCell, shiftAt, placeAt, plain, plainRows, marked, withReferences, movedRow, keptAfter, afterRow, keptBy, RowReady, RowsReady, AllLate, Markable, HasMark, Movable, Restorable, Sifted}
+use Rattle.forgetting.specs.Walk.{eventIn, entryCell, shiftAt, placeAt, plain, plainRows, marked, withReferences, movedRow, keptBy, RowReady, RowsReady, AllLate, Markable, HasMark, Movable, Restorable, Sifted}
 use Rattle.forgetting.proofs.References.{references-same, references-id}
 use Rattle.forgetting.proofs.Places.{keep-pass, keep-fail, placed-pass, placed-fail, placed-le, placed-grows, placed-still}
 use Rattle.forgetting.proofs.Marks.{low-of, shift-of, plain-low, plain-references, pos-above, entry-cell, set-own, set-entry, set-rows, put-shift, put-above}
@@ -90,7 +91,7 @@ module _ (events : List Bool) (f : ℤ) (rows : ℕ) (t₀ : List ℤ) (ok : Row
   walk-holds zero h late = record { count = refl; size = refl; done = ap (map plain) (rows-none t₀); behind = refl; above = λ j g. absurd (omega arith); shift = λ j g. absurd (omega arith) }
   walk-holds (suc n) h late = rw (add-one n) at (walk-still n (omega arith) (walk-holds n (omega arith) (λ j g. late j (omega arith))) (late n (omega arith)))
 
-  module _ (i p : ℕ) (t : List ℤ) (w : Walked events f rows t₀ i p t) (h : i < rows) where
+  module _ (i p m : ℕ) (t : List ℤ) (w : Walked events f rows t₀ i p t) (sum : p * 32 + m ≡ i * 32) (h : i < rows) where
     -- row i is as it was
     cells : (k : ℕ) → cell t i k ≡ cell t₀ i k
     cells k = sym (getD-drop (i * 5) t k (pos 0)) ∙ ap (λ l. getD l k (pos 0)) (w .behind) ∙ getD-drop (i * 5) t₀ k (pos 0)
@@ -99,23 +100,23 @@ module _ (events : List Bool) (f : ℤ) (rows : ℕ) (t₀ : List ℤ) (ok : Row
     head = sym (entry-cell t i) ∙ cells 0
 
     walk-low : p ≤ i
-    walk-low = omega (arith, w .count, placed-le (isLate f) (rowsIn rows t₀) i)
+    walk-low = omega arith
 
-    pub walk-marks : Markable i p t
+    pub walk-marks : Markable i m t
     walk-marks = record {
       few = omega (arith, ok .few);
       fit = omega (arith, ok .fit, w .size);
-      lower = walk-low;
+      most = omega arith;
       above = rw head (ok .each i h .above);
       below = rw head (ok .each i h .below);
     }
 
     -- the mark, and the table with it
     abbrev mark : ℤ
-    mark = pos (natAbs (entryCell t i) + (i - p) * 32)
+    mark = pos (natAbs (entryCell t i) + m)
 
     abbrev after : List ℤ
-    after = marked i p t
+    after = marked i m t
 
     own-mark : entryCell after i ≡ mark
     own-mark = getD-set-same t (i * 5) mark (pos 0) (omega (arith, ok .fit, w .size))
@@ -130,18 +131,18 @@ module _ (events : List Bool) (f : ℤ) (rows : ℕ) (t₀ : List ℤ) (ok : Row
     above-all j l = go (ℕ-discrete j i)
       where
         go : Dec (j ≡ i) → leZ (pos 0) (entryCell after j) ≡ true
-        go (yes q) = rw (q, own-mark) (pos-above (natAbs (entryCell t i) + (i - p) * 32))
+        go (yes q) = rw (q, own-mark) (pos-above (natAbs (entryCell t i) + m))
         go (no d) = rw (set-entry t i mark j d) (w .above j (omega arith))
 
     shift-all : (j : ℕ) → j < i + 1 → shiftAt after j + moved f (rowsIn rows t₀) j ≡ j
     shift-all j l = go (ℕ-discrete j i)
       where
         go : Dec (j ≡ i) → shiftAt after j + moved f (rowsIn rows t₀) j ≡ j
-        go (yes q) = rw (q, own-mark, shift-of (natAbs (entryCell t i)) (i - p) small) (omega (arith, w .count, walk-low))
+        go (yes q) = rw (q, own-mark) (omega (arith, w .count, small))
         go (no d) = rw (set-entry t i mark j d) (w .shift j (omega arith))
 
-    pub walk-asks : (e : ℕ) (u : List ℤ) → e ≡ natAbs (entryCell t i) → u ≡ after → Movable events i p e u
-    walk-asks e u x y = rw (x, y) (record {
+    pub walk-asks : (e : ℕ) (event : Bool) (u : List ℤ) → e ≡ natAbs (entryCell t i) → event ≡ eventIn events e → u ≡ after → Movable event i p e u
+    walk-asks e event u x b y = rw (b, x, y) (record {
       few = omega (arith, ok .few);
       fit = omega (arith, ok .fit, w .size, length-set t (i * 5) mark);
       lower = walk-low;
@@ -157,7 +158,7 @@ module _ (events : List Bool) (f : ℤ) (rows : ℕ) (t₀ : List ℤ) (ok : Row
     })
 
     abbrev put : Row
-    put = movedRow events i p (natAbs (entryCell t i)) after
+    put = movedRow (eventIn events (natAbs (entryCell t i))) i p (natAbs (entryCell t i)) after
 
     -- the row as it is written is the one that forgetting asks for, but for the mark
     row-moved : plain put ≡ moves (tableRow t₀ i)
@@ -185,7 +186,7 @@ module _ (events : List Bool) (f : ℤ) (rows : ℕ) (t₀ : List ℤ) (ok : Row
     behind-mark : drop ((i + 1) * 5) after ≡ drop ((i + 1) * 5) t₀
     behind-mark = drop-set-lt ((i + 1) * 5) t (i * 5) mark (omega arith) ∙ drop-more i t t₀ (w .behind)
 
-    -- one row more
+    -- one row more: kept
     walk-late : leZ f (cell after i 3) ≡ true → Walked events f rows t₀ (i + 1) (p + 1) (putRow p put after)
     walk-late q =
         let rs = rowsIn rows t₀ in
@@ -204,6 +205,7 @@ module _ (events : List Bool) (f : ℤ) (rows : ℕ) (t₀ : List ℤ) (ok : Row
           shift = λ j l. rw (put-shift after p put e small put-is room j) (shift-all j l);
         }
 
+    -- or dropped
     walk-early : leZ f (cell after i 3) ≡ false → Walked events f rows t₀ (i + 1) p after
     walk-early q =
         let rs = rowsIn rows t₀ in
@@ -217,12 +219,15 @@ module _ (events : List Bool) (f : ℤ) (rows : ℕ) (t₀ : List ℤ) (ok : Row
           shift = shift-all;
         }
 
-    pub walk-step : (e q : ℕ) (u v : List ℤ) → e ≡ natAbs (entryCell t i) → u ≡ after → q ≡ keptAfter f i p u → v ≡ afterRow events f i p e u → Walked events f rows t₀ (i + 1) q v
-    walk-step e q u v x y a b = rw (a, b, x, y) (go (leZ f (cell after i 3)) refl)
-      where
-        go : (late : Bool) → leZ f (cell after i 3) ≡ late → Walked events f rows t₀ (i + 1) (cond late (p + 1) p) (cond late (putRow p put after) after)
-        go true g = walk-late g
-        go false g = walk-early g
+    pub walk-kept : (e : ℕ) (event : Bool) (u v : List ℤ) → e ≡ natAbs (entryCell t i) → event ≡ eventIn events e → u ≡ after → ltZ (cell u i 3) f ≡ false → v ≡ putRow p (movedRow event i p e u) u → Walked events f rows t₀ (i + 1) (p + 1) v
+    walk-kept e event u v x b y q z =
+        let late : leZ f (cell after i 3) ≡ true = rw (← y) (omega (arith, signed)) in
+        rw (z, b, x, y) (walk-late late)
+
+    pub walk-dropped : (u : List ℤ) → u ≡ after → ltZ (cell u i 3) f ≡ true → Walked events f rows t₀ (i + 1) p u
+    walk-dropped u y q =
+        let early : leZ f (cell after i 3) ≡ false = rw (← y) (omega (arith, signed)) in
+        rw y (walk-early early)
 
   -- past the last row
   module _ (first i p : ℕ) (t : List ℤ) (w : Walked events f rows t₀ i p t) (e : i ≡ rows) (few : first ≤ rows) (late : AllLate f first t₀) where

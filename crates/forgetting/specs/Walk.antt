@@ -40,24 +40,17 @@ plain r = row (r .entry % 32) (r .left) (r .right) (r .start) (r .end)
 abbrev pub plainRows : ℕ → List ℤ → List Row
 plainRows n t = map plain (rowsIn n t)
 
--- the table with the mark of row i, where p rows are kept before it
+-- the table with this mark at row i, beside its entry
 abbrev pub marked : ℕ → ℕ → List ℤ → List ℤ
-marked i p t = set t (i * 5) (pos (natAbs (entryCell t i) + (i - p) * 32))
+marked i m t = set t (i * 5) (pos (natAbs (entryCell t i) + m))
 
 -- a row with its references renumbered by g; the left number of an event's row is a serial
 abbrev pub withReferences : Bool → (ℕ → ℕ) → Row → Row
 withReferences event g r = cond event r (row (r .entry) (renumber g (r .left)) (renumber g (r .right)) (r .start) (r .end))
 
 -- row i, of entry e, as it is written at place p, which keeps its mark
-abbrev pub movedRow : List Bool → ℕ → ℕ → ℕ → List ℤ → Row
-movedRow events i p e t = withReferences (eventIn events e) (placeAt t) (row (e + shiftAt t p * 32) (cell t i 1) (cell t i 2) (cell t i 3) (cell t i 4))
-
--- the table after row i, where p rows are kept before it
-abbrev pub afterRow : List Bool → ℤ → ℕ → ℕ → ℕ → List ℤ → List ℤ
-afterRow events floor i p e t = cond (leZ floor (cell t i 3)) (putRow p (movedRow events i p e t) t) t
-
-abbrev pub keptAfter : ℤ → ℕ → ℕ → List ℤ → ℕ
-keptAfter floor i p t = cond (leZ floor (cell t i 3)) (p + 1) p
+abbrev pub movedRow : Bool → ℕ → ℕ → ℕ → List ℤ → Row
+movedRow event i p e t = withReferences event (placeAt t) (row (e + shiftAt t p * 32) (cell t i 1) (cell t i 2) (cell t i 3) (cell t i 4))
 
 -- the rows kept, entries being told by a test
 unfoldable pub keptBy : (ℕ → Bool) → ℤ → List Row → List Row
@@ -81,10 +74,10 @@ abbrev pub AllLate : ℤ → ℕ → List ℤ → Type 0
 AllLate floor n t = (j : ℕ) → j < n → leZ floor (cell t j 3) ≡ true
 
 -- what marking row i asks
-pub record Markable (i p : ℕ) (t : List ℤ) : Type 0 where
+pub record Markable (i m : ℕ) (t : List ℤ) : Type 0 where
   pub few : i < 65535
   pub fit : i * 5 + 5 ≤ length t
-  pub lower : p ≤ i
+  pub most : m ≤ i * 32
   pub above : leZ (pos 0) (entryCell t i) ≡ true
   pub below : natAbs (entryCell t i) < 32
 
@@ -96,12 +89,12 @@ pub record HasMark (t : List ℤ) (j : ℕ) : Type 0 where
   pub lower : shiftAt t j ≤ j
 
 -- what moving row i, of entry e, to place p asks
-pub record Movable (events : List Bool) (i p e : ℕ) (t : List ℤ) : Type 0 where
+pub record Movable (event : Bool) (i p e : ℕ) (t : List ℤ) : Type 0 where
   pub few : i < 65535
   pub fit : i * 5 + 5 ≤ length t
   pub lower : p ≤ i
   pub small : e < 32
-  pub left : eventIn events e ≡ false → Refers i (cell t i 1)
+  pub left : event ≡ false → Refers i (cell t i 1)
   pub right : Refers i (cell t i 2)
   pub marks : (j : ℕ) → j < i + 1 → HasMark t j
 

@@ -11,7 +11,7 @@ ghost use Rattle.table.specs.Table.{cell, putRow, putRows};
 ghost use Rattle.table.specs.Operators.{entryOperator};
 ghost use Rattle.table.specs.Ready.{Ready};
 ghost use Rattle.forgetting.specs.Forgetting.{keptRows, forgottenTable};
-ghost use Rattle.forgetting.specs.Walk.{eventIn, FlagsOf, entryCell, shiftAt, placeAt, plainRows, marked, movedRow, afterRow, keptAfter, RowsReady, AllLate, Markable, HasMark, Movable, Restorable, Sifted};
+ghost use Rattle.forgetting.specs.Walk.{eventIn, FlagsOf, entryCell, shiftAt, placeAt, plainRows, marked, movedRow, RowsReady, AllLate, Markable, HasMark, Movable, Restorable, Sifted};
 ghost use Rattle.forgetting.specs.Ends.{Ordered, endsBefore, countEnding, endingBefore, endingBy};
 use chart::Chart;
 use chart::Entry;
@@ -88,56 +88,45 @@ fn is_early(table: &[i32], i: usize, floor: i32) -> bool
 }
 
 // The walk: a row's place is how many rows are kept before it. Every row passed is marked with how far it moves, for the references to
-// it. One look at each row from the first on.
+// it: 32 times the rows dropped so far. One look at each row from the first on.
 fn keep_rows(events: [bool; 32], table: &mut [i32], first: usize, rows: usize, floor: i32) -> usize
     requires { ⌜ RowsReady (eventIn events) rows (now table) × (first ≤ rows) × AllLate floor first (now table) ⌝ }
     ensures { λ r. ⌜ Sifted (eventIn events) floor first rows (now (table .entry)) r (now (table .exit)) ⌝ }
 {
-    let mut p = first;
+    let mut kept = first;
+    let mut mark: usize = 0;
     let mut i = first;
     while i < rows {
-        let entry = mark_row(table, i, p);
-        p = keep_row(events, table, i, p, entry, floor);
+        let r = i;
         i += 1;
+        let entry = mark_row(table, r, mark);
+        if is_early(table, r, floor) {
+            mark += 32;
+        } else {
+            let event = events[entry];
+            move_row(table, r, kept, entry, event);
+            kept += 1;
+        }
     }
-    p
+    kept
 }
 
-// Marks row i, with p rows kept before it; returns its entry. Constant cost.
-fn mark_row(table: &mut [i32], i: usize, p: usize) -> usize
-    requires { ⌜ Markable i p (now table) ⌝ }
-    ensures { λ r. ⌜ (r ≡ natAbs (entryCell (now (table .entry)) i)) × (now (table .exit) ≡ marked i p (now (table .entry))) ⌝ }
+// Adds a mark to the entry of row i, which is returned. Constant cost.
+fn mark_row(table: &mut [i32], i: usize, mark: usize) -> usize
+    requires { ⌜ Markable i mark (now table) ⌝ }
+    ensures { λ r. ⌜ (r ≡ natAbs (entryCell (now (table .entry)) i)) × (now (table .exit) ≡ marked i mark (now (table .entry))) ⌝ }
 {
     let at = i * 5;
     let entry = table[at] as usize;
-    table[at] = (entry + (i - p) * 32) as i32;
+    table[at] = (entry + mark) as i32;
     entry
 }
 
-// Keeps or drops row i, of this entry, with p rows kept before it; returns how many are kept then. Constant cost.
-fn keep_row(
-    events: [bool; 32],
-    table: &mut [i32],
-    i: usize,
-    p: usize,
-    entry: usize,
-    floor: i32,
-) -> usize
-    requires { ⌜ Movable events i p entry (now table) ⌝ }
-    ensures { λ r. ⌜ (r ≡ keptAfter floor i p (now (table .entry))) × (now (table .exit) ≡ afterRow events floor i p entry (now (table .entry))) ⌝ }
-{
-    if is_early(table, i, floor) {
-        return p;
-    }
-    move_row(events, table, i, p, entry);
-    p + 1
-}
-
-// Writes row i, with its references renumbered, at place p, which keeps its mark. The left number of an event's row is a serial and
-// stays. Constant cost.
-fn move_row(events: [bool; 32], table: &mut [i32], i: usize, p: usize, entry: usize)
-    requires { ⌜ Movable events i p entry (now table) ⌝ }
-    ensures { λ _. ⌜ now (table .exit) ≡ putRow p (movedRow events i p entry (now (table .entry))) (now (table .entry)) ⌝ }
+// Writes row i, of this entry, with its references renumbered, at place p, which keeps its mark. The left number of an event's row is a
+// serial and stays. Constant cost.
+fn move_row(table: &mut [i32], i: usize, p: usize, entry: usize, event: bool)
+    requires { ⌜ Movable event i p entry (now table) ⌝ }
+    ensures { λ _. ⌜ now (table .exit) ≡ putRow p (movedRow event i p entry (now (table .entry))) (now (table .entry)) ⌝ }
 {
     let at = i * 5;
     let left = table[at + 1];
@@ -145,7 +134,7 @@ fn move_row(events: [bool; 32], table: &mut [i32], i: usize, p: usize, entry: us
     let start = table[at + 3];
     let end = table[at + 4];
     let e = entry + shift_at(table, p) * 32;
-    if events[entry] {
+    if event {
         table::put_row(table, p, e, left, right, start, end);
         return;
     }

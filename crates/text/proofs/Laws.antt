@@ -21,6 +21,10 @@ pub index-on : (x : ℕ) (s : List ℕ) (i : ℕ) → i < length s → (getD s i
 unfolding indexOf
 index-on x s i h e = rw (drop-cons s i 0 h, ne-eqb _ _ e, add-one)
 
+-- what was passed and what is left make the whole, also one byte on
+pub index-step : (x : ℕ) (s : List ℕ) (i k : ℕ) → i + indexOf x (drop i s) ≡ indexOf x s → k ≡ i + 1 → i < length s → (getD s i 0 ≡ x → ⊥) → k + indexOf x (drop k s) ≡ indexOf x s
+index-step x s i k p q h e = rw q (omega (arith, index-on x s i h e))
+
 pub index-none : (x : ℕ) (s : List ℕ) (i : ℕ) → length s ≤ i → indexOf x (drop i s) ≡ 0
 unfolding indexOf
 index-none x s i h = rw (drop-of-length-le s h)

@@ -1,5 +1,5 @@
 -- `mark_row` meets its contract: the mark stands beside the entry.
-use Prim.Native.Nat.{_+_, _*_, _-_}
+use Prim.Native.Nat.{_+_, _*_}
 use mathlib.Core.Path.{refl}
 use native.Mathlib.Omega.{arith}
 use lib.IntN.{natAbs}
@@ -28,20 +28,14 @@ slice-copy-out-entry c = search needs
 cast-entry : tie.Need-cast-entry
 cast-entry c = rw (same32 _ (fit c)) (cast-up _ (fit c) (c .before .pre .above))
 
-sub-table : tie.Need-sub-table
-sub-table c = search needs
-
-mul-table : tie.Need-mul-table
-mul-table c = search needs
-
 add-table : tie.Need-add-table
 add-table c = let s = c .before in rw (same32 _ (fit c)) (omega (arith, s .pre .below))
 
 cast-table : tie.Need-cast-table
 cast-table c = let s = c .before in rw (same32 _ (fit c)) (omega (arith, s .pre .below))
 
-mul-t11 : tie.Need-mul-t11
-mul-t11 c = search needs
+mul-t9 : tie.Need-mul-t9
+mul-t9 c = search needs
 
 slice-set-from-table : tie.Need-slice-set-from-table
 slice-set-from-table c = search needs
@@ -53,7 +47,7 @@ returns : tie.Need-returns
 returns c = let s = c .before in
     let t = s .args .table .now in
     let i = s .args .i in
-    simp (same32, fit c, toZ-pos w32 (natAbs (entryCell t i) + (i - s .args .p) * 32) (omega (arith, s .pre .below))) (refl, refl)
+    simp (same32, fit c, toZ-pos w32 (natAbs (entryCell t i) + s .args .mark) (omega (arith, s .pre .below))) (refl, refl)
 
 pub mark-row-spec : {M : Type 1} → statement M
 mark-row-spec =
@@ -63,11 +57,9 @@ mark-row-spec =
     mul-entry
     slice-copy-out-entry
     cast-entry
-    sub-table
-    mul-table
     add-table
     cast-table
-    mul-t11
+    mul-t9
     slice-set-from-table
     same-length
     returns)

@@ -95,9 +95,6 @@ mul-e c = omega (arith, room c .2)
 add-e : tie.Need-add-e
 add-e c = omega (arith, room c .2)
 
-array-read-if1 : tie.Need-array-read-if1
-array-read-if1 c = search needs
-
 put-row-requires : tie.Need-put-row-requires
 put-row-requires c κs = room (c .before .before)
 
@@ -110,7 +107,7 @@ returns c =
     let s = h .before .before .before .before .before .before in
     let r = read (h .before .before) in
     let put = simp (same32, r .left, r .right, r .start, r .end, h .shift-at .ensures) at (c .before .put-row .ensures) in
-    put ∙ ap (λ x. putRow (s .args .p) x (s .args .table .now)) (moved-event (s .args .t1) (s .args .i) (s .args .p) (s .args .entry) (s .args .table .now) (c .before .before .before .if1 .taken))
+    put ∙ ap (λ x. putRow (s .args .p) x (s .args .table .now)) (moved-event (s .args .event) (s .args .i) (s .args .p) (s .args .entry) (s .args .table .now) (c .before .before .before .if1 .taken))
 
 place-of-requires : tie.Need-place-of-requires
 place-of-requires c κs =
@@ -143,7 +140,7 @@ returns-2 c =
     let put = simp (same32, fa, fb, r .start, r .end, h .shift-at .ensures) at (c .before .put-row2 .ensures) in
     let left = simp (same32, r .left) at (x .place-of .ensures) in
     let right = simp (same32, r .right) at (y .place-of2 .ensures) in
-    put ∙ ap (λ q. putRow (s .args .p) q (s .args .table .now)) (moved-other (s .args .t1) (s .args .i) (s .args .p) (s .args .entry) (s .args .table .now) (x .place-of .result) (y .place-of2 .result) (e .if1 .left) left right)
+    put ∙ ap (λ q. putRow (s .args .p) q (s .args .table .now)) (moved-other (s .args .event) (s .args .i) (s .args .p) (s .args .entry) (s .args .table .now) (x .place-of .result) (y .place-of2 .result) (e .if1 .left) left right)
 
 pub move-row-spec : {M : Type 1} → statement M
 move-row-spec =
@@ -165,7 +162,6 @@ move-row-spec =
     shift-at-requires
     mul-e
     add-e
-    array-read-if1
     put-row-requires
     same-length
     returns

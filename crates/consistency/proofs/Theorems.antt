@@ -116,11 +116,11 @@ pub record Consistent (chart : Chart) (instant floor : ℤ) (events rows pending
 pub consistent-ready : (chart : Chart) (instant floor : ℤ) (events rows pending : ℕ) (t : List ℤ) → isUsable chart ≡ true → areConsistent chart instant floor events rows pending t ≡ true → Consistent chart instant floor events rows pending t
 unfolding areConsistent isWatchInRange
 consistent-ready chart instant floor events rows pending t u e =
-    let q = all4 (isWatchInRange instant floor events pending) (leb rows (capacity (length t))) (allBelow rows (test chart instant floor events rows t)) (areZeros (rows * 5) (capacity (length t) * 5) t) e in
+    let q = all4 (isWatchInRange instant floor events pending) (leb rows (capacity (length t))) (areZeros (rows * 5) (capacity (length t) * 5) t) (allBelow rows (test chart instant floor events rows t)) e in
     let w = all6 (isInstant instant) (isInstant floor) (leZ floor instant) (leb pending 64) (leb pending events) (leb events 1000000) (q .0) in
     record {
-      ready = ready-from chart instant floor events rows t (q .2) u (leb-true rows (capacity (length t)) (q .1)) (q .3);
-      ended = λ i h. (told chart instant floor events rows t (q .2) i h) .ended;
+      ready = ready-from chart instant floor events rows t (q .3) u (leb-true rows (capacity (length t)) (q .1)) (q .2);
+      ended = λ i h. (told chart instant floor events rows t (q .3) i h) .ended;
       openRange = w .0;
       floorRange = w .1;
       floorLow = w .2;

@@ -29,5 +29,5 @@ unfoldable pub areConsistent : Chart → ℤ → ℤ → ℕ → ℕ → ℕ →
 areConsistent chart instant floor events rows pending t =
     isWatchInRange instant floor events pending
     && (leb rows (capacity (length t))
-    && (allBelow rows (isTableRowConsistent chart instant floor events rows t)
-    && areZeros (rows * 5) (capacity (length t) * 5) t))
+    && (areZeros (rows * 5) (capacity (length t) * 5) t
+    && allBelow rows (isTableRowConsistent chart instant floor events rows t)))

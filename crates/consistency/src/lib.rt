@@ -37,8 +37,8 @@ pub fn is_consistent(
     if room < rows {
         return false;
     }
-    are_rows_consistent(chart, instant, floor, events, rows, table)
-        && table::are_zeros(table, rows * 5, room * 5)
+    table::are_zeros(table, rows * 5, room * 5)
+        && are_rows_consistent(chart, instant, floor, events, rows, table)
 }
 
 // Whether the watch's own numbers are as they should be.

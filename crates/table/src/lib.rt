@@ -62,17 +62,20 @@ pub fn zero_part(t: &mut [i32], a: usize, e: usize)
     }
 }
 
-// Whether all numbers from index a to before index e are zeros.
+// Whether all numbers from index a to before index e are zeros. One look at each of them, also behind one that is not zero: such a loop
+// is compiled to one that takes several numbers in a step.
 pub fn are_zeros(t: &[i32], a: usize, e: usize) -> bool
     requires { ⌜ (a ≤ e) × (e ≤ length (now t)) ⌝ }
     ensures { λ r. ⌜ r ≡ areZeros a e (now (t .entry)) ⌝ }
 {
+    let mut zeros = true;
     let mut i = a;
     while i < e {
-        if t[i] != 0 {
-            return false;
-        }
+        let at = i;
         i += 1;
+        if t[at] != 0 {
+            zeros = false;
+        }
     }
-    true
+    zeros
 }

@@ -7,10 +7,10 @@ use borrow.Author.Needs.{needs}
 use borrow.Author.Tests.{le-leb, lt-leb, not-true, not-false}
 use lib.ListN.{length}
 use Rattle.interval.proofs.Machine.{same32}
-use Rattle.chart.specs.Charts.{allBelow}
 use Rattle.model.specs.Capacity.{capacity}
 use Rattle.model.proofs.Capacity.{capacity-fits}
-use Rattle.consistency.specs.Consistency.{isWatchInRange, isTableRowConsistent, areConsistent}
+use Rattle.table.specs.Table.{areZeros}
+use Rattle.consistency.specs.Consistency.{isWatchInRange, areConsistent}
 use Rattle.consistency.proofs.is_consistent.Statement.{statement}
 use Rattle.consistency.proofs.is_consistent.Tie as tie
 
@@ -25,11 +25,6 @@ fits c = omega (arith, c .before .rows-that-fit .ensures, c .if2 .left)
 
 room : (c : tie.After-rows-that-fit) → c .rows-that-fit .result * 5 ≤ length (c .before .before .before .args .table .now)
 room c = rw (c .rows-that-fit .ensures) (capacity-fits (length (c .before .before .before .args .table .now)))
-
-consistent : (c : tie.After-are-rows-consistent) → let g = c .before .before .before .before .before .args in allBelow (g .rows) (isTableRowConsistent (g .chart) (g .instant) (g .floor) (g .events) (g .rows) (g .table .now)) ≡ c .are-rows-consistent .result
-consistent c =
-    let f = c .before .before .before .before .before .fits in
-    sym (simp (same32, f .instant, f .floor) at (c .are-rows-consistent .ensures))
 
 is-watch-in-range-requires : tie.Need-is-watch-in-range-requires
 is-watch-in-range-requires c κs = search needs
@@ -47,31 +42,38 @@ returns-2 c =
     let g = c .before .before .before .before .args in
     simp (is-in-range (c .before .before), lt-leb (g .rows) (capacity (length (g .table .now))) (rw (c .before .rows-that-fit .ensures) at (c .if2 .taken)))
 
-are-rows-consistent-requires : tie.Need-are-rows-consistent-requires
-are-rows-consistent-requires c κs = (c .before .before .before .before .pre, fits c)
-
 mul-are-zeros : tie.Need-mul-are-zeros
-mul-are-zeros c = let h = room (c .before .before .before) in search needs
+mul-are-zeros c = let h = room (c .before) in search needs
 
 mul-are-zeros-2 : tie.Need-mul-are-zeros-2
-mul-are-zeros-2 c = let h = room (c .before .before .before) in search needs
+mul-are-zeros-2 c = let h = room (c .before) in search needs
 
 are-zeros-requires : tie.Need-are-zeros-requires
-are-zeros-requires c κs = (omega (arith, c .before .before .if2 .left), room (c .before .before .before))
+are-zeros-requires c κs = (omega (arith, c .if2 .left), room (c .before))
+
+-- what lies behind the rows
+zeros : (c : tie.After-are-zeros) → let g = c .before .before .before .before .before .args in areZeros (g .rows * 5) (capacity (length (g .table .now)) * 5) (g .table .now) ≡ c .are-zeros .result
+zeros c = sym (rw (← c .before .before .rows-that-fit .ensures) (c .are-zeros .ensures))
+
+are-rows-consistent-requires : tie.Need-are-rows-consistent-requires
+are-rows-consistent-requires c κs =
+    let d = c .before .before in
+    (d .before .before .before .before .pre, fits d)
 
 returns-3 : tie.Need-returns-3
 unfolding areConsistent
 returns-3 c =
     let d = c .before .before in
-    let g = d .before .before .before .before .before .args in
-    simp (is-in-range (d .before .before .before), le-leb (g .rows) (capacity (length (g .table .now))) (fits (d .before)), consistent d ∙ c .before .if3 .taken, c .are-zeros .ensures, d .before .before .rows-that-fit .ensures)
+    let s = d .before .before .before .before .before in
+    let g = s .args in
+    simp (is-in-range (d .before .before .before), le-leb (g .rows) (capacity (length (g .table .now))) (fits (d .before)), zeros d ∙ c .before .if3 .taken, c .are-rows-consistent .ensures, same32, s .fits .instant, s .fits .floor)
 
 returns-4 : tie.Need-returns-4
 unfolding areConsistent
 returns-4 c =
     let d = c .before in
     let g = d .before .before .before .before .before .args in
-    simp (is-in-range (d .before .before .before), le-leb (g .rows) (capacity (length (g .table .now))) (fits (d .before)), consistent d ∙ c .if3 .left, c .if3 .left)
+    simp (is-in-range (d .before .before .before), le-leb (g .rows) (capacity (length (g .table .now))) (fits (d .before)), zeros d ∙ c .if3 .left, c .if3 .left)
 
 pub is-consistent-spec : {M : Type 1} → statement M
 is-consistent-spec =
@@ -81,9 +83,9 @@ is-consistent-spec =
     returns
     rows-that-fit-requires
     returns-2
-    are-rows-consistent-requires
     mul-are-zeros
     mul-are-zeros-2
     are-zeros-requires
+    are-rows-consistent-requires
     returns-3
     returns-4)

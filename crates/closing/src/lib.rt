@@ -399,7 +399,7 @@ fn left_from(t: &[i32], m: usize, n: usize, c: Relation, b: i32) -> usize
     n
 }
 
-// The next row of entry a from row i on, or n. One look at each row up to it. Mostly there is no row to look at.
+// The next row of entry a from row i on, or n: at once where i is n, as it mostly is, no partner being new. One look at each row up to it.
 fn next_of(t: &[i32], i: usize, n: usize, a: i32) -> usize
     requires { ⌜ (i ≤ n) × (n ≤ 65535) × (n * 5 ≤ length (now t)) ⌝ }
     ensures { λ r. ⌜ NextOf a i n (now (t .entry)) r ⌝ }

@@ -1,5 +1,5 @@
 -- The walk over the rows: before the first, one row more, past the last. No code here.
-use Prim.Native.Nat.{ℕ, zero, suc, _+_, _*_, _-_, _/_, _%_, _≤_, _<_}
+use Prim.Native.Nat.{ℕ, zero, suc, _+_, _*_, _%_, _≤_, _<_}
 use native.Mathlib.Omega.{arith}
 use native.Mathlib.Decide.{ℕ-discrete}
 use native.Mathlib.Numerals.{add-one}
@@ -7,7 +7,7 @@ use mathlib.Core.Path.{_≡_, refl, sym, ap, _∙_}
 use mathlib.Core.Bool.{Bool, true, false}
 use mathlib.Core.List.{List, [], _∷_, _++_, map, map-append}
 use lib.IntN.{ℤ, pos, natAbs}
-use lib.ListN.{length, getD, take, drop, set, length-map, length-set}
+use lib.ListN.{length, getD, take, drop, length-set}
 use lib.Seq.{take-all, getD-set-same, getD-drop, drop-drop, drop-set-lt}
 use lib.Signed.{ltZ, leZ}
 use Rattle.interval.proofs.Signed.{signed}
@@ -16,10 +16,10 @@ use Rattle.model.specs.Order.{Row, row}
 use Rattle.model.specs.RowSteps.{rowAt, isLate, moved}
 use Rattle.table.specs.Table.{cell, tableRow, rowsIn, putRow}
 use Rattle.table.proofs.Rows.{rows-none, rows-snoc, length-rows, row-at, length-put, rows-put, drop-put}
-use Rattle.forgetting.specs.Walk.{eventIn, entryCell, shiftAt, placeAt, plain, plainRows, marked, withReferences, movedRow, keptBy, RowReady, RowsReady, AllLate, Markable, HasMark, Movable, Restorable, Sifted}
+use Rattle.forgetting.specs.Walk.{eventIn, entryCell, shiftAt, placeAt, plain, plainRows, marked, withReferences, movedRow, keptBy, RowsReady, AllLate, Markable, Movable, Sifted}
 use Rattle.forgetting.proofs.References.{references-same, references-id}
 use Rattle.forgetting.proofs.Places.{keep-pass, keep-fail, placed-pass, placed-fail, placed-le, placed-grows, placed-still}
-use Rattle.forgetting.proofs.Marks.{low-of, shift-of, plain-low, plain-references, pos-above, entry-cell, set-own, set-entry, set-rows, put-shift, put-above}
+use Rattle.forgetting.proofs.Marks.{low-of, plain-low, plain-references, pos-above, entry-cell, set-own, set-entry, set-rows, put-shift, put-above}
 
 -- a row as forgetting writes it, and the rows written before row i is looked at
 abbrev written : List Bool → ℤ → List Row → Row → Row
@@ -140,6 +140,9 @@ module _ (events : List Bool) (f : ℤ) (rows : ℕ) (t₀ : List ℤ) (ok : Row
         go : Dec (j ≡ i) → shiftAt after j + moved f (rowsIn rows t₀) j ≡ j
         go (yes q) = rw (q, own-mark) (omega (arith, w .count, small))
         go (no d) = rw (set-entry t i mark j d) (w .shift j (omega arith))
+
+    pub walk-small : (e : ℕ) → e ≡ natAbs (entryCell t i) → e < 32
+    walk-small e x = rw x small
 
     pub walk-asks : (e : ℕ) (event : Bool) (u : List ℤ) → e ≡ natAbs (entryCell t i) → event ≡ eventIn events e → u ≡ after → Movable event i p e u
     walk-asks e event u x b y = rw (b, x, y) (record {

@@ -6,12 +6,12 @@ use mathlib.Core.Bool.{Bool, true, false, cond}
 use mathlib.Core.List.{List, map}
 use lib.IntN.{ℤ, pos, natAbs}
 use lib.ListN.{length, getD, set, drop}
-use lib.Signed.{ltZ, leZ}
+use lib.Signed.{leZ}
 use Rattle.chart.specs.declared.Chart.{Chart}
 use Rattle.model.specs.Lists.{keep}
 use Rattle.model.specs.Order.{Row, row}
 use Rattle.model.specs.RowSteps.{isLate, moved, renumber, isEventAt}
-use Rattle.table.specs.Table.{cell, tableRow, rowsIn, putRow, putRows}
+use Rattle.table.specs.Table.{cell, rowsIn}
 use Rattle.table.specs.Operators.{operatorsOf}
 use Rattle.table.specs.Ready.{Refers}
 

@@ -6,7 +6,7 @@ use lib.ListN.{length}
 use mir.Syntax.{w32}
 use mir.Val.{toZ}
 use Rattle.interval.proofs.Machine.{same32}
-use Rattle.forgetting.proofs.Walk.{Walked, walk-holds, walk-marks, walk-asks, walk-kept, walk-dropped, walk-ends}
+use Rattle.forgetting.proofs.Walk.{Walked, walk-holds, walk-marks, walk-small, walk-asks, walk-kept, walk-dropped, walk-ends}
 use Rattle.forgetting.proofs.keep_rows.Statement.{statement}
 use Rattle.forgetting.proofs.keep_rows.Tie as tie
 
@@ -57,8 +57,7 @@ array-read-event c =
     let m = c .before .before .before .before in
     let t = m .before .before in
     let l = t .before in
-    let asks = walk-asks _ _ _ _ (l .before .pre .0) _ _ _ _ (l .loop .inv .3) (l .loop .inv .1) (t .loop-test .taken) _ _ _ (m .mark-row .ensures .0) refl (m .mark-row .ensures .1) in
-    asks .small
+    walk-small _ _ _ _ (l .before .pre .0) _ _ _ _ (l .loop .inv .3) (l .loop .inv .1) (t .loop-test .taken) _ (m .mark-row .ensures .0)
 
 move-row-requires : tie.Need-move-row-requires Inv-loop μ-loop
 move-row-requires c κs =

@@ -1,5 +1,5 @@
 -- `mark_row` meets its contract: the mark stands beside the entry.
-use Prim.Native.Nat.{_+_, _*_}
+use Prim.Native.Nat.{_+_}
 use mathlib.Core.Path.{refl}
 use native.Mathlib.Omega.{arith}
 use lib.IntN.{natAbs}

@@ -6,7 +6,7 @@ use native.Mathlib.Omega.{arith}
 use mir.Syntax.{w32}
 use mir.Val.{SFits}
 use lib.IntN.{pos}
-use lib.ListN.{length, getD}
+use lib.ListN.{getD}
 use Rattle.table.specs.Table.{areZeros}
 use Rattle.table.proofs.Laws.{zeros-on, zeros-not, zeros-end}
 use Rattle.interval.proofs.Machine.{eqZ-yes, eqZ-no}

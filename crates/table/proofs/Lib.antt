@@ -2,3 +2,4 @@ pub mod Laws
 pub mod Rows
 pub mod Fill
 pub mod Operators
+pub mod Ends

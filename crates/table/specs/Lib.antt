@@ -1,3 +1,4 @@
 pub mod Table
 pub mod Operators
 pub mod Ready
+pub mod Ends

@@ -10,14 +10,22 @@ use lib.Seq.{sets, slice}
 use Rattle.interval.specs.Instants.{eqZ}
 use Rattle.model.specs.Lists.{every, each, numbers}
 use Rattle.model.specs.Order.{Row, row}
+use Rattle.table.specs.declared.Row as stored
 
 -- column k of row i
 abbrev pub cell : List ℤ → ℕ → ℕ → ℤ
 cell t i k = getD t (i * 5 + k) (pos 0)
 
--- row i; an entry is no negative number in a table that is consistent
+-- row i as the code has it
+abbrev pub storedRow : List ℤ → ℕ → stored.Row
+storedRow t i = record { entry = cell t i 0; left = cell t i 1; right = cell t i 2; start = cell t i 3; end = cell t i 4 }
+
+-- as the model has it; an entry is no negative number in a table that is consistent
+abbrev pub modelRow : stored.Row → Row
+modelRow r = row (natAbs (r .entry)) (r .left) (r .right) (r .start) (r .end)
+
 abbrev pub tableRow : List ℤ → ℕ → Row
-tableRow t i = row (natAbs (cell t i 0)) (cell t i 1) (cell t i 2) (cell t i 3) (cell t i 4)
+tableRow t i = modelRow (storedRow t i)
 
 -- the first n rows
 unfoldable pub rowsIn : ℕ → List ℤ → List Row

@@ -1,12 +1,15 @@
-// The caller's table of rows: five numbers a row, and how many rows fit. Inner functions of the watch: each asks what its callers have shown.
+// The caller's table of rows: five numbers a row, how many rows fit, and how many end before an instant. Inner functions of the watch: each asks what its
+// callers have shown. What reads or writes one row takes constant time.
 ghost use mathlib.Core.Path.{_≡_};
-ghost use mathlib.Core.List.{[], _∷_, _++_};
-ghost use Prim.Native.Nat.{_+_, _*_, _-_, _≤_, _<_};
+ghost use mathlib.Core.Bool.{true};
+ghost use mathlib.Core.List.{[], _∷_};
+ghost use Prim.Native.Nat.{_+_, _*_, _≤_};
 ghost use lib.IntN.{pos};
-ghost use lib.ListN.{length, take, drop, replicate};
+ghost use lib.ListN.{length};
+ghost use lib.Signed.{leZ};
 ghost use Rattle.model.specs.Capacity.{capacity};
-ghost use Rattle.model.specs.Order.{row};
-ghost use Rattle.table.specs.Table.{putRow, fill, areZeros, zeroed};
+ghost use Rattle.table.specs.Table.{storedRow, modelRow, putRow, fill, areZeros, zeroed};
+ghost use Rattle.table.specs.Ends.{Ordered, endsBefore, countEnding, endingBefore, endingBy};
 
 // How many rows a table of `len` numbers holds.
 pub fn rows_that_fit(len: usize) -> usize
@@ -16,13 +19,42 @@ pub fn rows_that_fit(len: usize) -> usize
     if n < 65535 { n } else { 65535 }
 }
 
-// Writes row i.
-pub fn put_row(t: &mut [i32], i: usize, entry: usize, left: i32, right: i32, start: i32, end: i32)
-    requires { ⌜ (i < 65535) × (i * 5 + 5 ≤ length (now t)) × (entry < 2147483648) ⌝ }
-    ensures { λ _. ⌜ now (t .exit) ≡ putRow i (row entry left right start end) (now (t .entry)) ⌝ }
+// A row: five numbers of the table. The entry of a row in use is no negative number.
+pub struct Row {
+    pub entry: i32,
+    pub left: i32,
+    pub right: i32,
+    pub start: i32,
+    pub end: i32,
+}
+
+// Row i.
+pub fn row_at(t: &[i32], i: usize) -> Row
+    requires { ⌜ i * 5 + 5 ≤ length (now t) ⌝ }
+    ensures { λ r. ⌜ r ≡ storedRow (now (t .entry)) i ⌝ }
 {
     let at = i * 5;
-    t[at] = entry as i32;
+    Row {
+        entry: t[at],
+        left: t[at + 1],
+        right: t[at + 2],
+        start: t[at + 3],
+        end: t[at + 4],
+    }
+}
+
+// Writes row i.
+pub fn put_row(t: &mut [i32], i: usize, row: Row)
+    requires { ⌜ (i * 5 + 5 ≤ length (now t)) × (leZ (pos 0) (row .entry) ≡ true) ⌝ }
+    ensures { λ _. ⌜ now (t .exit) ≡ putRow i (modelRow row) (now (t .entry)) ⌝ }
+{
+    let at = i * 5;
+    let entry = row.entry;
+    let left = row.left;
+    let right = row.right;
+    let start = row.start;
+    let end = row.end;
+    t[at] = entry;
     t[at + 1] = left;
     t[at + 2] = right;
     t[at + 3] = start;
@@ -30,21 +62,12 @@ pub fn put_row(t: &mut [i32], i: usize, entry: usize, left: i32, right: i32, sta
 }
 
 // Appends a row to the n there are, where there is room for it: one row more, or one more than the table holds and nothing written.
-pub fn push_row(
-    t: &mut [i32],
-    n: usize,
-    room: usize,
-    entry: usize,
-    left: i32,
-    right: i32,
-    start: i32,
-    end: i32,
-) -> usize
-    requires { ⌜ (n ≤ room) × (room ≤ 65535) × (room * 5 ≤ length (now t)) × (entry < 32) ⌝ }
-    ensures { λ r. ⌜ (r ≡ fill room n (row entry left right start end ∷ []) (now (t .entry)) .count) × (now (t .exit) ≡ fill room n (row entry left right start end ∷ []) (now (t .entry)) .table) ⌝ }
+pub fn push_row(t: &mut [i32], n: usize, room: usize, row: Row) -> usize
+    requires { ⌜ (n ≤ room) × (room * 5 ≤ length (now t)) × (leZ (pos 0) (row .entry) ≡ true) ⌝ }
+    ensures { λ r. ⌜ (r ≡ fill room n (modelRow row ∷ []) (now (t .entry)) .count) × (now (t .exit) ≡ fill room n (modelRow row ∷ []) (now (t .entry)) .table) ⌝ }
 {
     if n < room {
-        put_row(t, n, entry, left, right, start, end);
+        put_row(t, n, row);
         return n + 1;
     }
     room + 1
@@ -78,4 +101,49 @@ pub fn are_zeros(t: &[i32], a: usize, e: usize) -> bool
         }
     }
     zeros
+}
+
+// How many of the rows end before e; they stand by end. Binary search: at most 16 of 65,535 rows are looked at.
+pub fn ending_before(table: &[i32], rows: usize, e: i32) -> usize
+    requires { ⌜ (rows * 5 ≤ length (now table)) × Ordered rows (now table) ⌝ }
+    ensures { λ r. ⌜ r ≡ endingBefore rows e (now (table .entry)) ⌝ }
+{
+    count_ending(table, rows, e, false)
+}
+
+// How many of the rows end at e or before. Binary search: at most 16 of 65,535 rows are looked at.
+pub fn ending_by(table: &[i32], rows: usize, e: i32) -> usize
+    requires { ⌜ (rows * 5 ≤ length (now table)) × Ordered rows (now table) ⌝ }
+    ensures { λ r. ⌜ r ≡ endingBy rows e (now (table .entry)) ⌝ }
+{
+    count_ending(table, rows, e, true)
+}
+
+// Whether an end is before e, or at e where that is included.
+fn ends_before(end: i32, e: i32, included: bool) -> bool
+    ensures { λ r. ⌜ r ≡ endsBefore included e end ⌝ }
+{
+    if included {
+        return interval::is_no_later(end, e);
+    }
+    interval::is_before(end, e)
+}
+
+// The search behind both: the rows below low pass, those from high on do not. A logarithm of the rows.
+fn count_ending(table: &[i32], rows: usize, e: i32, included: bool) -> usize
+    requires { ⌜ (rows * 5 ≤ length (now table)) × Ordered rows (now table) ⌝ }
+    ensures { λ r. ⌜ r ≡ countEnding included rows e (now (table .entry)) ⌝ }
+{
+    let mut low: usize = 0;
+    let mut high = rows;
+    while low < high {
+        let mid = low + (high - low) / 2;
+        let end = table[mid * 5 + 4];
+        if ends_before(end, e, included) {
+            low = mid + 1;
+        } else {
+            high = mid;
+        }
+    }
+    low
 }

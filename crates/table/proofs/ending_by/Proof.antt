@@ -1,8 +1,8 @@
 -- `ending_by` meets its contract: it is the search, with the flag on.
 use Rattle.interval.proofs.Machine.{same32}
 use borrow.Author.Needs.{needs}
-use Rattle.forgetting.proofs.ending_by.Statement.{statement}
-use Rattle.forgetting.proofs.ending_by.Tie as tie
+use Rattle.table.proofs.ending_by.Statement.{statement}
+use Rattle.table.proofs.ending_by.Tie as tie
 
 count-ending-requires : tie.Need-count-ending-requires
 count-ending-requires c κs = search needs

@@ -1,8 +1,8 @@
 -- `ends_before` meets its contract: the flag chooses the comparison.
 use borrow.Author.Needs.{needs}
 use Rattle.interval.proofs.Machine.{same32}
-use Rattle.forgetting.proofs.ends_before.Statement.{statement}
-use Rattle.forgetting.proofs.ends_before.Tie as tie
+use Rattle.table.proofs.ends_before.Statement.{statement}
+use Rattle.table.proofs.ends_before.Tie as tie
 
 is-no-later-requires : tie.Need-is-no-later-requires
 is-no-later-requires c κs = search needs

@@ -6,11 +6,11 @@ use borrow.Author.Needs.{needs}
 use mir.Syntax.{w32}
 use mir.Val.{SFits, toZ, ofZ}
 use Rattle.interval.proofs.Machine.{same32}
 use Rattle.table.specs.Table.{cell}
-use Rattle.forgetting.specs.Ends.{endsBefore}
-use Rattle.forgetting.proofs.Ends.{Searched, search-holds, search-up, search-down, search-ends}
-use Rattle.forgetting.proofs.count_ending.Statement.{statement}
-use Rattle.forgetting.proofs.count_ending.Tie as tie
+use Rattle.table.specs.Ends.{endsBefore}
+use Rattle.table.proofs.Ends.{Searched, search-holds, search-up, search-down, search-ends}
+use Rattle.table.proofs.count_ending.Statement.{statement}
+use Rattle.table.proofs.count_ending.Tie as tie
 
 abbrev Inv-loop : tie.InvT-loop
 Inv-loop table rows e included low₀ high₀ low high = Searched included rows (toZ w32 e) table low high

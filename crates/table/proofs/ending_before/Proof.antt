@@ -1,8 +1,8 @@
 -- `ending_before` meets its contract: it is the search, with the flag off.
 use Rattle.interval.proofs.Machine.{same32}
 use borrow.Author.Needs.{needs}
-use Rattle.forgetting.proofs.ending_before.Statement.{statement}
-use Rattle.forgetting.proofs.ending_before.Tie as tie
+use Rattle.table.proofs.ending_before.Statement.{statement}
+use Rattle.table.proofs.ending_before.Tie as tie
 
 count-ending-requires : tie.Need-count-ending-requires
 count-ending-requires c κs = search needs

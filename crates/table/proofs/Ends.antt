@@ -12,9 +12,9 @@ use Rattle.interval.proofs.Signed.{never, signed}
 use Rattle.model.specs.Lists.{keep}
 use Rattle.model.specs.Order.{Row}
 use Rattle.model.proofs.Sorted.{keep-append}
 use Rattle.table.specs.Table.{cell, tableRow, rowsIn}
 use Rattle.table.proofs.Rows.{rows-none, rows-snoc}
-use Rattle.forgetting.specs.Ends.{Ordered, endsBefore, countEnding}
+use Rattle.table.specs.Ends.{Ordered, endsBefore, countEnding}
 
 -- an earlier end passes where a later one does
 earlier-passes : (included : Bool) (e a b : ℤ) → leZ a b ≡ true → endsBefore included e b ≡ true → endsBefore included e a ≡ true

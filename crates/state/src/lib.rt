@@ -1,0 +1,70 @@
+// What a watch holds, by value: the crates below `watch` are handed it whole, so that a number more changes none of their signatures.
+// Every function takes constant time.
+ghost use mathlib.Core.Path.{_≡_};
+ghost use Prim.Native.Nat.{_<_};
+ghost use Rattle.state.specs.State.{emptyState, withEvent, marked, raised};
+
+// Open instant, floor, count of events, count of rows, and the events of the open instant: how many, and their codes in their order
+// with zeros behind them. In C's layout, for a host in C.
+#[repr(C)]
+pub struct WatchState {
+    pub instant: i32,
+    pub floor: i32,
+    pub events: usize,
+    pub rows: usize,
+    pub pending: usize,
+    pub codes: [u8; 64],
+}
+
+// No rows and no events at an instant.
+pub fn empty(instant: i32) -> WatchState
+    ensures { λ r. ⌜ r ≡ emptyState instant ⌝ }
+{
+    WatchState {
+        instant,
+        floor: interval::first_floor(),
+        events: 0,
+        rows: 0,
+        pending: 0,
+        codes: [0u8; 64],
+    }
+}
+
+impl WatchState {
+    // One event more at the open instant.
+    pub fn with_event(self, k: u8) -> WatchState
+        requires { ⌜ (self .pending < 64) × (self .events < 1000000) ⌝ }
+        ensures { λ r. ⌜ r ≡ withEvent self k ⌝ }
+    {
+        let n = self.pending;
+        let mut next = self;
+        next.codes[n] = k;
+        next.pending = n + 1;
+        next.events = next.events + 1;
+        next
+    }
+
+    // The next open instant, with n rows.
+    pub fn marked(self, instant: i32, n: usize) -> WatchState
+        ensures { λ r. ⌜ r ≡ marked self instant n ⌝ }
+    {
+        WatchState {
+            instant,
+            floor: self.floor,
+            events: self.events,
+            rows: n,
+            pending: 0,
+            codes: [0u8; 64],
+        }
+    }
+
+    // A higher floor, with n rows.
+    pub fn raised(self, floor: i32, n: usize) -> WatchState
+        ensures { λ r. ⌜ r ≡ raised self floor n ⌝ }
+    {
+        let mut next = self;
+        next.floor = floor;
+        next.rows = n;
+        next
+    }
+}

@@ -12,6 +12,7 @@ use Rattle.interval.proofs.Signed.{never, signed}
 use Rattle.model.specs.Lists.{keep}
 use Rattle.model.specs.Order.{Row}
 use Rattle.model.proofs.Sorted.{keep-append}
+use Rattle.model.proofs.History.{keep-length}
 use Rattle.table.specs.Table.{cell, tableRow, rowsIn}
 use Rattle.table.proofs.Rows.{rows-none, rows-snoc}
 use Rattle.table.specs.Ends.{Ordered, endsBefore, countEnding}
@@ -49,13 +50,19 @@ module _ (included : Bool) (rows : ℕ) (e : ℤ) (t : List ℤ) where
         go k g i false q = refl
 
   -- how many of the first n rows pass
-  module _ (low high : ℕ) (s : Searched included rows e t low high) (m : high ≤ low) where
-    abbrev passes : Row → Bool
-    passes x = endsBefore included e (x .end)
+  abbrev passes : Row → Bool
+  passes x = endsBefore included e (x .end)
 
+  count-snoc : (n : ℕ) → length (keep passes (rowsIn (suc n) t)) ≡ length (keep passes (rowsIn n t)) + length (keep passes (tableRow t n ∷ []))
+  count-snoc n = ap (λ l. length (keep passes l)) (rows-snoc n t) ∙ ap length (keep-append passes (rowsIn n t) (tableRow t n ∷ [])) ∙ length-append (keep passes (rowsIn n t)) (keep passes (tableRow t n ∷ []))
+
+  count-none : length (keep passes (rowsIn 0 t)) ≡ 0
+  count-none = ap (λ l. length (keep passes l)) (rows-none t)
+
+  module _ (low high : ℕ) (s : Searched included rows e t low high) (m : high ≤ low) where
     count-first : (n : ℕ) → n ≤ rows → length (keep passes (rowsIn n t)) ≡ min n low
-    count-first zero h = ap (λ l. length (keep passes l)) (rows-none t) ∙ omega arith
-    count-first (suc n) h = ap (λ l. length (keep passes l)) (rows-snoc n t) ∙ ap length (keep-append passes (rowsIn n t) (tableRow t n ∷ [])) ∙ length-append (keep passes (rowsIn n t)) (keep passes (tableRow t n ∷ [])) ∙ go (decLt n low) (count-first n (omega arith))
+    count-first zero h = count-none ∙ omega arith
+    count-first (suc n) h = count-snoc n ∙ go (decLt n low) (count-first n (omega arith))
       where
         go : Dec (n < low) → length (keep passes (rowsIn n t)) ≡ min n low → length (keep passes (rowsIn n t)) + length (keep passes (tableRow t n ∷ [])) ≡ min (suc n) low
         go (yes l) r = rw (s .below n l) (omega arith)
@@ -63,3 +70,27 @@ module _ (included : Bool) (rows : ℕ) (e : ℤ) (t : List ℤ) where
 
     pub search-ends : low ≡ countEnding included rows e t
     search-ends = omega (arith, s .inside, count-first rows (omega arith))
+
+  -- those that pass are the first ones: no more do than stand before one that does not
+  module _ (o : Ordered rows t) (j : ℕ) (f : endsBefore included e (cell t j 4) ≡ false) where
+    later-fails : (n : ℕ) → j ≤ n → n < rows → endsBefore included e (cell t n 4) ≡ false
+    later-fails n h g = go (endsBefore included e (cell t n 4)) refl
+      where
+        go : (b : Bool) → endsBefore included e (cell t n 4) ≡ b → b ≡ false
+        go true p = never (sym f ∙ earlier-passes included e (cell t j 4) (cell t n 4) (o j n h g) p)
+        go false p = refl
+
+    count-most : (n : ℕ) → n ≤ rows → length (keep passes (rowsIn n t)) ≤ min n j
+    count-most zero h = omega (arith, count-none)
+    count-most (suc n) h = go (decLt n j) (count-most n (omega arith))
+      where
+        go : Dec (n < j) → length (keep passes (rowsIn n t)) ≤ min n j → length (keep passes (rowsIn (suc n) t)) ≤ min (suc n) j
+        go (yes l) r = omega (arith, count-snoc n, keep-length passes (tableRow t n ∷ []))
+        go (no l) r = rw (count-snoc n, later-fails n (omega arith) (omega arith)) (omega arith)
+
+  pub counted-passes : Ordered rows t → (j : ℕ) → j < countEnding included rows e t → endsBefore included e (cell t j 4) ≡ true
+  counted-passes o j g = go (endsBefore included e (cell t j 4)) refl
+    where
+      go : (b : Bool) → endsBefore included e (cell t j 4) ≡ b → b ≡ true
+      go true p = refl
+      go false p = absurd (omega (arith, count-most o j p rows (omega arith)))

@@ -13,21 +13,24 @@ use Rattle.interval.specs.declared.LengthTest.the-variants.{Lasts, AtMost, AtLe
 use Rattle.text.specs.Text.{split, lines}
 use Rattle.text.specs.Quoted.{bytes, tabbed, unended, text}
 use Rattle.decimal.specs.Spelling.{isDigit, allDigits, valueFrom, hasLeadingZero, isNumber, numberOf}
-use Rattle.chart.specs.Operators.{words, sameBytes, placeOf, operatorOf, edgesOf, relationOf, lengthTestOf, kindOf, inRange, areLower}
+use Rattle.chart.specs.Operators.{words, sameBytes, placeOf, operatorOf, edgesOf, relationOf, lengthTestOf, kindOf, shapeOf, inRange, areLower}
 use Rattle.chart.specs.Records.{withCode, eventLine, withOperands, secondOperand, operandsLine, byOperator, operatorLine, numbered, parsedLine, checkedEntry, checkedLine, answerTo}
 use Rattle.chart.specs.Charts.{noEntries, withEntry, refusedChart, readLines, orNoLine, readChart}
 use Rattle.chart.specs.declared.Entry.{Entry}
 use Rattle.chart.specs.declared.operator.Kind.{Kind}
 use Rattle.chart.specs.declared.operator.Kind.the-variants.{Event, Or, Pair, Absence, Length}
+use Rattle.chart.specs.declared.operator.Shape.{Shape}
+use Rattle.chart.specs.declared.operator.Shape.the-variants.{Leaf, Single, Arms, Double}
 
--- what an entry means: its operator and its operands
+-- what an entry means: its operator, how its rows refer to others, and its operands
 pub record Meaning : Type 0 where
   pub kind : Kind
+  pub shape : Shape
   pub a : ℕ
   pub b : ℕ
 
-abbrev means : Kind → ℕ → ℕ → Meaning
-means k a b = record { kind = k; a = a; b = b }
+abbrev means : Kind → Shape → ℕ → ℕ → Meaning
+means k f a b = record { kind = k; shape = f; a = a; b = b }
 
 -- what a chart is answered with: refusal and line, both 0 where it is taken, and what its entries mean
 pub record Reading : Type 0 where
@@ -38,7 +41,7 @@ pub record Reading : Type 0 where
 abbrev pub reading : List ℕ → Reading
 reading s =
     let r = readChart s in
-    record { refusal = r .refusal; line = r .line; entries = map (λ (e : Entry). means (kindOf (e .op)) (e .a) (e .b)) (take (r .chart .count) (r .chart .entries)) }
+    record { refusal = r .refusal; line = r .line; entries = map (λ (e : Entry). means (kindOf (e .op)) (shapeOf (kindOf (e .op))) (e .a) (e .b)) (take (r .chart .count) (r .chart .entries)) }
 
 pub record Case : Type 0 where
   pub chart : List ℕ
@@ -64,24 +67,24 @@ l ⇒ m = record { line = l; meaning = m }
 -- and `]` late are closed, `]` early and `[` late are open.
 abbrev operatorTable : List Written
 operatorTable =
-    "0 event 0" ⇒ means Event 0 0 ∷
-    "1 event 255" ⇒ means Event 255 0 ∷
-    "2 seq 0 1" ⇒ means (Pair Seq) 0 1 ∷
-    "3 or 2 1" ⇒ means Or 2 1 ∷
-    "4 and 3 3" ⇒ means (Pair And) 3 3 ∷
-    "5 -[] 0 1" ⇒ means (Absence ClosedClosed) 0 1 ∷
-    "6 -][ 0 1" ⇒ means (Absence OpenOpen) 0 1 ∷
-    "7 -[[ 0 1" ⇒ means (Absence ClosedOpen) 0 1 ∷
-    "8 -]] 0 1" ⇒ means (Absence OpenClosed) 0 1 ∷
-    "9 meets 0 8" ⇒ means (Pair Meets) 0 8 ∷
-    "10 overlaps 0 9" ⇒ means (Pair Overlaps) 0 9 ∷
-    "11 starts 10 0" ⇒ means (Pair Starts) 10 0 ∷
-    "12 during 0 1" ⇒ means (Pair During) 0 1 ∷
-    "13 finishes 0 1" ⇒ means (Pair Finishes) 0 1 ∷
-    "14 equals 0 1" ⇒ means (Pair Equals) 0 1 ∷
-    "15 lasts 14 0" ⇒ means (Length Lasts) 14 0 ∷
-    "16 atmost 15 2000000000" ⇒ means (Length AtMost) 15 2000000000 ∷
-    "17 atleast 0 17" ⇒ means (Length AtLeast) 0 17 ∷ []
+    "0 event 0" ⇒ means Event Leaf 0 0 ∷
+    "1 event 255" ⇒ means Event Leaf 255 0 ∷
+    "2 seq 0 1" ⇒ means (Pair Seq) Double 0 1 ∷
+    "3 or 2 1" ⇒ means Or Arms 2 1 ∷
+    "4 and 3 3" ⇒ means (Pair And) Double 3 3 ∷
+    "5 -[] 0 1" ⇒ means (Absence ClosedClosed) Single 0 1 ∷
+    "6 -][ 0 1" ⇒ means (Absence OpenOpen) Single 0 1 ∷
+    "7 -[[ 0 1" ⇒ means (Absence ClosedOpen) Single 0 1 ∷
+    "8 -]] 0 1" ⇒ means (Absence OpenClosed) Single 0 1 ∷
+    "9 meets 0 8" ⇒ means (Pair Meets) Double 0 8 ∷
+    "10 overlaps 0 9" ⇒ means (Pair Overlaps) Double 0 9 ∷
+    "11 starts 10 0" ⇒ means (Pair Starts) Double 10 0 ∷
+    "12 during 0 1" ⇒ means (Pair During) Double 0 1 ∷
+    "13 finishes 0 1" ⇒ means (Pair Finishes) Double 0 1 ∷
+    "14 equals 0 1" ⇒ means (Pair Equals) Double 0 1 ∷
+    "15 lasts 14 0" ⇒ means (Length Lasts) Single 14 0 ∷
+    "16 atmost 15 2000000000" ⇒ means (Length AtMost) Single 15 2000000000 ∷
+    "17 atleast 0 17" ⇒ means (Length AtLeast) Single 0 17 ∷ []
 
 abbrev tableOfWords : List Case
 tableOfWords = taken (text (map (λ (w : Written). w .line) operatorTable)) (map (λ (w : Written). w .meaning) operatorTable) ∷ []
@@ -101,7 +104,7 @@ full = text (lines31 ++ "31 event 1" ∷ [])
 abbrev tooFewOrMany : List Case
 tooFewOrMany =
     refused (text []) 1 1 ∷
-    taken full (replicate 32 (means Event 1 0)) ∷
+    taken full (replicate 32 (means Event Leaf 1 0)) ∷
     refused (full ++ text ("32 event 1" ∷ [])) 2 33 ∷ []
 
 -- "3 a line not of the form above": an empty line; no operand, one too few, one too many; a word that is none, with a letter too few or too many, in
@@ -178,5 +181,5 @@ pub cases : List Case
 cases = tableOfWords ++ tooFewOrMany ++ notOfTheForm ++ notOfTheTable ++ inALine ++ fromTheFirst
 
 pub examples : map (λ (c : Case). reading (c .chart)) cases ≡ map (λ (c : Case). c .expected) cases
-unfolding cases bytes tabbed unended text split lines isLength isDigit allDigits valueFrom hasLeadingZero isNumber numberOf words sameBytes placeOf operatorOf edgesOf relationOf lengthTestOf kindOf inRange areLower withCode eventLine withOperands secondOperand operandsLine byOperator operatorLine numbered parsedLine checkedEntry checkedLine answerTo noEntries withEntry refusedChart readLines orNoLine readChart
+unfolding cases bytes tabbed unended text split lines isLength isDigit allDigits valueFrom hasLeadingZero isNumber numberOf words sameBytes placeOf operatorOf edgesOf relationOf lengthTestOf kindOf shapeOf inRange areLower withCode eventLine withOperands secondOperand operandsLine byOperator operatorLine numbered parsedLine checkedEntry checkedLine answerTo noEntries withEntry refusedChart readLines orNoLine readChart
 examples = refl

@@ -12,6 +12,8 @@ use Rattle.interval.specs.declared.LengthTest.{LengthTest}
 use Rattle.interval.specs.declared.LengthTest.the-variants.{Lasts, AtMost, AtLeast}
 use Rattle.chart.specs.declared.operator.Kind.{Kind}
 use Rattle.chart.specs.declared.operator.Kind.the-variants.{Event, Or, Pair, Absence, Length, Unknown}
+use Rattle.chart.specs.declared.operator.Shape.{Shape}
+use Rattle.chart.specs.declared.operator.Shape.the-variants.{Leaf, Single, Arms, Double}
 
 unfoldable pub words : List (List ℕ)
 words =
@@ -99,6 +101,16 @@ kindOf op =
     (cond (ltb op 8) (Absence (edgesOf op))
     (cond (ltb op 14) (Pair (relationOf op))
     (cond (ltb op 17) (Length (lengthTestOf op)) Unknown))))))
+
+-- The column "left, right" of the operator table: "serial, -1" of an event; "r, -1; or -1, s" of or; "r, s" of seq, and, meets to equals;
+-- "r, -1" of the absences and the length tests. An unknown code stands in no chart that a watch may use; it has a shape only to have one
+unfoldable pub shapeOf : Kind → Shape
+shapeOf Event = Leaf
+shapeOf Or = Arms
+shapeOf (Pair c) = Double
+shapeOf (Absence e) = Single
+shapeOf (Length t) = Single
+shapeOf Unknown = Leaf
 
 -- "An event has a code 0 to 255"; "d is a length". An event's second operand is none, written 0
 unfoldable pub inRange : Kind → ℕ → ℕ → Bool

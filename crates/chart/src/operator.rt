@@ -5,7 +5,7 @@ ghost use lib.ListN.{getD};
 ghost use lib.Dec.{ltb};
 ghost use mathlib.Core.Bool.{_&&_};
 ghost use mathlib.Core.List.{[]};
-ghost use Rattle.chart.specs.Operators.{words, paddedWords, wordLengths, sameBytes, operatorOf, edgesOf, relationOf, lengthTestOf, kindOf, inRange, areLower};
+ghost use Rattle.chart.specs.Operators.{words, paddedWords, wordLengths, sameBytes, operatorOf, edgesOf, relationOf, lengthTestOf, kindOf, shapeOf, inRange, areLower};
 use interval::Edges;
 use interval::LengthTest;
 use interval::Relation;
@@ -18,6 +18,14 @@ pub enum Kind {
     Absence(Edges),
     Length(LengthTest),
     Unknown,
+}
+
+// How a row of an operator refers to other rows.
+pub enum Shape {
+    Leaf, // an event's: a serial, no reference
+    Single, // one reference, on the left
+    Arms, // one reference, on the left or on the right
+    Double, // two references
 }
 
 // The operator words in the order of their codes, each padded to 8 bytes, and their lengths.
@@ -108,6 +116,20 @@ fn length_test_of(op: u8) -> LengthTest
         14 => LengthTest::Lasts,
         15 => LengthTest::AtMost,
         _ => LengthTest::AtLeast,
+    }
+}
+
+// How a row of this kind refers to other rows. Constant time.
+pub fn shape_of(k: Kind) -> Shape
+    ensures { λ r. ⌜ r ≡ shapeOf k ⌝ }
+{
+    match k {
+        Kind::Event => Shape::Leaf,
+        Kind::Or => Shape::Arms,
+        Kind::Pair(_) => Shape::Double,
+        Kind::Absence(_) => Shape::Single,
+        Kind::Length(_) => Shape::Single,
+        Kind::Unknown => Shape::Leaf,
     }
 }
 

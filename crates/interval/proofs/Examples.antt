@@ -8,9 +8,11 @@ use mathlib.Core.List.{List, [], _∷_, _++_, map}
 use lib.IntN.{ℤ, pos, negsuc}
 use lib.Signed.{ltZ}
 use Rattle.interval.specs.Instants.{isInstant, isLength, firstFloor, isMarkRefused, isForgetRefused, least, greatest}
-use Rattle.interval.specs.Conditions.{isRelated, leftMayEndEarlier, rightMayEndEarlier, isForbidding, hasLength}
+use Rattle.interval.specs.Conditions.{isRelated, endingOf, isForbidding, hasLength}
 use Rattle.interval.specs.declared.Relation.{Relation}
 use Rattle.interval.specs.declared.Relation.the-variants.{Seq, And, Meets, Overlaps, Starts, During, Finishes, Equals}
+use Rattle.interval.specs.declared.Ending.{Ending}
+use Rattle.interval.specs.declared.Ending.the-variants.{Before, Within, Together, Either}
 use Rattle.interval.specs.declared.Edges.{Edges}
 use Rattle.interval.specs.declared.Edges.the-variants.{ClosedClosed, OpenOpen, ClosedOpen, OpenClosed}
 use Rattle.interval.specs.declared.LengthTest.{LengthTest}
@@ -87,17 +89,20 @@ point-relations : map (relatedTo point) allRelations ≡
 unfolding isRelated
 point-relations = refl
 
--- an operand may end earlier just where two of the intervals are related and it does
-abbrev someRelated : (Interval → Interval → Bool) → Relation → Bool
-someRelated p c = some (λ r. some (λ s. isRelated c (r .start) (r .end) (s .start) (s .end) && p r s) intervals) intervals
+-- how two of the intervals end that are related: with an s that ends first; else with an r that ends before s starts; else with an r that ends
+-- after that and before s does; else only together
+abbrev someRelated : Relation → (Interval → Interval → Bool) → Bool
+someRelated c p = some (λ r. some (λ s. isRelated c (r .start) (r .end) (s .start) (s .end) && p r s) intervals) intervals
 
-left-earlier : map leftMayEndEarlier allRelations ≡ map (someRelated (λ r s. ltZ (r .end) (s .end))) allRelations
-unfolding isRelated leftMayEndEarlier
-left-earlier = refl
+abbrev endingFound : Relation → Ending
+endingFound c =
+    cond (someRelated c (λ r s. ltZ (s .end) (r .end))) Either
+    (cond (someRelated c (λ r s. ltZ (r .end) (s .start))) Before
+    (cond (someRelated c (λ r s. ltZ (r .end) (s .end))) Within Together))
 
-right-earlier : map rightMayEndEarlier allRelations ≡ map (someRelated (λ r s. ltZ (s .end) (r .end))) allRelations
-unfolding isRelated rightMayEndEarlier
-right-earlier = refl
+endings : map endingOf allRelations ≡ map endingFound allRelations
+unfolding isRelated endingOf
+endings = refl
 
 abbrev forbidding : Interval → Edges → List Interval
 forbidding r edges = keep (λ s. isForbidding edges (r .start) (r .end) (s .start) (s .end)) intervals

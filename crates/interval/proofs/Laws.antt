@@ -9,9 +9,11 @@ use borrow.Author.Tests.{leb-true, le-leb}
 use lib.IntN.{ℤ}
 use lib.Signed.{ltZ, leZ}
 use Rattle.interval.specs.Instants.{isInstant, isLength, firstFloor, isMarkRefused, isForgetRefused, eqZ, least, greatest}
-use Rattle.interval.specs.Conditions.{isRelated, leftMayEndEarlier, rightMayEndEarlier, isForbidding}
+use Rattle.interval.specs.Conditions.{isRelated, endingOf, isForbidding}
 use Rattle.interval.specs.declared.Relation.{Relation}
 use Rattle.interval.specs.declared.Relation.the-variants.{Seq, And, Meets, Overlaps, Starts, During, Finishes, Equals}
+use Rattle.interval.specs.declared.Ending.{Ending}
+use Rattle.interval.specs.declared.Ending.the-variants.{Before, Within, Together, Either}
 use Rattle.interval.specs.declared.Edges.{Edges}
 use Rattle.interval.specs.declared.Edges.the-variants.{ClosedClosed, OpenOpen, ClosedOpen, OpenClosed}
 use Rattle.interval.proofs.Signed.{_≤ᶻ_, _<ᶻ_, posPart, negPart, signed, never, and-first, and-second, antisym, least-is, greatest-is, lt-true, lt-false, le-true, le-false, is-lt, not-lt, is-le, not-le, instant-told, is-instant, eq-true, eq-told, eq-fact}
@@ -124,25 +126,6 @@ module _ (floor opened f : ℤ) where
 pub start-le-end : (rs re ss se : ℤ) → rs ≤ᶻ re → ss ≤ᶻ se → least rs ss ≤ᶻ greatest re se
 start-le-end rs re ss se p q = omega (arith, least-is rs ss, greatest-is re se)
 
--- which operand must end where the whole ends: s for seq, meets, overlaps, starts and during; both for finishes and equals; either for and
-pub data Ending : Type 0 where
-  second both either : Ending
-
-abbrev pub endingOf : Relation → Ending
-endingOf Seq = second
-endingOf And = either
-endingOf Meets = second
-endingOf Overlaps = second
-endingOf Starts = second
-endingOf During = second
-endingOf Finishes = both
-endingOf Equals = both
-
-abbrev pub Ends : Ending → ℤ → ℤ → ℤ → Type 0
-Ends second re se e = se ≡ e
-Ends both re se e = (re ≡ e) × (se ≡ e)
-Ends either re se e = (re ≡ e) ⊎ (se ≡ e)
-
 greatest-at : (a b : ℤ) (t : Bool) → leZ a b ≡ t → a ≤ᶻ b → greatest a b ≡ b
 greatest-at a b true e h = rw e
 greatest-at a b false e h = absurd (omega (arith, signed))
@@ -155,45 +138,39 @@ either-at : (a b : ℤ) (t : Bool) → leZ a b ≡ t → (a ≡ greatest a b) �
 either-at a b true e = inr (rw e)
 either-at a b false e = inl (rw e)
 
-ends-second : (re se : ℤ) → re ≤ᶻ se → se ≡ greatest re se
-ends-second re se h = sym (greatest-later re se h)
+later-end : (re se e : ℤ) → greatest re se ≡ e → re ≤ᶻ se → se ≡ e
+later-end re se e g h = sym (greatest-later re se h) ∙ g
 
-ends-both : (re se : ℤ) → re ≡ se → (re ≡ greatest re se) × (se ≡ greatest re se)
-ends-both re se e =
-    let g : greatest re se ≡ se = greatest-later re se (omega (arith, eq-fact e)) in
-    (e ∙ sym g, sym g)
+-- e is where the whole of r and s ends
+abbrev pub Ends : Ending → (re ss se e : ℤ) → Type 0
+Ends Before re ss se e = (se ≡ e) × (re <ᶻ ss)
+Ends Within re ss se e = (se ≡ e) × (ss ≤ᶻ re)
+Ends Together re ss se e = (re ≡ e) × (se ≡ e)
+Ends Either re ss se e = (re ≡ e) ⊎ (se ≡ e)
 
-pub related-ends : (c : Relation) (rs re ss se : ℤ) → rs ≤ᶻ re → ss ≤ᶻ se → isRelated c rs re ss se ≡ true → Ends (endingOf c) re se (greatest re se)
-unfolding isRelated
-related-ends Seq rs re ss se p q h = ends-second re se (omega (arith, lt-true re ss h))
-related-ends And rs re ss se p q h = either-at re se (leZ re se) refl
-related-ends Meets rs re ss se p q h = ends-second re se (omega (arith, eq-told re ss h))
-related-ends Overlaps rs re ss se p q h =
-    ends-second re se (omega (arith, lt-true re se (and-second (ltZ ss re) (ltZ re se) (and-second (ltZ rs ss) (ltZ ss re && ltZ re se) h))))
-related-ends Starts rs re ss se p q h = ends-second re se (omega (arith, lt-true re se (and-second (eqZ rs ss) (ltZ re se) h)))
-related-ends During rs re ss se p q h = ends-second re se (omega (arith, lt-true re se (and-second (ltZ ss rs) (ltZ re se) h)))
-related-ends Finishes rs re ss se p q h = ends-both re se (eq-true re se (and-second (ltZ ss rs) (eqZ re se) h))
-related-ends Equals rs re ss se p q h = ends-both re se (eq-true re se (and-second (eqZ rs ss) (eqZ re se) h))
+within : (re ss se e : ℤ) → greatest re se ≡ e → ss ≤ᶻ re → re ≤ᶻ se → Ends Within re ss se e
+within re ss se e g p q = (later-end re se e g q, p)
 
--- which of two related intervals end where the whole does
-pub record EndsAt (c : Relation) (re se e : ℤ) : Type 0 where
-  pub left : leftMayEndEarlier c ≡ false → re ≡ e
-  pub right : rightMayEndEarlier c ≡ false → se ≡ e
-  pub one : (re ≡ e) ⊎ (se ≡ e)
+together : (re ss se e : ℤ) → greatest re se ≡ e → re ≡ se → Ends Together re ss se e
+together re ss se e g h =
+    let l : se ≡ e = later-end re se e g (omega (arith, eq-fact h)) in
+    (h ∙ l, l)
 
-ends-at : (c : Relation) (re se e : ℤ) → Ends (endingOf c) re se e → EndsAt c re se e
-unfolding leftMayEndEarlier rightMayEndEarlier
-ends-at Seq re se e h = record { left = λ z. never (sym z); right = λ z. h; one = inr h }
-ends-at And re se e h = record { left = λ z. never (sym z); right = λ z. never (sym z); one = h }
-ends-at Meets re se e h = record { left = λ z. never (sym z); right = λ z. h; one = inr h }
-ends-at Overlaps re se e h = record { left = λ z. never (sym z); right = λ z. h; one = inr h }
-ends-at Starts re se e h = record { left = λ z. never (sym z); right = λ z. h; one = inr h }
-ends-at During re se e h = record { left = λ z. never (sym z); right = λ z. h; one = inr h }
-ends-at Finishes re se e h = record { left = λ z. h .0; right = λ z. h .1; one = inr (h .1) }
-ends-at Equals re se e h = record { left = λ z. h .0; right = λ z. h .1; one = inr (h .1) }
-
-pub related-ends-at : (c : Relation) (rs re ss se e : ℤ) → rs ≤ᶻ re → ss ≤ᶻ se → isRelated c rs re ss se ≡ true → greatest re se ≡ e → EndsAt c re se e
-related-ends-at c rs re ss se e p q h g = ends-at c re se e (rw g at (related-ends c rs re ss se p q h))
+-- where two related intervals end
+pub related-ends : (c : Relation) (rs re ss se e : ℤ) → rs ≤ᶻ re → ss ≤ᶻ se → isRelated c rs re ss se ≡ true → greatest re se ≡ e → Ends (endingOf c) re ss se e
+unfolding isRelated endingOf
+related-ends Seq rs re ss se e p q h g = (later-end re se e g (omega (arith, lt-true re ss h)), lt-true re ss h)
+related-ends And rs re ss se e p q h g = rw g at (either-at re se (leZ re se) refl)
+related-ends Meets rs re ss se e p q h g = within re ss se e g (omega (arith, eq-told re ss h)) (omega (arith, eq-told re ss h))
+related-ends Overlaps rs re ss se e p q h g =
+    let i = and-second (ltZ rs ss) (ltZ ss re && ltZ re se) h in
+    within re ss se e g (omega (arith, lt-true ss re (and-first (ltZ ss re) (ltZ re se) i))) (omega (arith, lt-true re se (and-second (ltZ ss re) (ltZ re se) i)))
+related-ends Starts rs re ss se e p q h g =
+    within re ss se e g (omega (arith, eq-told rs ss (and-first (eqZ rs ss) (ltZ re se) h))) (omega (arith, lt-true re se (and-second (eqZ rs ss) (ltZ re se) h)))
+related-ends During rs re ss se e p q h g =
+    within re ss se e g (omega (arith, lt-true ss rs (and-first (ltZ ss rs) (ltZ re se) h))) (omega (arith, lt-true re se (and-second (ltZ ss rs) (ltZ re se) h)))
+related-ends Finishes rs re ss se e p q h g = together re ss se e g (eq-true re se (and-second (ltZ ss rs) (eqZ re se) h))
+related-ends Equals rs re ss se e p q h g = together re ss se e g (eq-true re se (and-second (eqZ rs ss) (eqZ re se) h))
 
 -- a forbidding s starts no earlier and ends no later than r
 pub record Inside (rs re ss se : ℤ) : Type 0 where

@@ -5,7 +5,7 @@ ghost use mathlib.Core.Path.{_≡_};
 ghost use lib.IntN.{_-ℤ_};
 ghost use lib.Signed.{ltZ, leZ};
 ghost use Rattle.interval.specs.Instants.{isInstant, isLength, firstFloor, isMarkRefused, isForgetRefused, eqZ, least, greatest};
-ghost use Rattle.interval.specs.Conditions.{isRelated, leftMayEndEarlier, rightMayEndEarlier, isForbidding, hasLength};
+ghost use Rattle.interval.specs.Conditions.{isRelated, endingOf, isForbidding, hasLength};
 
 // The operators of two operands that ask a condition of both intervals.
 pub enum Relation {
@@ -17,6 +17,14 @@ pub enum Relation {
     During,
     Finishes,
     Equals,
+}
+
+// Where the two intervals of a related pair end, r the first and s the second. The whole ends where the later of them ends.
+pub enum Ending {
+    Before, // r ends before s starts, and s ends where the whole ends
+    Within, // r ends when s starts or later, and s ends where the whole ends
+    Together, // both end where the whole ends
+    Either, // one of the two ends where the whole ends
 }
 
 // The early and the late edge of an absence: -[] -][ -[[ -]]
@@ -156,35 +164,19 @@ fn overlaps(rs: i32, re: i32, ss: i32, se: i32) -> bool
     false
 }
 
-// Whether r may end before the whole of r and s does, where they meet the condition of c.
-pub fn left_may_end_earlier(c: Relation) -> bool
-    ensures { λ r. ⌜ r ≡ leftMayEndEarlier c ⌝ }
+// Where two intervals r and s that meet the condition of c end.
+pub fn ending_of(c: Relation) -> Ending
+    ensures { λ r. ⌜ r ≡ endingOf c ⌝ }
 {
     match c {
-        Relation::Seq => true,
-        Relation::And => true,
-        Relation::Meets => true,
-        Relation::Overlaps => true,
-        Relation::Starts => true,
-        Relation::During => true,
-        Relation::Finishes => false,
-        Relation::Equals => false,
-    }
-}
-
-// Whether s may end before the whole of r and s does, where they meet the condition of c.
-pub fn right_may_end_earlier(c: Relation) -> bool
-    ensures { λ r. ⌜ r ≡ rightMayEndEarlier c ⌝ }
-{
-    match c {
-        Relation::Seq => false,
-        Relation::And => true,
-        Relation::Meets => false,
-        Relation::Overlaps => false,
-        Relation::Starts => false,
-        Relation::During => false,
-        Relation::Finishes => false,
-        Relation::Equals => false,
+        Relation::Seq => Ending::Before,
+        Relation::And => Ending::Either,
+        Relation::Meets => Ending::Within,
+        Relation::Overlaps => Ending::Within,
+        Relation::Starts => Ending::Within,
+        Relation::During => Ending::Within,
+        Relation::Finishes => Ending::Together,
+        Relation::Equals => Ending::Together,
     }
 }
 

@@ -181,5 +181,5 @@ pub cases : List Case
 cases = tableOfWords ++ tooFewOrMany ++ notOfTheForm ++ notOfTheTable ++ inALine ++ fromTheFirst
 
 pub examples : map (λ (c : Case). reading (c .chart)) cases ≡ map (λ (c : Case). c .expected) cases
-unfolding cases bytes tabbed unended text split lines isLength isDigit allDigits valueFrom hasLeadingZero isNumber numberOf words sameBytes placeOf operatorOf edgesOf relationOf lengthTestOf kindOf shapeOf inRange areLower withCode eventLine withOperands secondOperand operandsLine byOperator operatorLine numbered parsedLine checkedEntry checkedLine answerTo noEntries withEntry refusedChart readLines orNoLine readChart
+unfolding cases bytes tabbed unended text split lines isLength isDigit allDigits valueFrom hasLeadingZero isNumber numberOf words sameBytes placeOf operatorOf edgesOf relationOf lengthTestOf kindOf inRange areLower withCode eventLine withOperands secondOperand operandsLine byOperator operatorLine numbered parsedLine checkedEntry checkedLine answerTo noEntries withEntry refusedChart readLines orNoLine readChart
 examples = refl

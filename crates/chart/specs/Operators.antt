@@ -104,7 +104,7 @@ kindOf op =
 
 -- The column "left, right" of the operator table: "serial, -1" of an event; "r, -1; or -1, s" of or; "r, s" of seq, and, meets to equals;
 -- "r, -1" of the absences and the length tests. An unknown code stands in no chart that a watch may use; it has a shape only to have one
-unfoldable pub shapeOf : Kind → Shape
+abbrev pub shapeOf : Kind → Shape
 shapeOf Event = Leaf
 shapeOf Or = Arms
 shapeOf (Pair c) = Double

@@ -6,4 +6,3 @@ pub mod Walk
 pub mod Restored
 pub mod Flags
 pub mod Forgetting
-pub mod Ends

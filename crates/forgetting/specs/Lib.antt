@@ -1,3 +1,2 @@
 pub mod Forgetting
 pub mod Walk
-pub mod Ends

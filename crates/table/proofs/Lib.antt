@@ -3,3 +3,5 @@ pub mod Rows
 pub mod Fill
 pub mod Operators
 pub mod Ends
+pub mod Arities
+pub mod EndParts

@@ -4,15 +4,17 @@ use native.Mathlib.Omega.{arith}
 use native.Mathlib.Nat.{add-zero, zero-add}
 use mathlib.Core.Path.{_≡_, refl, sym, ap, _∙_}
 use mathlib.Core.List.{List, [], _∷_, map}
-use Rattle.chart.specs.Operators.{kindOf}
+use Rattle.chart.specs.Operators.{kindOf, shapeOf}
 use Rattle.chart.specs.Charts.{entryAt}
 use Rattle.chart.specs.declared.Chart.{Chart}
 use Rattle.chart.specs.declared.Entry.{Entry}
 use Rattle.chart.specs.declared.operator.Kind.{Kind}
 use Rattle.chart.specs.declared.operator.Kind.the-variants.{Event, Or, Pair, Absence, Length, Unknown}
+use Rattle.chart.specs.declared.operator.Shape.{Shape}
+use Rattle.chart.specs.declared.operator.Shape.the-variants.{Leaf, Single, Arms, Double}
 use Rattle.model.specs.Lists.{numbers}
 use Rattle.model.specs.Recognitions.{Operator, event, related, or, absence, lasting}
-use Rattle.table.specs.Operators.{operatorBy, entryOperator, operatorsOf}
+use Rattle.table.specs.Operators.{operatorBy, entryOperator, operatorsOf, arityOf}
 
 -- o is the operator of this kind with the operands a and b
 abbrev pub IsOperator : Kind → ℕ → ℕ → Operator → Type 0
@@ -35,6 +37,22 @@ operator-is Unknown a b = refl
 -- the same of an entry whose kind is known
 pub entry-operator : (e : Entry) (k : Kind) → kindOf (e .op) ≡ k → IsOperator k (e .a) (e .b) (entryOperator e)
 entry-operator e k h = rw h (operator-is k (e .a) (e .b))
+
+-- how many references a row of this shape is written with, and so one of an entry's operator
+abbrev pub arityBy : Shape → ℕ
+arityBy Leaf = 0
+arityBy Single = 1
+arityBy Arms = 2
+arityBy Double = 2
+
+pub shape-arity : (k : Kind) (a b : ℕ) → arityOf (operatorBy k a b) ≡ arityBy (shapeOf k)
+unfolding operatorBy arityOf
+shape-arity Event a b = refl
+shape-arity Or a b = refl
+shape-arity (Pair c) a b = refl
+shape-arity (Absence e) a b = refl
+shape-arity (Length t) a b = refl
+shape-arity Unknown a b = refl
 
 -- k operators, from that of entry i on
 abbrev pub operatorsFrom : Chart → ℕ → ℕ → List Operator

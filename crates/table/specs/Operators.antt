@@ -25,3 +25,15 @@ entryOperator e = operatorBy (kindOf (e .op)) (e .a) (e .b)
 -- "A chart has 1 to 32 entries, numbered from 0"
 unfoldable pub operatorsOf : Chart → List Operator
 operatorsOf c = map (λ n. entryOperator (entryAt c n)) (numbers 0 (c .count))
+
+-- The column "left, right" of the operator table: how many references a row of an operator is written with; of the two of an `or` one is none
+unfoldable pub arityOf : Operator → ℕ
+arityOf (event k) = 0
+arityOf (related c a b) = 2
+arityOf (or a b) = 2
+arityOf (absence c a b) = 1
+arityOf (lasting c a d) = 1
+
+-- the arity of each of the 32 entries
+unfoldable pub aritiesOf : Chart → List ℕ
+aritiesOf chart = map (λ n. arityOf (entryOperator (entryAt chart n))) (numbers 0 32)

@@ -9,7 +9,11 @@ ghost use lib.ListN.{length};
 ghost use lib.Signed.{leZ};
 ghost use Rattle.model.specs.Capacity.{capacity};
 ghost use Rattle.table.specs.Table.{storedRow, modelRow, putRow, fill, areZeros, zeroed};
+ghost use Rattle.table.specs.Operators.{entryOperator, arityOf, aritiesOf};
 ghost use Rattle.table.specs.Ends.{Ordered, endsBefore, countEnding, endingBefore, endingBy};
+use chart::Chart;
+use chart::Entry;
+use chart::operator::Shape;
 
 // How many rows a table of `len` numbers holds.
 pub fn rows_that_fit(len: usize) -> usize
@@ -146,4 +150,32 @@ fn count_ending(table: &[i32], rows: usize, e: i32, included: bool) -> usize
         }
     }
     low
+}
+
+// How many references the rows of each entry are written with; an event's row has none. One look at each entry.
+pub fn arities_of(chart: Chart) -> [u8; 32]
+    ensures { λ r. ⌜ r ≡ aritiesOf chart ⌝ }
+{
+    let mut arities = [0u8; 32];
+    let mut n: usize = 0;
+    while n < 32 {
+        let e = chart.entries[n];
+        arities[n] = arity_of(e);
+        n += 1;
+    }
+    arities
+}
+
+// How many references the rows of an entry are written with.
+fn arity_of(e: Entry) -> u8
+    ensures { λ r. ⌜ r ≡ arityOf (entryOperator e) ⌝ }
+{
+    let kind = chart::operator::kind_of(e.op);
+    let shape = chart::operator::shape_of(kind);
+    match shape {
+        Shape::Leaf => 0,
+        Shape::Single => 1,
+        Shape::Arms => 2,
+        Shape::Double => 2,
+    }
 }

@@ -1,4 +1,3 @@
-pub mod Arities
 pub mod References
 pub mod Lengths
 pub mod Written

@@ -15,10 +15,6 @@ use Rattle.table.specs.Operators.{entryOperator}
 use Rattle.tree.specs.Tree.{arityOf, arityAt}
 use Rattle.tree.specs.declared.Node.{Node}
 
--- the arity of each of the 32 entries
-unfoldable pub aritiesOf : Chart → List ℕ
-aritiesOf chart = map (λ n. arityOf (entryOperator (entryAt chart n))) (numbers 0 32)
-
 -- what row i's tree is made of
 unfoldable pub nodeAt : List ℕ → List ℤ → ℕ → Node
 nodeAt arities t i = record { arity = arityAt arities t i; left = cell t i 1; right = cell t i 2 }

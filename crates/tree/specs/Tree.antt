@@ -8,9 +8,10 @@ use lib.Dec.{leb}
 use lib.IntN.{ℤ, pos, negsuc, natAbs}
 use lib.ListN.{length, getD}
 use Rattle.decimal.specs.Spelling.{spelled}
-use Rattle.model.specs.Recognitions.{Event, Operator, event, related, or, absence, lasting, only, left, right, Recognition, ofEvent, ofOne, ofTwo}
+use Rattle.model.specs.Recognitions.{Event, Operator, only, left, right, Recognition, ofEvent, ofOne, ofTwo}
 use Rattle.model.specs.Statements.{IsRecognition, Reads}
 use Rattle.table.specs.Table.{cell, rowsIn}
+use Rattle.table.specs.Operators.{arityOf}
 
 -- The bytes of a recognition. 101 is `e`, 60 `<`, 62 `>`, 44 the comma and 95 `_`.
 unfoldable pub recognitionBytes : Recognition → List ℕ
@@ -20,15 +21,7 @@ recognitionBytes (ofOne n left r) = 60 ∷ recognitionBytes r ++ 44 ∷ 95 ∷ 6
 recognitionBytes (ofOne n right r) = 60 ∷ 95 ∷ 44 ∷ recognitionBytes r ++ 62 ∷ []
 recognitionBytes (ofTwo n r s) = 60 ∷ recognitionBytes r ++ (44 ∷ recognitionBytes s ++ 62 ∷ [])
 
--- The same on the flat table. How many references a row of an operator is written with; of the two of an `or` one is none
-unfoldable pub arityOf : Operator → ℕ
-arityOf (event k) = 0
-arityOf (related c a b) = 2
-arityOf (or a b) = 2
-arityOf (absence c a b) = 1
-arityOf (lasting c a d) = 1
-
--- a row from its arity, its number left and the bytes of its references
+-- The same on the flat table: a row from its arity, its number left and the bytes of its references
 unfoldable pub rowBytes : ℕ → ℤ → List ℕ → List ℕ → List ℕ
 rowBytes zero s l r = 101 ∷ spelled s
 rowBytes (suc zero) s l r = 60 ∷ l ++ 62 ∷ []

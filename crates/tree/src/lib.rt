@@ -8,13 +8,11 @@ ghost use lib.Signed.{leZ};
 ghost use lib.ListN.{length, drop};
 ghost use lib.Seq.{sets};
 ghost use Rattle.decimal.specs.Spelling.{spelled};
-ghost use Rattle.table.specs.Operators.{entryOperator, operatorsOf};
+ghost use Rattle.table.specs.Operators.{operatorsOf};
 ghost use Rattle.table.specs.Ready.{Ready};
-ghost use Rattle.tree.specs.Tree.{arityOf, referenceBytes, treeOver, treeBytes, lengthWithin};
-ghost use Rattle.tree.specs.Following.{aritiesOf, delimitersOf, nodeAt, Followable};
+ghost use Rattle.tree.specs.Tree.{referenceBytes, treeOver, treeBytes, lengthWithin};
+ghost use Rattle.tree.specs.Following.{delimitersOf, nodeAt, Followable};
 use chart::Chart;
-use chart::Entry;
-use chart::operator::Kind;
 
 // What a row's tree is made of: how many references it is written with, and its numbers left and right.
 struct Node {
@@ -31,7 +29,7 @@ pub fn tree_length(chart: Chart, table: &[i32], rows: usize, i: usize, limit: us
     requires { ⌜ Ready chart rows (now table) × (i < rows) ⌝ }
     ensures { λ r. ⌜ r ≡ lengthWithin limit (treeBytes (operatorsOf chart) (now (table .entry)) i) ⌝ }
 {
-    let arities = arities_of(chart);
+    let arities = table::arities_of(chart);
     reference_length(&arities, table, i as i32, limit)
 }
 
@@ -41,7 +39,7 @@ pub fn write_tree(chart: Chart, table: &[i32], rows: usize, i: usize, out: &mut 
     requires { ⌜ Ready chart rows (now table) × (i < rows) × (length (treeBytes (operatorsOf chart) (now table) i) ≤ length (now out)) ⌝ }
     ensures { λ r. ⌜ (r ≡ length (treeBytes (operatorsOf chart) (now (table .entry)) i)) × (now (out .exit) ≡ treeBytes (operatorsOf chart) (now (table .entry)) i ++ drop (length (treeBytes (operatorsOf chart) (now (table .entry)) i)) (now (out .entry))) ⌝ }
 {
-    let arities = arities_of(chart);
+    let arities = table::arities_of(chart);
     write_reference(&arities, table, i as i32, out, 0)
 }
 
@@ -148,33 +146,4 @@ fn delimiters_of(arity: u8) -> usize
     ensures { λ r. ⌜ r ≡ delimitersOf arity ⌝ }
 {
     if arity == 1 { 2 } else { 3 }
-}
-
-// How many references the rows of each entry are written with. One look at each entry.
-fn arities_of(chart: Chart) -> [u8; 32]
-    ensures { λ r. ⌜ r ≡ aritiesOf chart ⌝ }
-{
-    let mut arities = [0u8; 32];
-    let mut n: usize = 0;
-    while n < 32 {
-        let e = chart.entries[n];
-        arities[n] = arity_of(e);
-        n += 1;
-    }
-    arities
-}
-
-// How many references the rows of an entry are written with. Constant time.
-fn arity_of(e: Entry) -> u8
-    ensures { λ r. ⌜ r ≡ arityOf (entryOperator e) ⌝ }
-{
-    let k = chart::operator::kind_of(e.op);
-    match k {
-        Kind::Event => 0,
-        Kind::Or => 2,
-        Kind::Pair(_) => 2,
-        Kind::Absence(_) => 1,
-        Kind::Length(_) => 1,
-        Kind::Unknown => 0,
-    }
 }

@@ -6,6 +6,5 @@ pub mod Numbers
 pub mod Demands
 pub mod Calls
 pub mod Steps
-pub mod Ends
 pub mod Reading
 pub mod Examples

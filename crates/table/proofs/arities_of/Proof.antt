@@ -2,9 +2,9 @@
 use Prim.Native.Nat.{_-_, _≤_}
 use native.Mathlib.Omega.{arith}
 use borrow.Author.Needs.{needs}
-use Rattle.tree.proofs.Arities.{Filled, filled-none, filled-more, filled-all}
-use Rattle.tree.proofs.arities_of.Statement.{statement}
-use Rattle.tree.proofs.arities_of.Tie as tie
+use Rattle.table.proofs.Arities.{Filled, filled-none, filled-more, filled-all}
+use Rattle.table.proofs.arities_of.Statement.{statement}
+use Rattle.table.proofs.arities_of.Tie as tie
 
 abbrev Inv-loop : tie.InvT-loop
 Inv-loop chart arities₀ n₀ arities n = (n ≤ 32) × Filled chart n arities

@@ -13,10 +13,8 @@ use Rattle.chart.specs.declared.Chart.{Chart}
 use Rattle.model.specs.Lists.{numbers}
 use Rattle.model.specs.Recognitions.{Operator, event, related, or, absence, lasting}
 use Rattle.model.specs.RowSteps.{isEventAt}
-use Rattle.table.specs.Operators.{entryOperator, operatorsOf}
+use Rattle.table.specs.Operators.{entryOperator, operatorsOf, arityOf, aritiesOf}
 use Rattle.table.proofs.Operators.{operator-at}
-use Rattle.tree.specs.Tree.{arityOf}
-use Rattle.tree.specs.Following.{aritiesOf}
 
 made-at : {A : Type 0} (f : ℕ → A) (d : A) (a n k : ℕ) → k < n → getD (map f (numbers a n)) k d ≡ f (a + k)
 made-at f d a zero k h = absurd (omega arith)

@@ -14,9 +14,9 @@ use Rattle.interval.proofs.Machine.{pos-of}
 use Rattle.model.specs.Lists.{keep, numbers}
 use Rattle.model.specs.Order.{Row}
 use Rattle.model.proofs.History.{keep-length}
 use Rattle.table.specs.Table.{cell, tableRow, rowsIn, cellsOf, flat, part}
 use Rattle.table.proofs.Rows.{rows-none, rows-numbers, rows-snoc, length-rows, length-flat, flat-none, flat-append, flat-snoc}
-use Rattle.forgetting.specs.Ends.{Ordered, endingBefore, endingBy}
+use Rattle.table.specs.Ends.{Ordered, endingBefore, endingBy}
 
 -- numbers that differ fail the test
 not-eq : (a b : ℤ) → (a ≡ b → ⊥) → eqZ a b ≡ false

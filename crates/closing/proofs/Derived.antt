@@ -7,28 +7,36 @@ use mathlib.Core.Path.{_≡_, refl, sym, ap, ap₂, _∙_}
 use mathlib.Core.Logic.{_⊎_, inl, inr}
 use mathlib.Core.Bool.{Bool, true, false, cond, not, _&&_, _||_}
 use mathlib.Core.List.{List, [], _++_, map, map-append}
-use borrow.Author.Tests.{leb-true, leb-false}
-use lib.Dec.{eqb, leb}
+use borrow.Author.Tests.{leb-true, leb-false, ltb-false}
+use lib.Dec.{eqb, leb, ltb}
 use lib.IntN.{ℤ, pos, negsuc, natAbs}
 use lib.ListN.{length, getD, take}
 use lib.Seq.{length-take-le, getD-take}
 use lib.Signed.{leZ}
 use Rattle.interval.specs.Instants.{eqZ, least, greatest}
-use Rattle.interval.specs.Conditions.{isRelated, leftMayEndEarlier, rightMayEndEarlier, isForbidding, hasLength}
+use Rattle.interval.specs.Conditions.{isRelated, endingOf, isForbidding}
 use Rattle.interval.specs.declared.Relation.{Relation}
+use Rattle.interval.specs.declared.Ending.{Ending}
+use Rattle.interval.specs.declared.Ending.the-variants.{Before, Within, Together, Either}
 use Rattle.interval.specs.declared.Edges.{Edges}
 use Rattle.interval.specs.declared.LengthTest.{LengthTest}
-use Rattle.interval.proofs.Signed.{_≤ᶻ_, _<ᶻ_, never, and-first, and-second, eq-true, eq-same, eq-fact, eq-told, le-false, greatest-is, greatest-most, antisym}
-use Rattle.interval.proofs.Laws.{EndsAt, related-ends-at, forbidding-inside}
+use Rattle.interval.proofs.Signed.{_≤ᶻ_, _<ᶻ_, never, and-first, and-second, eq-true, eq-same, eq-fact, eq-told, lt-true, is-le, le-false, greatest-is, greatest-most, antisym}
+use Rattle.interval.proofs.Laws.{Ends, related-ends, forbidding-inside}
 use Rattle.model.specs.Lists.{keep, some, each, numbers}
 use Rattle.model.specs.Recognitions.{Event, Operator, event, related, or, absence, lasting, Arm, only, left, right}
 use Rattle.model.specs.Order.{Row, row, none}
 use Rattle.model.specs.RowSteps.{Node, leaves, leaf, part, pair, of, fits, forbidden, make, rowAt, places, nodeRow, derivedRows, endsAt, numbered}
 use Rattle.model.proofs.Sorted.{keep-append}
 use Rattle.table.specs.Table.{cell, rowsIn}
+use Rattle.table.specs.Ends.{endingBefore}
 use Rattle.table.proofs.Rows.{length-rows, row-at}
-use Rattle.closing.specs.Added.{span, when, eventRow, eventRows, partRow, armRow, armRows, orRows, lengthRow, lengthRows, forbids, isWithin, isForbidden, absenceRow, absenceRows, topOf, pairRow, rightFrom, pairsWith, hasRow, leftFrom, pairRows, addedRows}
-use Rattle.closing.proofs.Spans.{each-same, none-at, some-same, each-numbered, some-snoc, some-none, each-from, each-nothing, span-same, keep-keep, some-keep, kept-ones, kept-each, some-front}
+use Rattle.table.proofs.Ends.{counted-passes}
+use Rattle.table.proofs.EndParts.{ends-low, ends-few}
+use Rattle.closing.specs.declared.Taken.{Taken}
+use Rattle.closing.specs.declared.Taken.the-variants.{All, Lasting}
+use Rattle.closing.specs.Added.{pendingAt, span, when, eventRow, eventRows, partRow, isLong, takenRow, takenRows, orRows, forbids, isWithin, isForbidden, absenceRow, absenceRows, topOf, pairRow, rightBy, rightFrom, pairsOf, pairsWith, nextRow, leastStart, leftBy, leftFrom, pairRows, addedRows}
+use Rattle.closing.proofs.Spans.{each-same, none-at, some-same, each-numbered, some-snoc, some-none, each-from, each-nothing, span-same, keep-keep, keep-all, some-keep, kept-ones, kept-each, some-front}
+use Rattle.closing.proofs.Searches.{next-none, least-start}
 use Rattle.closing.proofs.Laws.{top-le, top-rest}
 
 -- a table while the instant o is closed: m rows from before, which end before o; the others of its n rows end at o
@@ -92,9 +100,16 @@ module _ (o : ℤ) (m n : ℕ) (t : List ℤ) (g : Grown o m n t) (entry : ℕ) 
   abbrev derived : List (Node ℕ) → List Row
   derived xs = keep (λ r. endsAt o (r .start) (r .end)) (map (nodeRow (rowsIn n t) entry) xs)
 
-  arm-derived : (side : Arm) (a : ℕ) → derived (map (part side) (of (places (rowsIn n t)) a (numbers 0 (length (rowsIn n t))))) ≡ armRows side entry (pos a) m n t
-  unfolding armRows armRow
-  arm-derived side a = parts side (λ i. eqb ((rowAt (rowsIn n t) i) .entry) a) (λ i. eqZ (cell t i 0) (pos a)) (of-entry a)
+  taken-derived : (side : Arm) (a : ℕ) (k : Taken) → derived (map (part side) (keep (λ i. isLong k ((rowAt (rowsIn n t) i) .start) ((rowAt (rowsIn n t) i) .end)) (of (places (rowsIn n t)) a (numbers 0 (length (rowsIn n t)))))) ≡ takenRows side entry (pos a) k m n t
+  unfolding takenRows takenRow
+  taken-derived side a k =
+      let q : ℕ → Bool = λ i. eqb ((rowAt (rowsIn n t) i) .entry) a in
+      let p : ℕ → Bool = λ i. isLong k ((rowAt (rowsIn n t) i) .start) ((rowAt (rowsIn n t) i) .end) in
+      ap (λ l. derived (map (part side) l)) (keep-keep p q (numbers 0 (length (rowsIn n t))))
+      ∙ parts side (λ i. q i && p i) (λ i. eqZ (cell t i 0) (pos a) && isLong k (cell t i 3) (cell t i 4)) (λ i h. ap₂ _&&_ (of-entry a i h) (rw (row-at n i t h)))
+
+  arm-derived : (side : Arm) (a : ℕ) → derived (map (part side) (of (places (rowsIn n t)) a (numbers 0 (length (rowsIn n t))))) ≡ takenRows side entry (pos a) All m n t
+  arm-derived side a = ap (λ l. derived (map (part side) l)) (sym (keep-all (of (places (rowsIn n t)) a (numbers 0 (length (rowsIn n t)))))) ∙ taken-derived side a All
 
   or-derived : (a b : ℕ) → derived (map (part left) (of (places (rowsIn n t)) a (numbers 0 (length (rowsIn n t)))) ++ map (part right) (of (places (rowsIn n t)) b (numbers 0 (length (rowsIn n t))))) ≡ orRows entry (pos a) (pos b) m n t
   unfolding orRows
@@ -105,13 +120,9 @@ module _ (o : ℤ) (m n : ℕ) (t : List ℤ) (g : Grown o m n t) (entry : ℕ) 
       ∙ keep-append (λ r. endsAt o (r .start) (r .end)) (map (nodeRow (rowsIn n t) entry) xs) (map (nodeRow (rowsIn n t) entry) ys)
       ∙ ap₂ _++_ (arm-derived left a) (arm-derived right b)
 
-  length-derived : (c : LengthTest) (a d : ℕ) → derived (make (places (rowsIn n t)) (lasting c a d) [] (numbers 0 (length (rowsIn n t)))) ≡ lengthRows c d entry (pos a) m n t
-  unfolding lengthRows lengthRow partRow
-  length-derived c a d =
-      let q : ℕ → Bool = λ i. eqb ((rowAt (rowsIn n t) i) .entry) a in
-      let p : ℕ → Bool = λ i. hasLength c d ((rowAt (rowsIn n t) i) .start) ((rowAt (rowsIn n t) i) .end) in
-      ap (λ l. derived (map (part only) l)) (keep-keep p q (numbers 0 (length (rowsIn n t))))
-      ∙ parts only (λ i. q i && p i) (λ i. eqZ (cell t i 0) (pos a) && hasLength c d (cell t i 3) (cell t i 4)) (λ i h. ap₂ _&&_ (of-entry a i h) (rw (row-at n i t h)))
+  length-derived : (c : LengthTest) (a d : ℕ) → derived (make (places (rowsIn n t)) (lasting c a d) [] (numbers 0 (length (rowsIn n t)))) ≡ takenRows left entry (pos a) (Lasting c d) m n t
+  unfolding takenRows takenRow partRow
+  length-derived c a d = taken-derived only a (Lasting c d)
 
   -- the backward search: the rows that it does not look at forbid nothing
   module _ (e : Edges) (b r : ℕ) (hr : r < n) where
@@ -170,7 +181,7 @@ module _ (o : ℤ) (m n : ℕ) (t : List ℤ) (g : Grown o m n t) (entry : ℕ) 
       ∙ parts only (λ i. q i && p i) (λ i. eqZ (cell t i 0) (pos a) && not (isForbidden e (pos b) (cell t i 3) (cell t i 4) t (topOf (pos b) n t))) (λ i h. ap₂ _&&_ (of-entry a i h) (ap not (forbidden-is e b i h)))
 
   -- the events
-  event-derived : (k first pending : ℕ) (codes : List ℕ) → pending ≤ length codes → derived (leaves k (numbered o first (take pending codes))) ≡ eventRows entry k o first pending codes
+  event-derived : (k first pending : ℕ) (codes : List ℕ) → pending ≤ length codes → derived (leaves k (numbered o first (take pending codes))) ≡ eventRows entry k (pendingAt o first pending) codes
   unfolding eventRows eventRow
   event-derived k first pending codes h =
       rw (sub-zero pending)
@@ -195,15 +206,19 @@ module _ (o : ℤ) (m n : ℕ) (t : List ℤ) (g : Grown o m n t) (entry : ℕ) 
     paired-is : (r s : ℕ) → r < n → s < n → paired r s ≡ cond (isPair r s) (when (eqZ (greatest (cell t r 4) (cell t s 4)) o) (pairAt r s)) []
     paired-is r s h k = rw (of-entry b s k, row-at n r t h, row-at n s t k)
 
+    -- where the rows r and s end if they are a pair that ends at the instant
+    abbrev EndsBy : Ending → ℕ → ℕ → Type 0
+    EndsBy v r s = Ends v (cell t r 4) (cell t s 3) (cell t s 4) o
+
     -- a pair that is none, or ends elsewhere
-    paired-none : (r s : ℕ) → r < n → s < n → (eqZ (cell t s 0) (pos b) ≡ true → EndsAt c (cell t r 4) (cell t s 4) o → ⊥) → paired r s ≡ []
+    paired-none : (r s : ℕ) → r < n → s < n → (eqZ (cell t s 0) (pos b) ≡ true → EndsBy (endingOf c) r s → ⊥) → paired r s ≡ []
     paired-none r s h k f = paired-is r s h k ∙ go (isPair r s) refl (eqZ (greatest (cell t r 4) (cell t s 4)) o) refl
       where
         go : (x : Bool) → isPair r s ≡ x → (y : Bool) → eqZ (greatest (cell t r 4) (cell t s 4)) o ≡ y → cond x (when y (pairAt r s)) [] ≡ []
         go true p true q =
             let p₁ = and-first (eqZ (cell t s 0) (pos b)) (isRelated c (cell t r 3) (cell t r 4) (cell t s 3) (cell t s 4)) p in
             let p₂ = and-second (eqZ (cell t s 0) (pos b)) (isRelated c (cell t r 3) (cell t r 4) (cell t s 3) (cell t s 4)) p in
-            absurd (f p₁ (related-ends-at c (cell t r 3) (cell t r 4) (cell t s 3) (cell t s 4) o (g .proper r h) (g .proper s k) p₂ (eq-true (greatest (cell t r 4) (cell t s 4)) o q)))
+            absurd (f p₁ (related-ends c (cell t r 3) (cell t r 4) (cell t s 3) (cell t s 4) o (g .proper r h) (g .proper s k) p₂ (eq-true (greatest (cell t r 4) (cell t s 4)) o q)))
         go true p false q = refl
         go false p y q = refl
 
@@ -223,64 +238,91 @@ module _ (o : ℤ) (m n : ℕ) (t : List ℤ) (g : Grown o m n t) (entry : ℕ) 
     paired-new r s h k w = paired-is r s h k ∙ rw (pair-ends r s h k w)
 
     -- where the search for s begins
-    record Right (r k : ℕ) : Type 0 where
+    record Right (v : Ending) (r k : ℕ) : Type 0 where
       within : k ≤ n
-      before : (s : ℕ) → s < k → (s < m) × ((rightMayEndEarlier c ≡ false) ⊎ (r < m))
+      before : (s : ℕ) → s < k → EndsBy v r s → ⊥
       from : (s : ℕ) → k ≤ s → (m ≤ r) ⊎ (m ≤ s)
 
-    right-from : (r : ℕ) → Right r (rightFrom c m r)
-    unfolding rightFrom
-    right-from r = go (rightMayEndEarlier c) refl (leb m r) refl
-      where
-        go : (x : Bool) → rightMayEndEarlier c ≡ x → (y : Bool) → leb m r ≡ y → Right r (cond (x && y) 0 m)
-        go true p true q = record { within = omega arith; before = λ s h. absurd (omega arith); from = λ s h. inl (leb-true m r q) }
-        go true p false q = record { within = g .few; before = λ s h. (h, inr (leb-false m r q)); from = λ s h. inr h }
-        go false p y q = record { within = g .few; before = λ s h. (h, inl p); from = λ s h. inr h }
+    new-only : (v : Ending) (r : ℕ) → ((s : ℕ) → s < m → EndsBy v r s → ⊥) → Right v r m
+    new-only v r f = record { within = g .few; before = f; from = λ s h. inr h }
 
-    inner : (r : ℕ) → r < n → each (paired r) (numbers 0 n) ≡ each (pairRow c entry (pos b) r (cell t r 3) (cell t r 4) t) (span (rightFrom c m r) n)
+    either-old : {r s : ℕ} → r < m → s < m → (cell t r 4 ≡ o) ⊎ (cell t s 4 ≡ o) → ⊥
+    either-old h k (inl e) = old-not _ h e
+    either-old h k (inr e) = old-not _ k e
+
+    right-from : (v : Ending) (r : ℕ) → Right v r (rightBy v m r)
+    right-from Before r = new-only Before r (λ s h w. old-not s h (w .0))
+    right-from Within r = new-only Within r (λ s h w. old-not s h (w .0))
+    right-from Together r = new-only Together r (λ s h w. old-not s h (w .1))
+    right-from Either r = go (leb m r) refl
+      where
+        go : (x : Bool) → leb m r ≡ x → Right Either r (cond x 0 m)
+        go true q = record { within = omega arith; before = λ s h. absurd (omega arith); from = λ s h. inl (leb-true m r q) }
+        go false q = new-only Either r (λ s h w. either-old (leb-false m r q) h w)
+
+    inner : (r : ℕ) → r < n → each (paired r) (numbers 0 n) ≡ pairsOf c entry (pos b) m n t r
+    unfolding pairsOf
     inner r h =
-        let w = right-from r in
-        each-from (paired r) (rightFrom c m r) n (w .within) (λ s k. let z = w .before s k in paired-none r s h (omega (arith, w .within)) (λ e v. left-out (z .0) (z .1) v))
+        let w = right-from (endingOf c) r in
+        each-from (paired r) (rightFrom c m r) n (w .within) (λ s k. paired-none r s h (omega (arith, w .within)) (λ e v. w .before s k v))
         ∙ span-same (paired r) (pairRow c entry (pos b) r (cell t r 3) (cell t r 4) t) (rightFrom c m r) n (λ s k l. paired-new r s h l (w .from s k))
-      where
-        either-old : {s : ℕ} → s < m → r < m → (cell t r 4 ≡ o) ⊎ (cell t s 4 ≡ o) → ⊥
-        either-old k l (inl e) = old-not r l e
-        either-old k l (inr e) = old-not _ k e
-
-        left-out : {s : ℕ} → s < m → (rightMayEndEarlier c ≡ false) ⊎ (r < m) → EndsAt c (cell t r 4) (cell t s 4) o → ⊥
-        left-out k (inl e) v = old-not _ k (v .right e)
-        left-out k (inr l) v = either-old k l (v .one)
 
     -- where the search for r begins
-    record Left (k : ℕ) : Type 0 where
+    record Left (v : Ending) (k : ℕ) : Type 0 where
       within : k ≤ n
-      before : (r s : ℕ) → r < k → s < n → eqZ (cell t s 0) (pos b) ≡ true → EndsAt c (cell t r 4) (cell t s 4) o → ⊥
+      before : (r s : ℕ) → r < k → s < n → eqZ (cell t s 0) (pos b) ≡ true → EndsBy v r s → ⊥
 
-    -- no row of b is new: none ends at the instant
-    none-new : hasRow (pos b) m n t ≡ false → (s : ℕ) → s < n → eqZ (cell t s 0) (pos b) ≡ true → cell t s 4 ≡ o → ⊥
-    unfolding hasRow
-    none-new z s h e w = go (leb m s) refl
+    abbrev first : ℕ
+    first = nextRow (pos b) m n t
+
+    -- a row of b that ends at the instant is new, and none stands before the first new one
+    new-row : (s : ℕ) → s < n → eqZ (cell t s 0) (pos b) ≡ true → cell t s 4 ≡ o → first ≤ s
+    new-row s h e w = go (leb m s) refl (leb first s) refl
       where
-        go : (x : Bool) → leb m s ≡ x → ⊥
-        go true p = never (sym (none-at (λ i. eqZ (cell t i 0) (pos b)) m (n - m) z s (leb-true m s p) (omega (arith, g .few))) ∙ e)
-        go false p = old-not s (leb-false m s p) w
+        go : (x : Bool) → leb m s ≡ x → (y : Bool) → leb first s ≡ y → first ≤ s
+        go true p true q = leb-true first s q
+        go true p false q = never (sym (next-none (pos b) t m n s (leb-true m s p) (leb-false first s q)) ∙ e)
+        go false p y q = absurd (old-not s (leb-false m s p) w)
 
-    left-from : Left (leftFrom c (pos b) m n t)
+    none-before : (v : Ending) → Left v 0
+    none-before v = record { within = omega arith; before = λ r s h. absurd (omega arith) }
+
+    -- no row r before the first that ends at the start of a new s or later
+    reaching : Left Within (endingBefore m (leastStart (pos b) first n t) t)
+    reaching = record {
+      within = omega (arith, ends-low (leastStart (pos b) first n t) m t, ends-few (leastStart (pos b) first n t) m t, g .few);
+      before = λ r s h k e w. omega (arith, lt-true (cell t r 4) (leastStart (pos b) first n t) (counted-passes false m (leastStart (pos b) first n t) t (λ i j p q. is-le (cell t i 4) (cell t j 4) (g .ordered i j p q)) r h), least-start (pos b) t first n s (new-row s k e (w .0)) k e, w .1);
+    }
+
+    left-from : (v : Ending) → Left v (leftFrom v (pos b) m n t)
     unfolding leftFrom
-    left-from = go (hasRow (pos b) m n t) refl (leftMayEndEarlier c) refl (rightMayEndEarlier c) refl
+    left-from v = go v (ltb first n) refl
       where
-        new-left : {r : ℕ} → r < m → hasRow (pos b) m n t ≡ false → (s : ℕ) → s < n → eqZ (cell t s 0) (pos b) ≡ true → (cell t r 4 ≡ o) ⊎ (cell t s 4 ≡ o) → ⊥
-        new-left h z s k e (inl w) = old-not _ h w
-        new-left h z s k e (inr w) = none-new z s k e w
+        late : ltb first n ≡ false → (s : ℕ) → s < n → eqZ (cell t s 0) (pos b) ≡ true → cell t s 4 ≡ o → ⊥
+        late p s k e w = omega (arith, ltb-false first n p, new-row s k e w)
 
-        go : (x : Bool) → hasRow (pos b) m n t ≡ x → (y : Bool) → leftMayEndEarlier c ≡ y → (z : Bool) → rightMayEndEarlier c ≡ z → Left (cond x (cond y 0 m) (cond z m n))
-        go true p true q z u = record { within = omega arith; before = λ r s h. absurd (omega arith) }
-        go true p false q z u = record { within = g .few; before = λ r s h k e v. old-not r h (v .left q) }
-        go false p y q true u = record { within = g .few; before = λ r s h k e v. new-left h p s k e (v .one) }
-        go false p y q false u = record { within = omega arith; before = λ r s h k e v. none-new p s k e (v .right u) }
+        all : (v : Ending) → ((r s : ℕ) → s < n → eqZ (cell t s 0) (pos b) ≡ true → EndsBy v r s → ⊥) → Left v n
+        all v f = record { within = omega arith; before = λ r s h k e w. f r s k e w }
 
-    abbrev pairsOf : ℕ → List Row
-    pairsOf r = cond (eqb ((rowAt (rowsIn n t) r) .entry) a) (derived (map (pair r) (keep (fits (places (rowsIn n t)) c r) (of (places (rowsIn n t)) b (numbers 0 (length (rowsIn n t))))))) []
+        old : (v : Ending) → ((r s : ℕ) → r < m → s < n → eqZ (cell t s 0) (pos b) ≡ true → EndsBy v r s → ⊥) → Left v m
+        old v f = record { within = g .few; before = f }
+
+        either : ltb first n ≡ false → {r s : ℕ} → r < m → s < n → eqZ (cell t s 0) (pos b) ≡ true → (cell t r 4 ≡ o) ⊎ (cell t s 4 ≡ o) → ⊥
+        either p h k e (inl w) = old-not _ h w
+        either p h k e (inr w) = late p _ k e w
+
+        go : (v : Ending) (x : Bool) → ltb first n ≡ x → Left v (leftBy v x (pos b) m n t)
+        go Before true p = none-before Before
+        go Before false p = all Before (λ r s k e w. late p s k e (w .0))
+        go Within true p = reaching
+        go Within false p = all Within (λ r s k e w. late p s k e (w .0))
+        go Together true p = old Together (λ r s h k e w. old-not r h (w .0))
+        go Together false p = all Together (λ r s k e w. late p s k e (w .1))
+        go Either true p = none-before Either
+        go Either false p = old Either (λ r s h k e w. either p h k e w)
+
+    abbrev madeWith : ℕ → List Row
+    madeWith r = cond (eqb ((rowAt (rowsIn n t) r) .entry) a) (derived (map (pair r) (keep (fits (places (rowsIn n t)) c r) (of (places (rowsIn n t)) b (numbers 0 (length (rowsIn n t))))))) []
 
     of-pairs : (r : ℕ) → derived (map (pair r) (keep (fits (places (rowsIn n t)) c r) (of (places (rowsIn n t)) b (numbers 0 (length (rowsIn n t)))))) ≡ each (paired r) (numbers 0 n)
     of-pairs r =
@@ -290,9 +332,9 @@ module _ (o : ℤ) (m n : ℕ) (t : List ℤ) (g : Grown o m n t) (entry : ℕ) 
         ∙ ap (λ k. derived (map (pair r) (keep (λ s. q s && fits v c r s) (numbers 0 k)))) (length-rows n t)
         ∙ kept-ones (λ x. endsAt o (x .start) (x .end)) (nodeRow (rowsIn n t) entry) (pair r) (λ s. q s && fits v c r s) (numbers 0 n)
 
-    pairs-old : (r : ℕ) → r < leftFrom c (pos b) m n t → pairsOf r ≡ []
+    pairs-old : (r : ℕ) → r < leftFrom (endingOf c) (pos b) m n t → madeWith r ≡ []
     pairs-old r h =
-        let w = left-from in
+        let w = left-from (endingOf c) in
         let l : r < n = omega (arith, w .within) in
         rw (of-pairs r ∙ each-nothing (paired r) n (λ s k. paired-none r s l k (w .before r s h k))) (go (eqb ((rowAt (rowsIn n t) r) .entry) a))
       where
@@ -300,7 +342,7 @@ module _ (o : ℤ) (m n : ℕ) (t : List ℤ) (g : Grown o m n t) (entry : ℕ) 
         go true = refl
         go false = refl
 
-    pairs-new : (r : ℕ) → r < n → pairsOf r ≡ pairsWith c entry (pos a) (pos b) m n t r
+    pairs-new : (r : ℕ) → r < n → madeWith r ≡ pairsWith c entry (pos a) (pos b) m n t r
     unfolding pairsWith
     pairs-new r h = rw (of-entry a r h, of-pairs r ∙ inner r h)
 
@@ -310,12 +352,12 @@ module _ (o : ℤ) (m n : ℕ) (t : List ℤ) (g : Grown o m n t) (entry : ℕ) 
         let v = places (rowsIn n t) in
         let xs = numbers 0 (length (rowsIn n t)) in
         kept-each (λ x. endsAt o (x .start) (x .end)) (nodeRow (rowsIn n t) entry) (λ r. map (pair r) (keep (fits v c r) (of v b xs))) (λ r. eqb (v .entry r) a) xs
-        ∙ ap (λ k. each pairsOf (numbers 0 k)) (length-rows n t)
-        ∙ each-from pairsOf (leftFrom c (pos b) m n t) n (left-from .within) pairs-old
-        ∙ span-same pairsOf (pairsWith c entry (pos a) (pos b) m n t) (leftFrom c (pos b) m n t) n (λ r k h. pairs-new r h)
+        ∙ ap (λ k. each madeWith (numbers 0 k)) (length-rows n t)
+        ∙ each-from madeWith (leftFrom (endingOf c) (pos b) m n t) n (left-from (endingOf c) .within) pairs-old
+        ∙ span-same madeWith (pairsWith c entry (pos a) (pos b) m n t) (leftFrom (endingOf c) (pos b) m n t) n (λ r k h. pairs-new r h)
 
   -- what an entry derives
-  pub derived-is : (op : Operator) (first pending : ℕ) (codes : List ℕ) → pending ≤ length codes → derivedRows (record { entry = entry; operator = op; test = endsAt o }) (numbered o first (take pending codes)) (rowsIn n t) ≡ addedRows op entry o first pending codes m n t
+  pub derived-is : (op : Operator) (first pending : ℕ) (codes : List ℕ) → pending ≤ length codes → derivedRows (record { entry = entry; operator = op; test = endsAt o }) (numbered o first (take pending codes)) (rowsIn n t) ≡ addedRows op entry (pendingAt o first pending) codes m n t
   unfolding addedRows
   derived-is (event k) first pending codes h = event-derived k first pending codes h
   derived-is (related c a b) first pending codes h = pair-derived c a b

@@ -9,7 +9,8 @@ use Rattle.model.specs.Lists.{each}
 use Rattle.model.specs.Order.{Row}
 use Rattle.table.specs.Table.{cell, Filled, filled, fill}
 use Rattle.table.proofs.Fill.{fill-none, fill-count-least, fill-append, fill-append-full, fill-kept, fill-length}
-use Rattle.closing.specs.Added.{Appendable, Appended, span}
+use Rattle.closing.specs.declared.Frame.{Frame}
+use Rattle.closing.specs.Added.{Appendable, FilledBy, span}
 use Rattle.closing.proofs.Spans.{each-on, each-none, each-past}
 
 -- the first n rows of t are those of u
@@ -25,7 +26,7 @@ pub record Filling (room n₀ : ℕ) (all : List Row) (t₀ : List ℤ) (n : ℕ
   pub on : fill room n rest t ≡ fill room n₀ all t₀
 
 -- nothing is to be appended
-pub nothing : (room n : ℕ) (all : List Row) (t : List ℤ) → all ≡ [] → Appended room n all t n t
+pub nothing : (room n : ℕ) (all : List Row) (t : List ℤ) → all ≡ [] → FilledBy room n all t n t
 nothing room n all t e =
     let z : filled n t ≡ fill room n all t = sym (fill-none room n t) ∙ ap (λ l. fill room n l t) (sym e) in
     (ap (λ (x : Filled). x .count) z, ap (λ (x : Filled). x .table) z)
@@ -35,7 +36,7 @@ begin room n all t h = record { least = omega arith; most = h; size = refl; kept
 
 module _ {room n₀ : ℕ} {all : List Row} {t₀ : List ℤ} {n : ℕ} {rest : List Row} {t : List ℤ} (f : Filling room n₀ all t₀ n rest t) where
   -- some were appended, and there was room for them
-  pub next : (rs qs : List Row) (k : ℕ) (u : List ℤ) → rest ≡ rs ++ qs → Appended room n rs t k u → k ≤ room → Filling room n₀ all t₀ k qs u
+  pub next : (rs qs : List Row) (k : ℕ) (u : List ℤ) → rest ≡ rs ++ qs → FilledBy room n rs t k u → k ≤ room → Filling room n₀ all t₀ k qs u
   next rs qs k u e d h =
       let c : k ≡ (fill room n rs t) .count = d .0 in
       let l : n ≤ (fill room n rs t) .count = fill-count-least room n rs t (f .most) in
@@ -49,7 +50,7 @@ module _ {room n₀ : ℕ} {all : List Row} {t₀ : List ℤ} {n : ℕ} {rest : 
       }
 
   -- there was no room
-  pub full : (rs qs : List Row) (k : ℕ) (u : List ℤ) → rest ≡ rs ++ qs → Appended room n rs t k u → room < k → Appended room n₀ all t₀ k u
+  pub full : (rs qs : List Row) (k : ℕ) (u : List ℤ) → rest ≡ rs ++ qs → FilledBy room n rs t k u → room < k → FilledBy room n₀ all t₀ k u
   full rs qs k u e d h =
       let c : k ≡ (fill room n rs t) .count = d .0 in
       let w : room < (fill room n rs t) .count = omega arith in
@@ -57,20 +58,20 @@ module _ {room n₀ : ℕ} {all : List Row} {t₀ : List ℤ} {n : ℕ} {rest : 
       (d .0 ∙ ap (λ (x : Filled). x .count) z, d .1 ∙ ap (λ (x : Filled). x .table) z)
 
   -- all that was left was appended
-  pub last : {k : ℕ} {u : List ℤ} → Appended room n rest t k u → Appended room n₀ all t₀ k u
+  pub last : {k : ℕ} {u : List ℤ} → FilledBy room n rest t k u → FilledBy room n₀ all t₀ k u
   last d = (d .0 ∙ ap (λ (x : Filled). x .count) (f .on), d .1 ∙ ap (λ (x : Filled). x .table) (f .on))
 
   -- nothing is left
-  pub ended : rest ≡ [] → Appended room n₀ all t₀ n t
+  pub ended : rest ≡ [] → FilledBy room n₀ all t₀ n t
   ended e = last (nothing room n rest t e)
 
 -- a loop that appends h i at each number i from one on to before e
 module _ {room n₀ : ℕ} {all : List Row} {t₀ : List ℤ} {n : ℕ} {t : List ℤ} (h : ℕ → List Row) (i e : ℕ) (f : Filling room n₀ all t₀ n (each h (span i e)) t) where
-  module _ {rs : List Row} {k : ℕ} {u : List ℤ} (l : i < e) (same : rs ≡ h i) (d : Appended room n rs t k u) where
+  module _ {rs : List Row} {k : ℕ} {u : List ℤ} (l : i < e) (same : rs ≡ h i) (d : FilledBy room n rs t k u) where
     pub turn : k ≤ room → Filling room n₀ all t₀ k (each h (span (i + 1) e)) u
     turn = next f rs (each h (span (i + 1) e)) k u (each-on h i e l ∙ ap (λ x. x ++ each h (span (i + 1) e)) (sym same)) d
 
-    pub stop : room < k → Appended room n₀ all t₀ k u
+    pub stop : room < k → FilledBy room n₀ all t₀ k u
     stop = full f rs (each h (span (i + 1) e)) k u (each-on h i e l ∙ ap (λ x. x ++ each h (span (i + 1) e)) (sym same)) d
 
   -- a number at which nothing is to be appended
@@ -93,9 +94,19 @@ module _ {room n₀ : ℕ} {all : List Row} {t₀ : List ℤ} {n : ℕ} {t : Lis
     on = ap (λ x. fill room n x t) (sym (each-past h i k e l g z)) ∙ f .on;
   }
 
-  pub over : e ≤ i → Appended room n₀ all t₀ n t
+  pub over : e ≤ i → FilledBy room n₀ all t₀ n t
   over l = ended f (each-none h i e l)
 
 -- what a function that appends asks, in the middle of a loop
-pub appendable : {room n₀ entry : ℕ} {all : List Row} {t₀ : List ℤ} {n : ℕ} {rest : List Row} {t : List ℤ} → Appendable n₀ room entry t₀ → Filling room n₀ all t₀ n rest t → Appendable n room entry t
-appendable {room} {n₀} {entry} {all} {t₀} {n} {rest} {t} a f = record { fit = f .most; most = a .most; held = omega (arith, a .held, f .size); low = a .low }
+pub appendable : {f : Frame} {n₀ : ℕ} {all : List Row} {t₀ : List ℤ} {n : ℕ} {rest : List Row} {t : List ℤ} → Appendable f n₀ t₀ → Filling (f .room) n₀ all t₀ n rest t → Appendable f n t
+appendable {f} {n₀} {all} {t₀} {n} {rest} {t} a w =
+    let old : (i : ℕ) → i < f .first → cell t i 4 ≡ cell t₀ i 4 = λ i h. w .kept i 4 (omega (arith, a .few, a .inside)) (omega arith) in
+    record {
+      fit = w .most;
+      most = a .most;
+      held = omega (arith, a .held, w .size);
+      above = a .above;
+      few = a .few;
+      inside = omega (arith, a .inside, w .least);
+      ordered = λ i j h k. rw (old i (omega arith), old j k) (a .ordered i j h k);
+    }

@@ -8,11 +8,11 @@ use mathlib.Core.Path.{_≡_, refl, sym, ap, _∙_, subst}
 use mathlib.Core.Logic.{inl, inr}
 use mathlib.Core.Bool.{Bool, true, false, cond, not, _&&_}
 use mathlib.Core.List.{List, [], _∷_, map, List·Memᴰ, List·Memᴰ·head, List·Memᴰ·tail, List·Memᴰ·not-nil, List·Memᴰ·eq-of-singleton, List·Memᴰ·append-cases}
-use lib.Dec.{eqb, leb}
+use lib.Dec.{eqb}
 use lib.IntN.{ℤ, pos}
 use lib.ListN.{length, getD, take}
 use Rattle.interval.specs.Instants.{eqZ, least, greatest}
-use Rattle.interval.specs.Conditions.{isRelated, leftMayEndEarlier, rightMayEndEarlier, hasLength}
+use Rattle.interval.specs.Conditions.{isRelated, endingOf, hasLength}
 use Rattle.interval.specs.declared.Relation.{Relation}
 use Rattle.interval.proofs.Signed.{_≤ᶻ_, lt-true, le-true, is-le, eqZ→}
 use Rattle.interval.proofs.Laws.{start-le-end}
@@ -26,7 +26,8 @@ use Rattle.model.proofs.Rows.{numbers-mem}
 use Rattle.table.specs.Table.{cell, rowsIn, putRow, putRows}
 use Rattle.table.specs.Ready.{Ready, EndBefore}
 use Rattle.table.proofs.Rows.{length-put, cell-other, cell-put, row-put, puts-none, puts-on}
-use Rattle.closing.specs.Added.{span, when, eventRow, eventRows, partRow, armRow, armRows, orRows, lengthRow, lengthRows, isForbidden, absenceRow, absenceRows, topOf, hasRow, pairRow, rightFrom, pairsWith, leftFrom, pairRows, addedRows}
+use Rattle.closing.specs.Added.{pendingAt, span, when, eventRow, eventRows, partRow, takenRow, takenRows, orRows, isForbidden, absenceRow, absenceRows, topOf, pairRow, rightFrom, pairsOf, pairsWith, leftFrom, pairRows, addedRows}
+use Rattle.closing.proofs.Laws.{left-le, right-le}
 use Rattle.closing.proofs.Derived.{Grown, derived-is}
 
 -- before the first entry
@@ -96,58 +97,43 @@ module _ (o : ℤ) (m n : ℕ) (t : List ℤ) (g : Grown o m n t) (entry : ℕ) 
       let p = span-mem (λ i. when (q i) (partRow side entry t i)) m n r k (g .few) in
       subst Proper (sym (when-mem (q (p .0)) (partRow side entry t (p .0)) r (p .2))) (part-proper side (p .0) (p .1))
 
-  event-proper : (k first pending : ℕ) (codes : List ℕ) (r : Row) → List·Memᴰ r (eventRows entry k o first pending codes) → Proper r
+  event-proper : (k first pending : ℕ) (codes : List ℕ) (r : Row) → List·Memᴰ r (eventRows entry k (pendingAt o first pending) codes) → Proper r
   unfolding eventRows eventRow
   event-proper k first pending codes r w =
       let p = each-mem (λ j. when (eqb (getD codes j 0) k) (row entry (pos (first + j)) none o o)) (span 0 pending) w in
       subst Proper (sym (when-mem (eqb (getD codes (p .0) 0) k) (row entry (pos (first + p .0)) none o o) r (p .2))) (omega arith)
 
-  right-low : (c : Relation) (r : ℕ) → rightFrom c m r ≤ n
-  unfolding rightFrom
-  right-low c r = go (rightMayEndEarlier c && leb m r)
-    where
-      go : (b : Bool) → cond b 0 m ≤ n
-      go true = omega arith
-      go false = g .few
-
-  pair-proper : (c : Relation) (b : ℤ) (i : ℕ) → i < n → (r : Row) → List·Memᴰ r (each (pairRow c entry b i (cell t i 3) (cell t i 4) t) (span (rightFrom c m i) n)) → Proper r
-  unfolding pairRow
+  pair-proper : (c : Relation) (b : ℤ) (i : ℕ) → i < n → (r : Row) → List·Memᴰ r (pairsOf c entry b m n t i) → Proper r
+  unfolding pairsOf pairRow
   pair-proper c b i h r k =
       let f : ℕ → List Row = λ s. when (eqZ (cell t s 0) b && isRelated c (cell t i 3) (cell t i 4) (cell t s 3) (cell t s 4)) (row entry (pos i) (pos s) (least (cell t i 3) (cell t s 3)) (greatest (cell t i 4) (cell t s 4))) in
-      let p = span-mem f (rightFrom c m i) n r k (right-low c i) in
+      let p = span-mem f (rightFrom c m i) n r k (right-le (endingOf c) m i n (g .few)) in
       let s = p .0 in
       subst Proper (sym (when-mem (eqZ (cell t s 0) b && isRelated c (cell t i 3) (cell t i 4) (cell t s 3) (cell t s 4)) (row entry (pos i) (pos s) (least (cell t i 3) (cell t s 3)) (greatest (cell t i 4) (cell t s 4))) r (p .2))) (start-le-end (cell t i 3) (cell t i 4) (cell t s 3) (cell t s 4) (g .proper i h) (g .proper s (p .1)))
-
-  left-low : (c : Relation) (b : ℤ) → leftFrom c b m n t ≤ n
-  unfolding leftFrom
-  left-low c b = go (hasRow b m n t) (leftMayEndEarlier c) (rightMayEndEarlier c)
-    where
-      go : (x y z : Bool) → cond x (cond y 0 m) (cond z m n) ≤ n
-      go true true z = omega arith
-      go true false z = g .few
-      go false y true = g .few
-      go false y false = omega arith
 
   pairs-proper : (c : Relation) (a b : ℤ) (r : Row) → List·Memᴰ r (pairRows c entry a b m n t) → Proper r
   unfolding pairRows pairsWith
   pairs-proper c a b r k =
-      let f : ℕ → List Row = λ i. cond (eqZ (cell t i 0) a) (each (pairRow c entry b i (cell t i 3) (cell t i 4) t) (span (rightFrom c m i) n)) [] in
-      let p = span-mem f (leftFrom c b m n t) n r k (left-low c b) in
+      let f : ℕ → List Row = λ i. cond (eqZ (cell t i 0) a) (pairsOf c entry b m n t i) [] in
+      let p = span-mem f (leftFrom (endingOf c) b m n t) n r k (left-le (endingOf c) b m n t (g .few)) in
       go (p .0) (p .1) (eqZ (cell t (p .0) 0) a) (p .2)
     where
-      go : (i : ℕ) → i < n → (x : Bool) → List·Memᴰ r (cond x (each (pairRow c entry b i (cell t i 3) (cell t i 4) t) (span (rightFrom c m i) n)) []) → Proper r
+      go : (i : ℕ) → i < n → (x : Bool) → List·Memᴰ r (cond x (pairsOf c entry b m n t i) []) → Proper r
       go i h true w = pair-proper c b i h r w
       go i h false w = absurd (List·Memᴰ·not-nil w)
 
-  added-proper : (op : Operator) (first pending : ℕ) (codes : List ℕ) (r : Row) → List·Memᴰ r (addedRows op entry o first pending codes m n t) → Proper r
-  unfolding addedRows orRows armRows armRow lengthRows lengthRow absenceRows absenceRow
+  abbrev isOf : ℕ → ℕ → Bool
+  isOf a i = eqZ (cell t i 0) (pos a)
+
+  added-proper : (op : Operator) (first pending : ℕ) (codes : List ℕ) (r : Row) → List·Memᴰ r (addedRows op entry (pendingAt o first pending) codes m n t) → Proper r
+  unfolding addedRows orRows takenRows takenRow absenceRows absenceRow
   added-proper (event k) first pending codes r w = event-proper k first pending codes r w
   added-proper (related c a b) first pending codes r w = pairs-proper c (pos a) (pos b) r w
-  added-proper (or a b) first pending codes r w = elim (List·Memᴰ·append-cases (each (λ i. when (eqZ (cell t i 0) (pos a)) (partRow left entry t i)) (span m n)) w) [ inl k ↦ parts-proper left (λ i. eqZ (cell t i 0) (pos a)) r k | inr k ↦ parts-proper right (λ i. eqZ (cell t i 0) (pos b)) r k ]
-  added-proper (absence e a b) first pending codes r w = parts-proper left (λ i. eqZ (cell t i 0) (pos a) && not (isForbidden e (pos b) (cell t i 3) (cell t i 4) t (topOf (pos b) n t))) r w
-  added-proper (lasting c a d) first pending codes r w = parts-proper left (λ i. eqZ (cell t i 0) (pos a) && hasLength c d (cell t i 3) (cell t i 4)) r w
+  added-proper (or a b) first pending codes r w = elim (List·Memᴰ·append-cases (each (λ i. when (isOf a i && true) (partRow left entry t i)) (span m n)) w) [ inl k ↦ parts-proper left (λ i. isOf a i && true) r k | inr k ↦ parts-proper right (λ i. isOf b i && true) r k ]
+  added-proper (absence e a b) first pending codes r w = parts-proper left (λ i. isOf a i && not (isForbidden e (pos b) (cell t i 3) (cell t i 4) t (topOf (pos b) n t))) r w
+  added-proper (lasting c a d) first pending codes r w = parts-proper left (λ i. isOf a i && hasLength c d (cell t i 3) (cell t i 4)) r w
 
-  pub added-ending : (op : Operator) (first pending : ℕ) (codes : List ℕ) → pending ≤ length codes → (r : Row) → List·Memᴰ r (addedRows op entry o first pending codes m n t) → Ending o r
+  pub added-ending : (op : Operator) (first pending : ℕ) (codes : List ℕ) → pending ≤ length codes → (r : Row) → List·Memᴰ r (addedRows op entry (pendingAt o first pending) codes m n t) → Ending o r
   added-ending op first pending codes h r w =
       let es = numbered o first (take pending codes) in
       let k = subst (List·Memᴰ r) (sym (derived-is o m n t g entry op first pending codes h)) w in

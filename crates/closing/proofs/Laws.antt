@@ -1,31 +1,29 @@
 -- What a test that the code made tells of the table's numbers, and a turn of each loop over plain variables.
 use Prim.Native.Nat.{ℕ, zero, suc, _+_, _-_, _≤_, _<_}
 use native.Mathlib.Omega.{arith}
-use native.Mathlib.Numerals.{add-one}
 use native.Mathlib.Decide.{ℕ-discrete}
 use mathlib.Core.Path.{_≡_, refl, sym, ap, _∙_}
 use mathlib.Core.Bool.{Bool, true, false, cond}
 use mathlib.Core.List.{List, [], _∷_}
+use lib.Dec.{leb, ltb}
 use lib.IntN.{ℤ}
 use lib.Signed.{leZ}
 use mir.Syntax.{w32}
 use mir.Val.{SFits, toZ, ofZ}
 use Rattle.interval.proofs.Machine.{same32}
 use Rattle.interval.specs.Instants.{eqZ}
-use Rattle.interval.specs.Conditions.{leftMayEndEarlier, rightMayEndEarlier}
 use Rattle.interval.proofs.Signed.{never}
 use Rattle.interval.specs.declared.Relation.{Relation}
 use Rattle.interval.specs.declared.Edges.{Edges}
-use Rattle.interval.specs.declared.LengthTest.{LengthTest}
+use Rattle.interval.specs.declared.Ending.{Ending}
+use Rattle.interval.specs.declared.Ending.the-variants.{Before, Within, Together, Either}
 use Rattle.model.specs.Recognitions.{Arm, left}
 use Rattle.table.specs.Table.{cell}
-use Rattle.closing.specs.Added.{partRow, armRow, armRows, lengthRow, forbids, isWithin, isForbidden, absenceRow, absenceRows, pairRow, rightFrom, pairsWith, hasRow, leftFrom, topOf, NextOf}
-use Rattle.closing.proofs.Spans.{span-same, each-none-of, none-at}
+use Rattle.table.proofs.EndParts.{ends-low, ends-few}
+use Rattle.closing.specs.declared.Taken.{Taken}
+use Rattle.closing.specs.Added.{partRow, takenRow, takenRows, forbids, isWithin, isForbidden, absenceRow, topOf, pairRow, rightBy, rightFrom, pairsOf, pairsWith, nextRow, leastStart, leftBy, leftFrom}
+use Rattle.closing.proofs.Spans.{span-same}
 use Rattle.closing.proofs.Filling.{Kept}
-
--- the answer of `is_of`, whose second number reached it as bits
-pub of-entry : (t : List ℤ) (i : ℕ) (a : ℤ) {b v : Bool} → SFits w32 a → b ≡ eqZ (cell t i 0) (toZ w32 (ofZ w32 a)) → b ≡ v → eqZ (cell t i 0) a ≡ v
-of-entry t i a f e h = ap (eqZ (cell t i 0)) (sym (same32 a f)) ∙ sym e ∙ h
 
 pub within-at : (start : ℤ) (t : List ℤ) (j : ℕ) → (j ≡ 0 → ⊥) → isWithin start t j ≡ leZ start (cell t (j - 1) 4)
 unfolding isWithin
@@ -34,17 +32,13 @@ within-at start t (suc j) h = let e : suc j - 1 ≡ j = omega arith in rw e
 
 -- tables whose first n rows agree: each of them makes the same
 module _ (n : ℕ) (t u : List ℤ) (k : Kept n t u) (entry : ℕ) where
-  pub arm-same : (side : Arm) (a : ℤ) (i : ℕ) → i < n → armRow side entry a t i ≡ armRow side entry a u i
-  unfolding armRow partRow
-  arm-same side a i h = rw (k i 0 h (omega arith), k i 3 h (omega arith), k i 4 h (omega arith))
+  pub taken-same : (side : Arm) (a : ℤ) (c : Taken) (i : ℕ) → i < n → takenRow side entry a c t i ≡ takenRow side entry a c u i
+  unfolding takenRow partRow
+  taken-same side a c i h = rw (k i 0 h (omega arith), k i 3 h (omega arith), k i 4 h (omega arith))
 
-  pub arms-same : (side : Arm) (a : ℤ) (m e : ℕ) → e ≤ n → armRows side entry a m e t ≡ armRows side entry a m e u
-  unfolding armRows
-  arms-same side a m e h = span-same (armRow side entry a t) (armRow side entry a u) m e (λ i p q. arm-same side a i (omega arith))
-
-  pub length-same : (c : LengthTest) (d : ℕ) (a : ℤ) (i : ℕ) → i < n → lengthRow c d entry a t i ≡ lengthRow c d entry a u i
-  unfolding lengthRow partRow
-  length-same c d a i h = rw (k i 0 h (omega arith), k i 3 h (omega arith), k i 4 h (omega arith))
+  pub takens-same : (side : Arm) (a : ℤ) (c : Taken) (m e : ℕ) → e ≤ n → takenRows side entry a c m e t ≡ takenRows side entry a c m e u
+  unfolding takenRows
+  takens-same side a c m e h = span-same (takenRow side entry a c t) (takenRow side entry a c u) m e (λ i p q. taken-same side a c i (omega arith))
 
   pub forbids-same : (e : Edges) (b start end : ℤ) (j : ℕ) → j < n → forbids e b start end t j ≡ forbids e b start end u j
   unfolding forbids
@@ -63,38 +57,45 @@ module _ (n : ℕ) (t u : List ℤ) (k : Kept n t u) (entry : ℕ) where
   unfolding pairRow
   pair-same c b r start end s h = rw (k s 0 h (omega arith), k s 3 h (omega arith), k s 4 h (omega arith))
 
-  pub pairs-same : (c : Relation) (a b : ℤ) (m e r : ℕ) → r < n → e ≤ n → pairsWith c entry a b m e t r ≡ pairsWith c entry a b m e u r
-  unfolding pairsWith
-  pairs-same c a b m e r h g =
-      rw (k r 0 h (omega arith), k r 3 h (omega arith), k r 4 h (omega arith), span-same (pairRow c entry b r (cell u r 3) (cell u r 4) t) (pairRow c entry b r (cell u r 3) (cell u r 4) u) (rightFrom c m r) e (λ s p q. pair-same c b r (cell u r 3) (cell u r 4) s (omega arith)))
+  pub pairs-same : (c : Relation) (b : ℤ) (m e r : ℕ) → r < n → e ≤ n → pairsOf c entry b m e t r ≡ pairsOf c entry b m e u r
+  unfolding pairsOf
+  pairs-same c b m e r h g =
+      rw (k r 3 h (omega arith), k r 4 h (omega arith), span-same (pairRow c entry b r (cell u r 3) (cell u r 4) t) (pairRow c entry b r (cell u r 3) (cell u r 4) u) (rightFrom c m r) e (λ s p q. pair-same c b r (cell u r 3) (cell u r 4) s (omega arith)))
 
--- a row that is none of a makes no pair
-pub pairs-none : (c : Relation) (entry : ℕ) (a b : ℤ) (m n : ℕ) (t : List ℤ) (r : ℕ) → eqZ (cell t r 0) a ≡ false → pairsWith c entry a b m n t r ≡ []
-unfolding pairsWith
-pairs-none c entry a b m n t r e = rw e
+-- the pairs of a row that is one of a, and of one that is not
+module _ (c : Relation) (entry : ℕ) (a b : ℤ) (m n : ℕ) (t : List ℤ) (r : ℕ) where
+  pub pairs-with : eqZ (cell t r 0) a ≡ true → pairsOf c entry b m n t r ≡ pairsWith c entry a b m n t r
+  unfolding pairsWith
+  pairs-with e = rw e
+
+  pub pairs-none : eqZ (cell t r 0) a ≡ false → pairsWith c entry a b m n t r ≡ []
+  unfolding pairsWith
+  pairs-none e = rw e
 
 -- where the search for r begins
-pub left-le : (c : Relation) (b : ℤ) (m n : ℕ) (t : List ℤ) → m ≤ n → leftFrom c b m n t ≤ n
+pub left-le : (v : Ending) (b : ℤ) (m n : ℕ) (t : List ℤ) → m ≤ n → leftFrom v b m n t ≤ n
 unfolding leftFrom
-left-le c b m n t h = go (hasRow b m n t) (leftMayEndEarlier c) (rightMayEndEarlier c)
+left-le v b m n t h = go v (ltb (nextRow b m n t) n)
   where
-    go : (x y z : Bool) → cond x (cond y 0 m) (cond z m n) ≤ n
-    go true true z = omega arith
-    go true false z = omega arith
-    go false y true = omega arith
-    go false y false = omega arith
+    go : (v : Ending) (x : Bool) → leftBy v x b m n t ≤ n
+    go Before true = omega arith
+    go Before false = omega arith
+    go Within true = let e = leastStart b (nextRow b m n t) n t in omega (arith, ends-low e m t, ends-few e m t)
+    go Within false = omega arith
+    go Together true = omega arith
+    go Together false = omega arith
+    go Either true = omega arith
+    go Either false = omega arith
 
--- the next row of a: none passed, one more passed
-module _ (a : ℤ) (i n : ℕ) (t : List ℤ) where
-  pub next-none : i ≤ n → NextOf a i n t i
-  next-none h = record { least = omega arith; most = h; none = λ j p q. absurd (omega arith) }
-
-  pub next-one : (r k : ℕ) → NextOf a i n t r → r < n → k ≡ r + 1 → eqZ (cell t r 0) a ≡ false → NextOf a i n t k
-  next-one r k f h s e = record { least = omega (arith, f .least); most = omega arith; none = λ j p q. go j p q (ℕ-discrete j r) }
-    where
-      go : (j : ℕ) → i ≤ j → j < k → Dec (j ≡ r) → eqZ (cell t j 0) a ≡ false
-      go j p q (yes d) = rw d e
-      go j p q (no d) = f .none j p (omega arith)
+pub right-le : (v : Ending) (m r n : ℕ) → m ≤ n → rightBy v m r ≤ n
+right-le Before m r n h = h
+right-le Within m r n h = h
+right-le Together m r n h = h
+right-le Either m r n h = go (leb m r)
+  where
+    go : (x : Bool) → cond x 0 m ≤ n
+    go true = omega arith
+    go false = h
 
 -- the place behind the last row of b
 module _ (b : ℤ) (t : List ℤ) where
@@ -134,20 +135,6 @@ module _ (b : ℤ) (t : List ℤ) where
   unfolding topOf
   top-none zero h = refl
   top-none (suc j) h = absurd (omega arith)
-
--- a search for a row of entry b: one found, one more passed, none left
-module _ (b : ℤ) (i n : ℕ) (t : List ℤ) where
-  pub has-one : i < n → eqZ (cell t i 0) b ≡ true → hasRow b i n t ≡ true
-  unfolding hasRow
-  has-one h e = let z : n - i ≡ suc (n - (i + 1)) = omega arith in rw (z, e)
-
-  pub has-later : i < n → eqZ (cell t i 0) b ≡ false → hasRow b i n t ≡ hasRow b (i + 1) n t
-  unfolding hasRow
-  has-later h e = let z : n - i ≡ suc (n - (i + 1)) = omega arith in rw (z, e, add-one)
-
-  pub has-none : n ≤ i → hasRow b i n t ≡ false
-  unfolding hasRow
-  has-none h = let z : n - i ≡ 0 = omega arith in rw z
 
 -- a start or an end that was read from the table
 pub read-back : (z w : ℤ) → SFits w32 z → z ≡ w → toZ w32 (ofZ w32 z) ≡ w
@@ -189,8 +176,3 @@ module _ (e : Edges) (entry : ℕ) (a b : ℤ) (n : ℕ) (t : List ℤ) (i : ℕ
     pub absence-stands : isForbidden e b start end t n ≡ false → partRow left entry t i ∷ [] ≡ absenceRow e entry a b n t i
     unfolding absenceRow
     absence-stands g = rw (h, rw (s, z) at g)
-
--- without a candidate there is nothing to append
-pub absences-none : (e : Edges) (entry : ℕ) (a b : ℤ) (m n : ℕ) (t : List ℤ) → hasRow a m n t ≡ false → absenceRows e entry a b m n t ≡ []
-unfolding absenceRows absenceRow hasRow
-absences-none e entry a b m n t z = each-none-of _ m n (λ i p q. rw (none-at (λ j. eqZ (cell t j 0) a) m (n - m) z i p (omega arith)))

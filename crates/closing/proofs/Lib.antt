@@ -1,4 +1,5 @@
 pub mod Spans
+pub mod Searches
 pub mod Filling
 pub mod Derived
 pub mod Laws

@@ -70,6 +70,10 @@ module _ {A : Type 0} where
       go true h = rw h
       go false h = h
 
+  pub keep-all : (xs : List A) → keep (λ x. true) xs ≡ xs
+  keep-all [] = refl
+  keep-all (x ∷ xs) = ap (λ l. x ∷ l) (keep-all xs)
+
   pub some-keep : (p q : A → Bool) (xs : List A) → some p (keep q xs) ≡ some (λ x. q x && p x) xs
   some-keep p q [] = refl
   some-keep p q (x ∷ xs) = go (q x) (some-keep p q xs)

@@ -5,30 +5,44 @@ use Prim.Native.Nat.{ℕ, zero, suc, _+_, _*_, _-_, _≤_, _<_}
 use mathlib.Core.Path.{_≡_}
 use mathlib.Core.Bool.{Bool, true, false, cond, not, _&&_, _||_}
 use mathlib.Core.List.{List, [], _∷_, _++_}
-use lib.Dec.{eqb, leb}
+use lib.Dec.{eqb, leb, ltb}
 use lib.IntN.{ℤ, pos}
 use lib.ListN.{length, getD}
 use lib.Signed.{leZ}
 use Rattle.interval.specs.Instants.{eqZ, least, greatest}
-use Rattle.interval.specs.Conditions.{isRelated, leftMayEndEarlier, rightMayEndEarlier, isForbidding, hasLength}
+use Rattle.interval.specs.Conditions.{isRelated, endingOf, isForbidding, hasLength}
 use Rattle.interval.specs.declared.Relation.{Relation}
+use Rattle.interval.specs.declared.Ending.{Ending}
+use Rattle.interval.specs.declared.Ending.the-variants.{Before, Within, Together, Either}
 use Rattle.interval.specs.declared.Edges.{Edges}
-use Rattle.interval.specs.declared.LengthTest.{LengthTest}
-use Rattle.model.specs.Lists.{some, each, numbers}
+use Rattle.model.specs.Lists.{each, numbers}
 use Rattle.model.specs.Recognitions.{Operator, event, related, or, absence, lasting, Arm, left, right}
 use Rattle.model.specs.Order.{Row, row, none, leftOf, rightOf}
-use Rattle.table.specs.Table.{cell, fill}
+use Rattle.table.specs.Table.{cell, storedRow, fill}
+use Rattle.table.specs.Ends.{Ordered, endingBefore}
+use Rattle.table.specs.declared.Row as stored
+use Rattle.closing.specs.declared.Frame.{Frame}
+use Rattle.closing.specs.declared.Pending.{Pending}
+use Rattle.closing.specs.declared.Wanted.{Wanted}
+use Rattle.closing.specs.declared.Taken.{Taken}
+use Rattle.closing.specs.declared.Taken.the-variants.{All, Lasting}
 
--- n rows in a table with room for so many, and an entry's number: what a function that appends rows asks
-pub record Appendable (n room entry : ℕ) (t : List ℤ) : Type 0 where
-  pub fit : n ≤ room
-  pub most : room ≤ 65535
-  pub held : room * 5 ≤ length t
-  pub low : entry < 32
+-- n rows in a table with room for so many, of which the frame says what they are: what a function that appends rows asks
+pub record Appendable (f : Frame) (n : ℕ) (t : List ℤ) : Type 0 where
+  pub fit : n ≤ f .room
+  pub most : f .room ≤ 65535
+  pub held : f .room * 5 ≤ length t
+  pub above : leZ (pos 0) (f .entry) ≡ true
+  pub few : f .first ≤ f .end
+  pub inside : f .end ≤ n
+  pub ordered : Ordered (f .first) t
 
 -- the rows rs were appended to the n rows of the table t, as far as there was room: the count k and the table u after it
-abbrev pub Appended : ℕ → ℕ → List Row → List ℤ → ℕ → List ℤ → Type 0
-Appended room n rs t k u = (k ≡ (fill room n rs t) .count) × (u ≡ (fill room n rs t) .table)
+abbrev pub FilledBy : ℕ → ℕ → List Row → List ℤ → ℕ → List ℤ → Type 0
+FilledBy room n rs t k u = (k ≡ (fill room n rs t) .count) × (u ≡ (fill room n rs t) .table)
+
+abbrev pub Appended : Frame → ℕ → List Row → List ℤ → ℕ → List ℤ → Type 0
+Appended f n rs t k u = FilledBy (f .room) n rs t k u
 
 -- the numbers from a to before e
 abbrev pub span : ℕ → ℕ → List ℕ
@@ -39,36 +53,46 @@ abbrev pub when : Bool → Row → List Row
 when p r = cond p (r ∷ []) []
 
 -- an event
+pub record SerialsFit (p : Pending) : Type 0 where
+  pub few : p .count ≤ 64
+  pub most : p .first + p .count ≤ 1000001
+
+abbrev pub pendingAt : ℤ → ℕ → ℕ → Pending
+pendingAt o first count = record { instant = o; first = first; count = count }
+
 unfoldable pub eventRow : ℕ → ℕ → ℤ → ℕ → ℕ → List Row
 eventRow entry k o code serial = when (eqb code k) (row entry (pos serial) none o o)
 
-unfoldable pub eventRows : ℕ → ℕ → ℤ → ℕ → ℕ → List ℕ → List Row
-eventRows entry k o first pending codes = each (λ j. eventRow entry k o (getD codes j 0) (first + j)) (span 0 pending)
+unfoldable pub eventRows : ℕ → ℕ → Pending → List ℕ → List Row
+eventRows entry k p codes = each (λ j. eventRow entry k (p .instant) (getD codes j 0) (p .first + j)) (span 0 (p .count))
 
 -- a row that refers to row i alone
-unfoldable pub partRow : Arm → ℕ → List ℤ → ℕ → Row
-partRow m entry t i = row entry (leftOf m i) (rightOf m i) (cell t i 3) (cell t i 4)
-
--- or: each arm's new rows
 abbrev pub armOf : Bool → Arm
 armOf true = right
 armOf false = left
 
-unfoldable pub armRow : Arm → ℕ → ℤ → List ℤ → ℕ → List Row
-armRow side entry a t i = when (eqZ (cell t i 0) a) (partRow side entry t i)
+abbrev pub partOf : Arm → Frame → stored.Row → ℕ → stored.Row
+partOf m f r i = record { entry = f .entry; left = leftOf m i; right = rightOf m i; start = r .start; end = r .end }
 
-unfoldable pub armRows : Arm → ℕ → ℤ → ℕ → ℕ → List ℤ → List Row
-armRows side entry a m n t = each (armRow side entry a t) (span m n)
+unfoldable pub partRow : Arm → ℕ → List ℤ → ℕ → Row
+partRow m entry t i = row entry (leftOf m i) (rightOf m i) (cell t i 3) (cell t i 4)
+
+-- an arm of or, and a length test: the new rows that are taken
+abbrev pub isLong : Taken → ℤ → ℤ → Bool
+isLong All s e = true
+isLong (Lasting c d) s e = hasLength c d s e
+
+abbrev pub isTaken : ℤ → Taken → stored.Row → Bool
+isTaken a k r = eqZ (r .entry) a && isLong k (r .start) (r .end)
+
+unfoldable pub takenRow : Arm → ℕ → ℤ → Taken → List ℤ → ℕ → List Row
+takenRow side entry a k t i = when (isTaken a k (storedRow t i)) (partRow side entry t i)
+
+unfoldable pub takenRows : Arm → ℕ → ℤ → Taken → ℕ → ℕ → List ℤ → List Row
+takenRows side entry a k m n t = each (takenRow side entry a k t) (span m n)
 
 unfoldable pub orRows : ℕ → ℤ → ℤ → ℕ → ℕ → List ℤ → List Row
-orRows entry a b m n t = armRows left entry a m n t ++ armRows right entry b m n t
-
--- a length test: the new rows that last so long
-unfoldable pub lengthRow : LengthTest → ℕ → ℕ → ℤ → List ℤ → ℕ → List Row
-lengthRow c d entry a t i = when (eqZ (cell t i 0) a && hasLength c d (cell t i 3) (cell t i 4)) (partRow left entry t i)
-
-unfoldable pub lengthRows : LengthTest → ℕ → ℕ → ℤ → ℕ → ℕ → List ℤ → List Row
-lengthRows c d entry a m n t = each (lengthRow c d entry a t) (span m n)
+orRows entry a b m n t = takenRows left entry a All m n t ++ takenRows right entry b All m n t
 
 -- an absence: whether row j forbids an interval; whether the row before place j is there and ends at `start` or later; and whether one of
 -- the rows before place j forbids the interval, searched backwards as long as they end at its start or later
@@ -95,41 +119,72 @@ unfoldable pub absenceRows : Edges → ℕ → ℤ → ℤ → ℕ → ℕ → L
 absenceRows e entry a b m n t = each (absenceRow e entry a b (topOf b n t) t) (span m n)
 
 -- two operands: the pairs in which one row or both end at the instant
+abbrev pub isWanted : Wanted → stored.Row → Bool
+isWanted w s = eqZ (s .entry) (w .operand) && isRelated (w .relation) (w .start) (w .end) (s .start) (s .end)
+
+abbrev pub pairOf : Frame → Wanted → stored.Row → ℕ → stored.Row
+pairOf f w s i = record { entry = f .entry; left = pos (w .left); right = pos i; start = least (w .start) (s .start); end = greatest (w .end) (s .end) }
+
 unfoldable pub pairRow : Relation → ℕ → ℤ → ℕ → ℤ → ℤ → List ℤ → ℕ → List Row
 pairRow c entry b r start end t s =
     when (eqZ (cell t s 0) b && isRelated c start end (cell t s 3) (cell t s 4))
     (row entry (pos r) (pos s) (least start (cell t s 3)) (greatest end (cell t s 4)))
 
 -- where the search for s begins, given r: a row that ends before the pair does is from before this closing
-unfoldable pub rightFrom : Relation → ℕ → ℕ → ℕ
-rightFrom c m r = cond (rightMayEndEarlier c && leb m r) 0 m
+abbrev pub rightBy : Ending → ℕ → ℕ → ℕ
+rightBy Before m r = m
+rightBy Within m r = m
+rightBy Together m r = m
+rightBy Either m r = cond (leb m r) 0 m
+
+abbrev pub rightFrom : Relation → ℕ → ℕ → ℕ
+rightFrom c m r = rightBy (endingOf c) m r
+
+unfoldable pub pairsOf : Relation → ℕ → ℤ → ℕ → ℕ → List ℤ → ℕ → List Row
+pairsOf c entry b m n t r = each (pairRow c entry b r (cell t r 3) (cell t r 4) t) (span (rightFrom c m r) n)
 
 unfoldable pub pairsWith : Relation → ℕ → ℤ → ℤ → ℕ → ℕ → List ℤ → ℕ → List Row
-pairsWith c entry a b m n t r =
-    cond (eqZ (cell t r 0) a)
-    (each (pairRow c entry b r (cell t r 3) (cell t r 4) t) (span (rightFrom c m r) n))
-    []
+pairsWith c entry a b m n t r = cond (eqZ (cell t r 0) a) (pairsOf c entry b m n t r) []
 
--- whether one of the rows from m to before n is one of entry b, and where the search for r begins
-unfoldable pub hasRow : ℤ → ℕ → ℕ → List ℤ → Bool
-hasRow b m n t = some (λ i. eqZ (cell t i 0) b) (span m n)
+-- the first row of entry a from row i on, k rows further at most; and from row i on to before row n
+unfoldable pub nextFrom : ℤ → List ℤ → ℕ → ℕ → ℕ
+nextFrom a t i zero = i
+nextFrom a t i (suc k) = cond (eqZ (cell t i 0) a) i (nextFrom a t (suc i) k)
 
-unfoldable pub leftFrom : Relation → ℤ → ℕ → ℕ → List ℤ → ℕ
-leftFrom c b m n t = cond (hasRow b m n t) (cond (leftMayEndEarlier c) 0 m) (cond (rightMayEndEarlier c) m n)
+abbrev pub nextRow : ℤ → ℕ → ℕ → List ℤ → ℕ
+nextRow a i n t = nextFrom a t i (n - i)
 
--- the rows from i to before k are none of a
-pub record NextOf (a : ℤ) (i n : ℕ) (t : List ℤ) (k : ℕ) : Type 0 where
+-- the search from row k on finds what the one from row i on finds
+pub record Passed (a : ℤ) (i n : ℕ) (t : List ℤ) (k : ℕ) : Type 0 where
   pub least : i ≤ k
   pub most : k ≤ n
-  pub none : (j : ℕ) → i ≤ j → j < k → eqZ (cell t j 0) a ≡ false
+  pub same : nextRow a k n t ≡ nextRow a i n t
+
+-- the least of x and the starts of the rows of b among the k rows from row i on; and of those from row s, which is one, to before row n
+unfoldable pub leastFrom : ℤ → List ℤ → ℤ → ℕ → ℕ → ℤ
+leastFrom b t x i zero = x
+leastFrom b t x i (suc k) = leastFrom b t (cond (eqZ (cell t i 0) b) (least x (cell t i 3)) x) (suc i) k
+
+abbrev pub leastStart : ℤ → ℕ → ℕ → List ℤ → ℤ
+leastStart b s n t = leastFrom b t (cell t s 3) s (n - s)
+
+-- where the search for r begins, by whether there is a new s and where r and s end
+abbrev pub leftBy : Ending → Bool → ℤ → ℕ → ℕ → List ℤ → ℕ
+leftBy Before new b m n t = cond new 0 n
+leftBy Within new b m n t = cond new (endingBefore m (leastStart b (nextRow b m n t) n t) t) n
+leftBy Together new b m n t = cond new m n
+leftBy Either new b m n t = cond new 0 m
+
+unfoldable pub leftFrom : Ending → ℤ → ℕ → ℕ → List ℤ → ℕ
+leftFrom e b m n t = leftBy e (ltb (nextRow b m n t) n) b m n t
 
 unfoldable pub pairRows : Relation → ℕ → ℤ → ℤ → ℕ → ℕ → List ℤ → List Row
-pairRows c entry a b m n t = each (pairsWith c entry a b m n t) (span (leftFrom c b m n t) n)
+pairRows c entry a b m n t = each (pairsWith c entry a b m n t) (span (leftFrom (endingOf c) b m n t) n)
 
 -- by the operator
-unfoldable pub addedRows : Operator → ℕ → ℤ → ℕ → ℕ → List ℕ → ℕ → ℕ → List ℤ → List Row
-addedRows (event k) entry o first pending codes m n t = eventRows entry k o first pending codes
-addedRows (related c a b) entry o first pending codes m n t = pairRows c entry (pos a) (pos b) m n t
-addedRows (or a b) entry o first pending codes m n t = orRows entry (pos a) (pos b) m n t
-addedRows (absence e a b) entry o first pending codes m n t = absenceRows e entry (pos a) (pos b) m n t
-addedRows (lasting c a d) entry o first pending codes m n t = lengthRows c d entry (pos a) m n t
+unfoldable pub addedRows : Operator → ℕ → Pending → List ℕ → ℕ → ℕ → List ℤ → List Row
+addedRows (event k) entry p codes m n t = eventRows entry k p codes
+addedRows (related c a b) entry p codes m n t = pairRows c entry (pos a) (pos b) m n t
+addedRows (or a b) entry p codes m n t = orRows entry (pos a) (pos b) m n t
+addedRows (absence e a b) entry p codes m n t = absenceRows e entry (pos a) (pos b) m n t
+addedRows (lasting c a d) entry p codes m n t = takenRows left entry (pos a) (Lasting c d) m n t

@@ -1,24 +1,34 @@
 -- What closing an instant leaves: how many rows there are, and the table.
-use Prim.Native.Nat.{ℕ, _+_}
+use Prim.Native.Nat.{ℕ, suc, _+_, _-_, _≤_}
 use mathlib.Core.Bool.{cond}
 use mathlib.Core.List.{List}
 use lib.Dec.{leb}
 use lib.IntN.{ℤ}
-use lib.ListN.{length, drop}
+use lib.ListN.{length, take, drop}
 use Rattle.chart.specs.declared.Chart.{Chart}
-use Rattle.model.specs.Capacity.{capacity}
 use Rattle.model.specs.Order.{Row}
 use Rattle.model.specs.RowSteps.{numbered, closeRows}
+use Rattle.state.specs.declared.WatchState.{WatchState}
 use Rattle.table.specs.Operators.{operatorsOf}
-use Rattle.table.specs.Table.{rowsIn, putRows}
+use Rattle.table.specs.Ready.{Ready, EndBefore}
+use Rattle.table.specs.Table.{rowsIn, putRows, roomIn}
 
--- the rows of the table with those that end at the instant o, whose events have these codes, the first with serial `first`
-unfoldable pub rowsClosed : Chart → ℤ → ℕ → List ℕ → ℕ → List ℤ → List Row
-rowsClosed chart o first codes rows t = closeRows o (numbered o first codes) (operatorsOf chart) (rowsIn rows t)
+-- the rows after the open instant is closed: "entry by entry", over the events of the open instant
+unfoldable pub closedRows : Chart → WatchState → List ℤ → List Row
+closedRows chart w t = closeRows (w .instant) (numbered (w .instant) (suc (w .events - w .pending)) (take (w .pending) (w .codes))) (operatorsOf chart) (rowsIn (w .rows) t)
 
--- "12 table full: the due rows, old and new together, exceed the rows the table can hold": then one more than it holds, and the table as it was
-unfoldable pub closedCount : ℕ → List Row → ℕ
-closedCount room rs = cond (leb (length rs) room) (length rs) (room + 1)
+-- "12 table full: the due rows, old and new together, exceed the rows the table can hold": then one more than it holds, and the table as it was.
+-- "Closing alters only the new rows"
+unfoldable pub closedNumber : Chart → WatchState → List ℤ → ℕ
+closedNumber chart w t = cond (leb (length (closedRows chart w t)) (roomIn t)) (length (closedRows chart w t)) (roomIn t + 1)
 
-unfoldable pub closedTable : ℕ → List Row → List ℤ → List ℤ
-closedTable rows rs t = cond (leb (length rs) (capacity (length t))) (putRows rows (drop rows rs) t) t
+unfoldable pub closedTable : Chart → WatchState → List ℤ → List ℤ
+closedTable chart w t = cond (leb (length (closedRows chart w t)) (roomIn t)) (putRows (w .rows) (drop (w .rows) (closedRows chart w t)) t) t
+
+-- what closing asks: rows that are consistent with the chart and end before the open instant, and counts that are in range
+pub record Closable (chart : Chart) (w : WatchState) (t : List ℤ) : Type 0 where
+  pub ready : Ready chart (w .rows) t
+  pub ended : EndBefore (w .instant) (w .rows) t
+  pub few : w .pending ≤ 64
+  pub counted : w .pending ≤ w .events
+  pub most : w .events ≤ 1000000

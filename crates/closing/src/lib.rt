@@ -1,67 +1,85 @@
-// Closing one instant of the watch: entry by entry, the rows that end at it are appended to the table. Of the rows, the first m stand
-// from before this closing and end before the instant; those from m on end at it. A new row refers to one that is new, so the
-// searches begin at m wherever the operator lets them. What appends or reads one row takes constant time; each other function says what
-// it looks at.
+// Closing one instant of the watch: entry by entry, the rows that end at it are appended to the table. A row that is made refers to a row
+// that ends at the instant, so the searches begin at the first of those wherever the operator lets them. What reads or appends one row takes
+// constant time; each other function says what it looks at.
 ghost use mathlib.Core.Path.{_≡_};
 ghost use mathlib.Core.List.{[], _∷_};
 ghost use Prim.Native.Nat.{_+_, _*_, _≤_, _<_};
-ghost use lib.ListN.{length, take, drop};
+ghost use lib.IntN.{natAbs};
+ghost use lib.ListN.{length, drop};
 ghost use mathlib.Core.Bool.{true};
 ghost use Rattle.interval.specs.Instants.{eqZ};
+ghost use Rattle.interval.specs.Conditions.{endingOf};
 ghost use Rattle.chart.specs.Charts.{entryFits};
 ghost use Rattle.model.specs.Capacity.{capacity};
 ghost use Rattle.table.specs.Table.{cell};
-ghost use Rattle.table.specs.Ready.{Ready, EndBefore};
+ghost use Rattle.table.specs.Ends.{Ordered, endingBefore};
 ghost use Rattle.table.specs.Operators.{entryOperator};
-ghost use Rattle.closing.specs.Added.{Appendable, Appended, eventRow, eventRows, partRow, armOf, armRow, armRows, orRows, lengthRow, lengthRows, forbids, isWithin, absenceRows, topOf, NextOf, pairRow, rightFrom, pairsWith, hasRow, leftFrom, pairRows, addedRows};
-ghost use Rattle.closing.specs.Closed.{rowsClosed, closedCount, closedTable};
+ghost use Rattle.closing.specs.Added.{Appendable, FilledBy, Appended, SerialsFit, eventRow, eventRows, armOf, partOf, partRow, isTaken, takenRow, takenRows, orRows, forbids, isWithin, absenceRows, topOf, nextRow, Passed, leastStart, isWanted, pairOf, pairRow, rightFrom, pairsOf, leftFrom, pairRows, addedRows};
+ghost use Rattle.closing.specs.Closed.{Closable, closedRows, closedNumber, closedTable};
 use chart::Chart;
 use chart::Entry;
 use chart::operator::Kind;
 use interval::Edges;
+use interval::Ending;
 use interval::LengthTest;
 use interval::Relation;
+use state::WatchState;
+use table::Row;
 
-// Whether row i is one of entry a.
-fn is_of(t: &[i32], i: usize, a: i32) -> bool
-    requires { ⌜ (i < 65535) × (i * 5 + 5 ≤ length (now t)) ⌝ }
-    ensures { λ r. ⌜ r ≡ eqZ (cell (now (t .entry)) i 0) a ⌝ }
-{
-    t[i * 5] == a
+// Where rows of an entry are appended: the rows before `first` end before the instant that is closed; those from there to before `end` end
+// at it and are of lower entries; `room` rows fit in all.
+struct Frame {
+    first: usize,
+    end: usize,
+    room: usize,
+    entry: i32,
 }
 
-// The start of row i.
-fn start_of(t: &[i32], i: usize) -> i32
-    requires { ⌜ (i < 65535) × (i * 5 + 5 ≤ length (now t)) ⌝ }
-    ensures { λ r. ⌜ r ≡ cell (now (t .entry)) i 3 ⌝ }
-{
-    t[i * 5 + 3]
+// The events of the instant that is closed: the serial of the first and how many there are. Their codes are lent beside, since an array in
+// a struct would be copied at each call.
+struct Pending {
+    instant: i32,
+    first: usize,
+    count: usize,
 }
 
-// The end of row i.
-fn end_of(t: &[i32], i: usize) -> i32
-    requires { ⌜ (i < 65535) × (i * 5 + 5 ≤ length (now t)) ⌝ }
-    ensures { λ r. ⌜ r ≡ cell (now (t .entry)) i 4 ⌝ }
-{
-    t[i * 5 + 4]
+// Which rows of one operand make a row: all of them, or those that last so long.
+enum Taken {
+    All,
+    Lasting(LengthTest, u32),
+}
+
+// What is wanted of a second row: that it is one of an operand and related to the first row, which is given by its number, start and end.
+struct Wanted {
+    relation: Relation,
+    operand: i32,
+    left: usize,
+    start: i32,
+    end: i32,
 }
 
 // An event's row, if its code is k.
 fn push_event(
     t: &mut [i32],
     n: usize,
-    room: usize,
-    entry: usize,
+    f: Frame,
     k: u32,
     instant: i32,
     code: u8,
     serial: usize,
 ) -> usize
-    requires { ⌜ (Appendable n room entry (now t)) × (serial ≤ 1000000) ⌝ }
-    ensures { λ r. ⌜ Appended room n (eventRow entry k instant code serial) (now (t .entry)) r (now (t .exit)) ⌝ }
+    requires { ⌜ (Appendable f n (now t)) × (serial ≤ 1000000) ⌝ }
+    ensures { λ r. ⌜ Appended f n (eventRow (natAbs (f .entry)) k instant code serial) (now (t .entry)) r (now (t .exit)) ⌝ }
 {
     if code as u32 == k {
-        return table::push_row(t, n, room, entry, serial as i32, -1, instant, instant);
+        let row = Row {
+            entry: f.entry,
+            left: serial as i32,
+            right: -1,
+            start: instant,
+            end: instant,
+        };
+        return table::push_row(t, n, f.room, row);
     }
     n
 }
@@ -70,23 +88,20 @@ fn push_event(
 fn event_rows(
     t: &mut [i32],
     n: usize,
-    room: usize,
-    entry: usize,
+    f: Frame,
     k: u32,
-    instant: i32,
-    first: usize,
-    pending: usize,
-    codes: [u8; 64],
+    p: Pending,
+    codes: &[u8; 64],
 ) -> usize
-    requires { ⌜ (Appendable n room entry (now t)) × (pending ≤ 64) × (first + pending ≤ 1000001) ⌝ }
-    ensures { λ r. ⌜ Appended room n (eventRows entry k instant first pending codes) (now (t .entry)) r (now (t .exit)) ⌝ }
+    requires { ⌜ (Appendable f n (now t)) × SerialsFit p ⌝ }
+    ensures { λ r. ⌜ Appended f n (eventRows (natAbs (f .entry)) k p (now (codes .entry))) (now (t .entry)) r (now (t .exit)) ⌝ }
 {
     let mut count = n;
     let mut j: usize = 0;
-    while j < pending {
+    while j < p.count {
         let code = codes[j];
-        count = push_event(t, count, room, entry, k, instant, code, first + j);
-        if room < count {
+        count = push_event(t, count, f, k, p.instant, code, p.first + j);
+        if f.room < count {
             return count;
         }
         j += 1;
@@ -94,57 +109,75 @@ fn event_rows(
     count
 }
 
-// A row that refers to row i alone, as its second operand or as its first.
-fn push_part(t: &mut [i32], n: usize, room: usize, entry: usize, i: usize, second: bool) -> usize
-    requires { ⌜ (Appendable n room entry (now t)) × (i < n) ⌝ }
-    ensures { λ r. ⌜ Appended room n (partRow (armOf second) entry (now (t .entry)) i ∷ []) (now (t .entry)) r (now (t .exit)) ⌝ }
+// The row that refers to row i alone, as its second operand or as its first; `part` is that row.
+fn part_of(f: Frame, part: Row, i: usize, second: bool) -> Row
+    requires { ⌜ i < 65535 ⌝ }
+    ensures { λ r. ⌜ r ≡ partOf (armOf second) f part i ⌝ }
 {
-    let start = start_of(t, i);
-    let end = end_of(t, i);
+    let mut row = part;
+    row.entry = f.entry;
     if second {
-        return table::push_row(t, n, room, entry, -1, i as i32, start, end);
+        row.left = -1;
+        row.right = i as i32;
+        return row;
     }
-    table::push_row(t, n, room, entry, i as i32, -1, start, end)
+    row.left = i as i32;
+    row.right = -1;
+    row
 }
 
-// The row of an arm, if row i is one of the operand.
-fn push_arm(
+fn push_part(t: &mut [i32], n: usize, f: Frame, i: usize, second: bool) -> usize
+    requires { ⌜ (Appendable f n (now t)) × (i < n) ⌝ }
+    ensures { λ r. ⌜ Appended f n (partRow (armOf second) (natAbs (f .entry)) (now (t .entry)) i ∷ []) (now (t .entry)) r (now (t .exit)) ⌝ }
+{
+    let part = table::row_at(t, i);
+    let row = part_of(f, part, i, second);
+    table::push_row(t, n, f.room, row)
+}
+
+// Whether a row is one of the operand a and is taken.
+fn is_taken(a: i32, taken: Taken, row: Row) -> bool
+    ensures { λ r. ⌜ r ≡ isTaken a taken row ⌝ }
+{
+    if row.entry != a {
+        return false;
+    }
+    match taken {
+        Taken::All => true,
+        Taken::Lasting(test, d) => interval::has_length(test, d, row.start, row.end),
+    }
+}
+
+// The row of row i, if that is taken.
+fn push_taken(
     t: &mut [i32],
     n: usize,
-    room: usize,
-    entry: usize,
+    f: Frame,
     a: i32,
+    taken: Taken,
     second: bool,
     i: usize,
 ) -> usize
-    requires { ⌜ (Appendable n room entry (now t)) × (i < n) ⌝ }
-    ensures { λ r. ⌜ Appended room n (armRow (armOf second) entry a (now (t .entry)) i) (now (t .entry)) r (now (t .exit)) ⌝ }
+    requires { ⌜ (Appendable f n (now t)) × (i < n) ⌝ }
+    ensures { λ r. ⌜ Appended f n (takenRow (armOf second) (natAbs (f .entry)) a taken (now (t .entry)) i) (now (t .entry)) r (now (t .exit)) ⌝ }
 {
-    if is_of(t, i, a) {
-        return push_part(t, n, room, entry, i, second);
+    let row = table::row_at(t, i);
+    if is_taken(a, taken, row) {
+        return push_part(t, n, f, i, second);
     }
     n
 }
 
-// One arm of `or`: a row for each row of the operand from m to before end. One look at each of these.
-fn arm_rows(
-    t: &mut [i32],
-    m: usize,
-    end: usize,
-    n: usize,
-    room: usize,
-    entry: usize,
-    a: i32,
-    second: bool,
-) -> usize
-    requires { ⌜ (Appendable n room entry (now t)) × (m ≤ end) × (end ≤ n) ⌝ }
-    ensures { λ r. ⌜ Appended room n (armRows (armOf second) entry a m end (now (t .entry))) (now (t .entry)) r (now (t .exit)) ⌝ }
+// One arm of `or`, or a length test: a row for each new row of the operand that is taken. One look at each new row.
+fn taken_rows(t: &mut [i32], n: usize, f: Frame, a: i32, taken: Taken, second: bool) -> usize
+    requires { ⌜ Appendable f n (now t) ⌝ }
+    ensures { λ r. ⌜ Appended f n (takenRows (armOf second) (natAbs (f .entry)) a taken (f .first) (f .end) (now (t .entry))) (now (t .entry)) r (now (t .exit)) ⌝ }
 {
     let mut count = n;
-    let mut i = m;
-    while i < end {
-        count = push_arm(t, count, room, entry, a, second, i);
-        if room < count {
+    let mut i = f.first;
+    while i < f.end {
+        count = push_taken(t, count, f, a, taken, second, i);
+        if f.room < count {
             return count;
         }
         i += 1;
@@ -153,97 +186,50 @@ fn arm_rows(
 }
 
 // or: the left arm first. Two looks at each new row.
-fn or_rows(t: &mut [i32], m: usize, n: usize, room: usize, entry: usize, a: i32, b: i32) -> usize
-    requires { ⌜ (Appendable n room entry (now t)) × (m ≤ n) ⌝ }
-    ensures { λ r. ⌜ Appended room n (orRows entry a b m n (now (t .entry))) (now (t .entry)) r (now (t .exit)) ⌝ }
+fn or_rows(t: &mut [i32], n: usize, f: Frame, a: i32, b: i32) -> usize
+    requires { ⌜ Appendable f n (now t) ⌝ }
+    ensures { λ r. ⌜ Appended f n (orRows (natAbs (f .entry)) a b (f .first) (f .end) (now (t .entry))) (now (t .entry)) r (now (t .exit)) ⌝ }
 {
-    let count = arm_rows(t, m, n, n, room, entry, a, false);
-    if room < count {
+    let count = taken_rows(t, n, f, a, Taken::All, false);
+    if f.room < count {
         return count;
     }
-    arm_rows(t, m, n, count, room, entry, b, true)
+    taken_rows(t, count, f, b, Taken::All, true)
 }
 
-// The row of a length test, if row i is one of the operand and lasts so long.
-fn push_lasting(
-    t: &mut [i32],
-    n: usize,
-    room: usize,
-    entry: usize,
-    test: LengthTest,
-    a: i32,
-    d: u32,
-    i: usize,
-) -> usize
-    requires { ⌜ (Appendable n room entry (now t)) × (i < n) ⌝ }
-    ensures { λ r. ⌜ Appended room n (lengthRow test d entry a (now (t .entry)) i) (now (t .entry)) r (now (t .exit)) ⌝ }
+// Whether row j is one of entry b and forbids the interval of row r.
+fn is_forbidding_row(t: &[i32], j: usize, b: i32, edges: Edges, r: Row) -> bool
+    requires { ⌜ j * 5 + 5 ≤ length (now t) ⌝ }
+    ensures { λ k. ⌜ k ≡ forbids edges b (r .start) (r .end) (now (t .entry)) j ⌝ }
 {
-    if is_of(t, i, a) {
-        let start = start_of(t, i);
-        let end = end_of(t, i);
-        if interval::has_length(test, d, start, end) {
-            return push_part(t, n, room, entry, i, false);
-        }
+    let s = table::row_at(t, j);
+    if s.entry != b {
+        return false;
     }
-    n
-}
-
-// lasts, atmost, atleast: the new rows of the operand that last so long. One look at each new row.
-fn length_rows(
-    t: &mut [i32],
-    m: usize,
-    n: usize,
-    room: usize,
-    entry: usize,
-    test: LengthTest,
-    a: i32,
-    d: u32,
-) -> usize
-    requires { ⌜ (Appendable n room entry (now t)) × (m ≤ n) ⌝ }
-    ensures { λ r. ⌜ Appended room n (lengthRows test d entry a m n (now (t .entry))) (now (t .entry)) r (now (t .exit)) ⌝ }
-{
-    let mut count = n;
-    let mut i = m;
-    while i < n {
-        count = push_lasting(t, count, room, entry, test, a, d, i);
-        if room < count {
-            return count;
-        }
-        i += 1;
-    }
-    count
-}
-
-// Whether row j is one of entry b and forbids the interval from start to end.
-fn is_forbidding_row(t: &[i32], j: usize, b: i32, edges: Edges, start: i32, end: i32) -> bool
-    requires { ⌜ (j < 65535) × (j * 5 + 5 ≤ length (now t)) ⌝ }
-    ensures { λ r. ⌜ r ≡ forbids edges b start end (now (t .entry)) j ⌝ }
-{
-    if is_of(t, j, b) {
-        return interval::is_forbidding(edges, start, end, start_of(t, j), end_of(t, j));
-    }
-    false
+    interval::is_forbidding(edges, r.start, r.end, s.start, s.end)
 }
 
 // Whether a row stands before place j that ends at start or later.
 fn is_within(t: &[i32], j: usize, start: i32) -> bool
-    requires { ⌜ (j ≤ 65535) × (j * 5 ≤ length (now t)) ⌝ }
+    requires { ⌜ j * 5 ≤ length (now t) ⌝ }
     ensures { λ r. ⌜ r ≡ isWithin start (now (t .entry)) j ⌝ }
 {
     if j == 0 {
         return false;
     }
-    interval::is_no_later(start, end_of(t, j - 1))
+    let row = table::row_at(t, j - 1);
+    interval::is_no_later(start, row.end)
 }
 
 // The place behind the last of the first n rows that is one of b, or 0. One look at each row behind it.
 fn top_of(t: &[i32], n: usize, b: i32) -> usize
-    requires { ⌜ (n ≤ 65535) × (n * 5 ≤ length (now t)) ⌝ }
+    requires { ⌜ n * 5 ≤ length (now t) ⌝ }
     ensures { λ r. ⌜ r ≡ topOf b n (now (t .entry)) ⌝ }
 {
     let mut j = n;
     while 0 < j {
-        if is_of(t, j - 1, b) {
+        let row = table::row_at(t, j - 1);
+        if row.entry == b {
             return j;
         }
         j -= 1;
@@ -253,40 +239,31 @@ fn top_of(t: &[i32], n: usize, b: i32) -> usize
 
 // -[] -][ -[[ -]]: the new rows of a that no row of b forbids. Where there is a new row of a, the rows behind the last one of b are passed once.
 // Each candidate then looks back at the rows that end at its start or later, up to the first forbidding one.
-fn absence_rows(
-    t: &mut [i32],
-    m: usize,
-    n: usize,
-    room: usize,
-    entry: usize,
-    edges: Edges,
-    a: i32,
-    b: i32,
-) -> usize
-    requires { ⌜ (Appendable n room entry (now t)) × (m ≤ n) ⌝ }
-    ensures { λ r. ⌜ Appended room n (absenceRows edges entry a b m n (now (t .entry))) (now (t .entry)) r (now (t .exit)) ⌝ }
+fn absence_rows(t: &mut [i32], n: usize, f: Frame, edges: Edges, a: i32, b: i32) -> usize
+    requires { ⌜ Appendable f n (now t) ⌝ }
+    ensures { λ r. ⌜ Appended f n (absenceRows edges (natAbs (f .entry)) a b (f .first) (f .end) (now (t .entry))) (now (t .entry)) r (now (t .exit)) ⌝ }
 {
-    if !has_row(t, m, n, a) {
+    let end = f.end;
+    let mut i = next_of(t, f.first, end, a);
+    if end <= i {
         return n;
     }
-    let top = top_of(t, n, b);
+    let top = top_of(t, end, b);
     let mut count = n;
-    let mut i = m;
-    'candidates: while i < n {
+    'candidates: while i < end {
         let r = i;
         i += 1;
-        if is_of(t, r, a) {
-            let start = start_of(t, r);
-            let end = end_of(t, r);
+        let row = table::row_at(t, r);
+        if row.entry == a {
             let mut j = top;
-            while is_within(t, j, start) {
+            while is_within(t, j, row.start) {
                 j -= 1;
-                if is_forbidding_row(t, j, b, edges, start, end) {
+                if is_forbidding_row(t, j, b, edges, row) {
                     continue 'candidates;
                 }
             }
-            count = push_part(t, count, room, entry, r, false);
-            if room < count {
+            count = push_part(t, count, f, r, false);
+            if f.room < count {
                 return count;
             }
         }
@@ -294,72 +271,75 @@ fn absence_rows(
     count
 }
 
-// The row of r, which lasts from start to end, and s, if row s is one of the operand and they are related.
-fn push_pair(
-    t: &mut [i32],
-    n: usize,
-    room: usize,
-    entry: usize,
-    c: Relation,
-    b: i32,
-    r: usize,
-    start: i32,
-    end: i32,
-    s: usize,
-) -> usize
-    requires { ⌜ (Appendable n room entry (now t)) × (r < n) × (s < n) ⌝ }
-    ensures { λ k. ⌜ Appended room n (pairRow c entry b r start end (now (t .entry)) s) (now (t .entry)) k (now (t .exit)) ⌝ }
+// Whether a row is what is wanted.
+fn is_wanted(w: Wanted, s: Row) -> bool
+    ensures { λ r. ⌜ r ≡ isWanted w s ⌝ }
 {
-    if is_of(t, s, b) {
-        let from = start_of(t, s);
-        let to = end_of(t, s);
-        if interval::is_related(c, start, end, from, to) {
-            let least = interval::least_start(start, from);
-            let greatest = interval::greatest_end(end, to);
-            return table::push_row(t, n, room, entry, r as i32, s as i32, least, greatest);
-        }
+    if s.entry != w.operand {
+        return false;
+    }
+    let c = w.relation;
+    interval::is_related(c, w.start, w.end, s.start, s.end)
+}
+
+// The row of a pair, of which the second row is row i, given as s.
+fn pair_of(f: Frame, w: Wanted, s: Row, i: usize) -> Row
+    requires { ⌜ (w .left < 65535) × (i < 65535) ⌝ }
+    ensures { λ r. ⌜ r ≡ pairOf f w s i ⌝ }
+{
+    let mut row = s;
+    row.entry = f.entry;
+    row.left = w.left as i32;
+    row.right = i as i32;
+    row.start = interval::least_start(w.start, s.start);
+    row.end = interval::greatest_end(w.end, s.end);
+    row
+}
+
+// The row of a pair, if row i is what is wanted.
+fn push_pair(t: &mut [i32], n: usize, f: Frame, w: Wanted, i: usize) -> usize
+    requires { ⌜ (Appendable f n (now t)) × (w .left < n) × (i < n) ⌝ }
+    ensures { λ r. ⌜ Appended f n (pairRow (w .relation) (natAbs (f .entry)) (w .operand) (w .left) (w .start) (w .end) (now (t .entry)) i) (now (t .entry)) r (now (t .exit)) ⌝ }
+{
+    let s = table::row_at(t, i);
+    if is_wanted(w, s) {
+        let row = pair_of(f, w, s, i);
+        return table::push_row(t, n, f.room, row);
     }
     n
 }
 
-// Where the search for s begins, given r. A row that ends before the pair does is from before this closing.
-fn right_from(c: Relation, m: usize, r: usize) -> usize
-    ensures { λ k. ⌜ k ≡ rightFrom c m r ⌝ }
+// Where the search for s begins, given r: old rows s are looked at only where s may end first and r is new.
+fn right_from(c: Relation, first: usize, r: usize) -> usize
+    ensures { λ k. ⌜ k ≡ rightFrom c first r ⌝ }
 {
-    if interval::right_may_end_earlier(c) {
-        if m <= r {
-            return 0;
-        }
+    let ending = interval::ending_of(c);
+    match ending {
+        Ending::Before => first,
+        Ending::Within => first,
+        Ending::Together => first,
+        Ending::Either => if first <= r { 0 } else { first },
     }
-    m
 }
 
-// The pairs of row r, if it is one of a. One look at each new row; at all rows where s may be old and r is new.
-fn pairs_with(
-    t: &mut [i32],
-    m: usize,
-    end: usize,
-    n: usize,
-    room: usize,
-    entry: usize,
-    c: Relation,
-    a: i32,
-    b: i32,
-    r: usize,
-) -> usize
-    requires { ⌜ (Appendable n room entry (now t)) × (r < end) × (end ≤ n) ⌝ }
-    ensures { λ k. ⌜ Appended room n (pairsWith c entry a b m end (now (t .entry)) r) (now (t .entry)) k (now (t .exit)) ⌝ }
+// The pairs of row r. One look at each new row; at all rows where s may be old and r is new.
+fn pairs_with(t: &mut [i32], n: usize, f: Frame, c: Relation, b: i32, r: usize) -> usize
+    requires { ⌜ (Appendable f n (now t)) × (r < f .end) ⌝ }
+    ensures { λ k. ⌜ Appended f n (pairsOf c (natAbs (f .entry)) b (f .first) (f .end) (now (t .entry)) r) (now (t .entry)) k (now (t .exit)) ⌝ }
 {
-    if !is_of(t, r, a) {
-        return n;
-    }
-    let from = start_of(t, r);
-    let to = end_of(t, r);
+    let left = table::row_at(t, r);
+    let w = Wanted {
+        relation: c,
+        operand: b,
+        left: r,
+        start: left.start,
+        end: left.end,
+    };
     let mut count = n;
-    let mut s = right_from(c, m, r);
-    while s < end {
-        count = push_pair(t, count, room, entry, c, b, r, from, to, s);
-        if room < count {
+    let mut s = right_from(c, f.first, r);
+    while s < f.end {
+        count = push_pair(t, count, f, w, s);
+        if f.room < count {
             return count;
         }
         s += 1;
@@ -367,49 +347,18 @@ fn pairs_with(
     count
 }
 
-// Whether one of the rows from m to before n is one of entry b. One look at each of these rows, up to the first.
-fn has_row(t: &[i32], m: usize, n: usize, b: i32) -> bool
-    requires { ⌜ (n ≤ 65535) × (n * 5 ≤ length (now t)) ⌝ }
-    ensures { λ r. ⌜ r ≡ hasRow b m n (now (t .entry)) ⌝ }
-{
-    let mut i = m;
-    while i < n {
-        if is_of(t, i, b) {
-            return true;
-        }
-        i += 1;
-    }
-    false
-}
-
-// Where the search for r begins: nowhere if there is no new s and one is needed. One look at each new row.
-fn left_from(t: &[i32], m: usize, n: usize, c: Relation, b: i32) -> usize
-    requires { ⌜ (n ≤ 65535) × (n * 5 ≤ length (now t)) ⌝ }
-    ensures { λ r. ⌜ r ≡ leftFrom c b m n (now (t .entry)) ⌝ }
-{
-    if has_row(t, m, n, b) {
-        if interval::left_may_end_earlier(c) {
-            return 0;
-        }
-        return m;
-    }
-    if interval::right_may_end_earlier(c) {
-        return m;
-    }
-    n
-}
-
 // The next row of entry a from row i on, or n: at once where i is n, as it mostly is, no partner being new. One look at each row up to it.
 fn next_of(t: &[i32], i: usize, n: usize, a: i32) -> usize
-    requires { ⌜ (i ≤ n) × (n ≤ 65535) × (n * 5 ≤ length (now t)) ⌝ }
-    ensures { λ r. ⌜ NextOf a i n (now (t .entry)) r ⌝ }
+    requires { ⌜ (i ≤ n) × (n * 5 ≤ length (now t)) ⌝ }
+    ensures { λ r. ⌜ r ≡ nextRow a i n (now (t .entry)) ⌝ }
 {
     if n <= i {
         return i;
     }
     let mut r = pass_fours(t, i, n, a);
     while r < n {
-        if is_of(t, r, a) {
+        let row = table::row_at(t, r);
+        if row.entry == a {
             return r;
         }
         r += 1;
@@ -419,8 +368,8 @@ fn next_of(t: &[i32], i: usize, n: usize, a: i32) -> usize
 
 // The same search, four rows to a turn, which spares the steps of the loop; where none is found, up to three rows are left.
 fn pass_fours(t: &[i32], i: usize, n: usize, a: i32) -> usize
-    requires { ⌜ (i ≤ n) × (n ≤ 65535) × (n * 5 ≤ length (now t)) ⌝ }
-    ensures { λ r. ⌜ NextOf a i n (now (t .entry)) r ⌝ }
+    requires { ⌜ (i ≤ n) × (n * 5 ≤ length (now t)) ⌝ }
+    ensures { λ r. ⌜ Passed a i n (now (t .entry)) r ⌝ }
 {
     let mut r = i;
     while r + 4 <= n {
@@ -441,31 +390,78 @@ fn pass_fours(t: &[i32], i: usize, n: usize, a: i32) -> usize
     r
 }
 
-// seq, and, meets, overlaps, starts, during, finishes, equals: the pairs of which one row or both are new. One look at each row, and for
-// each that is one of a, one at each new row; finishes and equals look at new rows only; `and` looks at all rows for each new row of a.
-// Where no row of b is new, one look at each new row and no more, but for `and`.
-fn pair_rows(
-    t: &mut [i32],
-    m: usize,
-    n: usize,
-    room: usize,
-    entry: usize,
-    c: Relation,
-    a: i32,
-    b: i32,
-) -> usize
-    requires { ⌜ (Appendable n room entry (now t)) × (m ≤ n) ⌝ }
-    ensures { λ r. ⌜ Appended room n (pairRows c entry a b m n (now (t .entry))) (now (t .entry)) r (now (t .exit)) ⌝ }
+// Whether row i is one of entry a.
+fn is_of(t: &[i32], i: usize, a: i32) -> bool
+    requires { ⌜ i * 5 + 5 ≤ length (now t) ⌝ }
+    ensures { λ r. ⌜ r ≡ eqZ (cell (now (t .entry)) i 0) a ⌝ }
 {
+    let row = table::row_at(t, i);
+    row.entry == a
+}
+
+// The least start of the rows of b from row s, which is one, to before row n. One look at each of these rows.
+fn least_start(t: &[i32], s: usize, n: usize, b: i32) -> i32
+    requires { ⌜ (s < n) × (n * 5 ≤ length (now t)) ⌝ }
+    ensures { λ r. ⌜ r ≡ leastStart b s n (now (t .entry)) ⌝ }
+{
+    let first = table::row_at(t, s);
+    let mut least = first.start;
+    let mut i = s;
+    while i < n {
+        let row = table::row_at(t, i);
+        i += 1;
+        if row.entry == b {
+            least = interval::least_start(least, row.start);
+        }
+    }
+    least
+}
+
+// Where the search for r begins. Without a new s, nowhere, but for `and`: one look at each new row. With one, at the new rows, or at the
+// first row, or, where r ends at the start of s or later, at the first row that does so for one of the new s: one look at each new row, and
+// a binary search.
+fn left_from(t: &[i32], f: Frame, c: Relation, b: i32) -> usize
+    requires { ⌜ (f .first ≤ f .end) × (f .end * 5 ≤ length (now t)) × Ordered (f .first) (now t) ⌝ }
+    ensures { λ r. ⌜ r ≡ leftFrom (endingOf c) b (f .first) (f .end) (now (t .entry)) ⌝ }
+{
+    let end = f.end;
+    let ending = interval::ending_of(c);
+    let s = next_of(t, f.first, end, b);
+    match ending {
+        Ending::Before => if s < end { 0 } else { end },
+        Ending::Within => if s < end { reaching_from(t, f, b, s) } else { end },
+        Ending::Together => if s < end { f.first } else { end },
+        Ending::Either => if s < end { 0 } else { f.first },
+    }
+}
+
+// The first row that ends at the least start of the new rows of b or later. One look at each new row, and a binary search.
+fn reaching_from(t: &[i32], f: Frame, b: i32, s: usize) -> usize
+    requires { ⌜ (s < f .end) × (f .first ≤ f .end) × (f .end * 5 ≤ length (now t)) × Ordered (f .first) (now t) ⌝ }
+    ensures { λ r. ⌜ r ≡ endingBefore (f .first) (leastStart b s (f .end) (now (t .entry))) (now (t .entry)) ⌝ }
+{
+    let least = least_start(t, s, f.end, b);
+    table::ending_before(t, f.first, least)
+}
+
+// seq, and, meets, overlaps, starts, during, finishes, equals: the pairs of which one row or both are new. One look at each row from where the
+// search for r begins, and for each that is one of a, one at each new row; `and` looks at all rows for each new row of a. For meets, overlaps,
+// starts and during the search begins at the first row that ends at the least start of the new rows of b or later, found by a binary search;
+// for finishes and equals at the new rows. Where no row of b is new, one look at each new row and no more, but for `and`.
+fn pair_rows(t: &mut [i32], n: usize, f: Frame, c: Relation, a: i32, b: i32) -> usize
+    requires { ⌜ Appendable f n (now t) ⌝ }
+    ensures { λ r. ⌜ Appended f n (pairRows c (natAbs (f .entry)) a b (f .first) (f .end) (now (t .entry))) (now (t .entry)) r (now (t .exit)) ⌝ }
+{
+    let end = f.end;
     let mut count = n;
-    let first = left_from(t, m, n, c, b);
-    let mut r = next_of(t, first, n, a);
-    while r < n {
-        count = pairs_with(t, m, n, count, room, entry, c, a, b, r);
-        if room < count {
+    let first = left_from(t, f, c, b);
+    let mut r = next_of(t, first, end, a);
+    while r < end {
+        count = pairs_with(t, count, f, c, b, r);
+        if f.room < count {
             return count;
         }
-        r = next_of(t, r + 1, n, a);
+        r = next_of(t, r + 1, end, a);
     }
     count
 }
@@ -473,52 +469,52 @@ fn pair_rows(
 // The rows of one entry, by its operator. Costs what that operator's function costs.
 fn entry_rows(
     t: &mut [i32],
-    m: usize,
     n: usize,
-    room: usize,
-    entry: usize,
+    f: Frame,
     e: Entry,
-    instant: i32,
-    first: usize,
-    pending: usize,
-    codes: [u8; 64],
+    p: Pending,
+    codes: &[u8; 64],
 ) -> usize
-    requires { ⌜ (Appendable n room entry (now t)) × (m ≤ n) × (pending ≤ 64) × (first + pending ≤ 1000001) × (entryFits entry e ≡ true) ⌝ }
-    ensures { λ r. ⌜ Appended room n (addedRows (entryOperator e) entry instant first pending codes m n (now (t .entry))) (now (t .entry)) r (now (t .exit)) ⌝ }
+    requires { ⌜ (Appendable f n (now t)) × SerialsFit p × (entryFits (natAbs (f .entry)) e ≡ true) ⌝ }
+    ensures { λ r. ⌜ Appended f n (addedRows (entryOperator e) (natAbs (f .entry)) p (now (codes .entry)) (f .first) (f .end) (now (t .entry))) (now (t .entry)) r (now (t .exit)) ⌝ }
 {
     let a = e.a;
     let b = e.b;
     let kind = chart::operator::kind_of(e.op);
     match kind {
-        Kind::Event => event_rows(t, n, room, entry, a, instant, first, pending, codes),
-        Kind::Or => or_rows(t, m, n, room, entry, a as i32, b as i32),
-        Kind::Pair(c) => pair_rows(t, m, n, room, entry, c, a as i32, b as i32),
-        Kind::Absence(edges) => { absence_rows(t, m, n, room, entry, edges, a as i32, b as i32) }
-        Kind::Length(test) => length_rows(t, m, n, room, entry, test, a as i32, b),
+        Kind::Event => event_rows(t, n, f, a, p, codes),
+        Kind::Or => or_rows(t, n, f, a as i32, b as i32),
+        Kind::Pair(c) => pair_rows(t, n, f, c, a as i32, b as i32),
+        Kind::Absence(edges) => absence_rows(t, n, f, edges, a as i32, b as i32),
+        Kind::Length(test) => taken_rows(t, n, f, a as i32, Taken::Lasting(test, b), false),
         Kind::Unknown => n,
     }
 }
 
 // The rows of all entries, in their order. Costs what the entries' functions cost.
-fn all_rows(
-    chart: Chart,
-    t: &mut [i32],
-    rows: usize,
-    room: usize,
-    instant: i32,
-    first: usize,
-    pending: usize,
-    codes: [u8; 64],
-) -> usize
-    requires { ⌜ (Ready chart rows (now t)) × (EndBefore instant rows (now t)) × (room ≡ capacity (length (now t))) × (pending ≤ 64) × (first + pending ≤ 1000001) ⌝ }
-    ensures { λ r. ⌜ Appended room rows (drop rows (rowsClosed chart instant first (take pending codes) rows (now (t .entry)))) (now (t .entry)) r (now (t .exit)) ⌝ }
+fn all_rows(chart: Chart, state: WatchState, t: &mut [i32], room: usize) -> usize
+    requires { ⌜ Closable chart state (now t) × (room ≡ capacity (length (now t))) ⌝ }
+    ensures { λ r. ⌜ FilledBy room (state .rows) (drop (state .rows) (closedRows chart state (now (t .entry)))) (now (t .entry)) r (now (t .exit)) ⌝ }
 {
+    let rows = state.rows;
+    let codes = state.codes;
+    let p = Pending {
+        instant: state.instant,
+        first: state.events - state.pending + 1,
+        count: state.pending,
+    };
     let count = chart.count;
     let mut n = rows;
     let mut i: usize = 0;
     while i < count {
         let e = chart.entries[i];
-        n = entry_rows(t, rows, n, room, i, e, instant, first, pending, codes);
+        let f = Frame {
+            first: rows,
+            end: n,
+            room,
+            entry: i as i32,
+        };
+        n = entry_rows(t, n, f, e, p, &codes);
         if room < n {
             return n;
         }
@@ -527,27 +523,18 @@ fn all_rows(
     n
 }
 
-// Appends, entry by entry, the rows that end at the open instant, of which these are the pending events, the first of them with serial
-// `first`; hands back how many rows there are then, or one more than the table holds where they do not fit, and then the table is as it
-// was. Costs what the entries' functions cost, and where the rows do not fit, one store for each number behind the old rows. Where no
-// event is pending, no row is looked at.
-pub fn close(
-    chart: Chart,
-    table: &mut [i32],
-    rows: usize,
-    instant: i32,
-    first: usize,
-    pending: usize,
-    codes: [u8; 64],
-) -> usize
-    requires { ⌜ (Ready chart rows (now table)) × (EndBefore instant rows (now table)) × (pending ≤ 64) × (1 ≤ first) × (first + pending ≤ 1000001) ⌝ }
-    ensures { λ r. ⌜ (r ≡ closedCount (capacity (length (now (table .entry)))) (rowsClosed chart instant first (take pending codes) rows (now (table .entry)))) × (now (table .exit) ≡ closedTable rows (rowsClosed chart instant first (take pending codes) rows (now (table .entry))) (now (table .entry))) ⌝ }
+// Appends, entry by entry, the rows that end at the open instant; hands back how many rows there are then, or one more than the table holds
+// where they do not fit, and then the table is as it was. Costs what the entries' functions cost, and where the rows do not fit, one store for
+// each number behind the old rows. Where no event is pending, no row is looked at.
+pub fn close(chart: Chart, state: WatchState, table: &mut [i32]) -> usize
+    requires { ⌜ Closable chart state (now table) ⌝ }
+    ensures { λ r. ⌜ (r ≡ closedNumber chart state (now (table .entry))) × (now (table .exit) ≡ closedTable chart state (now (table .entry))) ⌝ }
 {
     let room = table::rows_that_fit(table.len());
-    let n = all_rows(chart, table, rows, room, instant, first, pending, codes);
+    let n = all_rows(chart, state, table, room);
     if n <= room {
         return n;
     }
-    table::zero_part(table, rows * 5, room * 5);
+    table::zero_part(table, state.rows * 5, room * 5);
     n
 }

@@ -8,9 +8,14 @@ use lib.IntN.{ℤ, pos, natAbs}
 use lib.ListN.{length, getD, take, drop, replicate}
 use lib.Seq.{sets, slice}
 use Rattle.interval.specs.Instants.{eqZ}
+use Rattle.model.specs.Capacity.{capacity}
 use Rattle.model.specs.Lists.{every, each, numbers}
 use Rattle.model.specs.Order.{Row, row}
 use Rattle.table.specs.declared.Row as stored
+
+-- how many rows it can hold
+abbrev pub roomIn : List ℤ → ℕ
+roomIn t = capacity (length t)
 
 -- column k of row i
 abbrev pub cell : List ℤ → ℕ → ℕ → ℤ

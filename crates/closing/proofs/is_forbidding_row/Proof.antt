@@ -1,52 +1,40 @@
--- `is_forbidding_row` meets its contract: the entry is tested first, then the condition.
+-- `is_forbidding_row` meets its contract: the tests one by one.
 use borrow.Author.Needs.{needs}
+use mathlib.Core.Path.{_≡_, sym, ap, _∙_}
+use mathlib.Core.Bool.{true, false}
 use mir.Syntax.{w32}
 use mir.Val.{SFits}
-use Rattle.interval.proofs.Machine.{same32}
+use Rattle.interval.proofs.Machine.{same32, eqZ-yes, eqZ-no}
 use Rattle.closing.specs.Added.{forbids}
-use Rattle.closing.proofs.Laws.{of-entry}
 use Rattle.closing.proofs.is_forbidding_row.Statement.{statement}
 use Rattle.closing.proofs.is_forbidding_row.Tie as tie
 
-is-of-requires : tie.Need-is-of-requires
-is-of-requires c κs = search needs
+entry : (c : tie.After-struct-told) → SFits w32 (c .before .before .row-at .result .entry)
+entry c = record { sfits = c .struct-told .given .0 .1 }
 
-start-of-requires : tie.Need-start-of-requires
-start-of-requires c κs = search needs
-
-end-of-requires : tie.Need-end-of-requires
-end-of-requires c κs = search needs
-
-is-forbidding-requires : tie.Need-is-forbidding-requires
-is-forbidding-requires c κs = search needs
-
-returns : tie.Need-returns
+other : tie.Need-returns
 unfolding forbids
-returns c =
-    let n = c .before in
-    let s = n .before in
-    let y = s .before in
-    let f = y .before .before .fits in
-    let g = y .before .before .args in
-    let yes = of-entry (g .t .now) (g .j) (g .b) (f .b) (y .before .is-of .ensures) (y .if1 .taken) in
-    let fs : SFits w32 (s .start-of .result) = record { sfits = s .start-of .ok } in
-    let fe : SFits w32 (n .end-of .result) = record { sfits = n .end-of .ok } in
-    simp yes (simp (s .start-of .ensures, n .end-of .ensures) at (simp (same32, f .start, f .end, fs, fe) at (c .is-forbidding .ensures)))
+other c =
+    let y = c .before in
+    let r = y .before .before in
+    simp (simp (r .row-at .ensures) at (eqZ-no _ _ (entry y) (r .before .fits .b) (c .if1 .taken)))
 
-returns-2 : tie.Need-returns-2
+one : tie.Need-returns-2
 unfolding forbids
-returns-2 c =
-    let g = c .before .before .args in
-    let no = of-entry (g .t .now) (g .j) (g .b) (c .before .before .fits .b) (c .before .is-of .ensures) (c .if1 .left) in
-    simp no
+one c =
+    let e5 = c .before in
+    let e4 = e5 .before in
+    let e3 = e4 .before in
+    let e2 = e3 .before in
+    let z = e2 .before in
+    let y = z .before in
+    let r = y .before .before in
+    let g = r .before .args in
+    let rs : SFits w32 (g .r .start) = record { sfits = e2 .struct-told2 .given .1 .1 .1 .0 .1 } in
+    let re : SFits w32 (g .r .end) = record { sfits = e3 .struct-told3 .given .1 .1 .1 .1 .0 .1 } in
+    let ss : SFits w32 (r .row-at .result .start) = record { sfits = e4 .struct-told4 .given .1 .1 .1 .0 .1 } in
+    let se : SFits w32 (r .row-at .result .end) = record { sfits = e5 .struct-told5 .given .1 .1 .1 .1 .0 .1 } in
+    simp (simp (r .row-at .ensures) at (eqZ-yes _ _ (entry y) (r .before .fits .b) (z .if1 .left))) (simp (r .row-at .ensures) at (simp (same32, rs, re, ss, se) at (c .is-forbidding .ensures)))
 
 pub is-forbidding-row-spec : {M : Type 1} → statement M
-is-forbidding-row-spec =
-    tie.close
-    (tie.spec
-    is-of-requires
-    start-of-requires
-    end-of-requires
-    is-forbidding-requires
-    returns
-    returns-2)
+is-forbidding-row-spec = tie.close (tie.spec (λ c κs. search needs) other (λ c κs. search needs) one)

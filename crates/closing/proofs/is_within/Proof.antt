@@ -1,33 +1,30 @@
--- `is_within` meets its contract: the row before place j is row j - 1.
+-- `is_within` meets its contract: the row before place j, if there is one.
 use borrow.Author.Needs.{needs}
-use Rattle.closing.specs.Added.{isWithin}
+use mathlib.Core.Path.{sym, _∙_}
+use native.Mathlib.Omega.{arith}
 use mir.Syntax.{w32}
 use mir.Val.{SFits}
-use mathlib.Core.Path.{sym}
 use Rattle.interval.proofs.Machine.{same32}
+use Rattle.closing.specs.Added.{isWithin}
 use Rattle.closing.proofs.Laws.{within-at}
 use Rattle.closing.proofs.is_within.Statement.{statement}
 use Rattle.closing.proofs.is_within.Tie as tie
 
-returns : tie.Need-returns
-unfolding isWithin
-returns c = simp (c .if1 .taken)
-
-sub-end-of : tie.Need-sub-end-of
-sub-end-of c = search needs
-
-end-of-requires : tie.Need-end-of-requires
-end-of-requires c κs = search needs
-
-is-no-later-requires : tie.Need-is-no-later-requires
-is-no-later-requires c κs = search needs
-
 returns-2 : tie.Need-returns-2
 returns-2 c =
-    let d = c .before in
-    let s = d .before in
-    let f : SFits w32 (d .end-of .result) = record { sfits = d .end-of .ok } in
-    simp (c .is-no-later .ensures, same32, s .before .fits .start, f) (simp (d .end-of .ensures) (sym (within-at _ _ _ (s .if1 .left))))
+    let e = c .before in
+    let r = e .before in
+    let s = r .before .before in
+    let f : SFits w32 (r .row-at .result .end) = record { sfits = e .struct-told .given .1 .1 .1 .1 .0 .1 } in
+    simp (r .row-at .ensures) at (simp (same32, f, s .fits .start) at (c .is-no-later .ensures)) ∙ sym (within-at (s .args .start) (s .args .t .now) (s .args .j) (r .before .if1 .left))
 
 pub is-within-spec : {M : Type 1} → statement M
-is-within-spec = tie.close (tie.spec returns sub-end-of end-of-requires is-no-later-requires returns-2)
+unfolding isWithin
+is-within-spec =
+    tie.close
+    (tie.spec
+    (λ c. simp (c .if1 .taken))
+    (λ c. omega arith)
+    (λ c κs. omega arith)
+    (λ c κs. search needs)
+    returns-2)

@@ -1,53 +1,51 @@
--- `next_of` meets its contract: no row that was passed is one of the entry.
-use Prim.Native.Nat.{_-_}
-use mathlib.Core.Path.{refl, sym, _∙_}
-use native.Mathlib.Omega.{arith}
-use mir.Syntax.{w32}
-use mir.Val.{toZ}
-use Rattle.interval.proofs.Machine.{same32}
-use Rattle.closing.specs.Added.{NextOf}
-use Rattle.closing.proofs.Laws.{next-none, next-one}
 use Rattle.closing.proofs.next_of.Statement.{statement}
 use Rattle.closing.proofs.next_of.Tie as tie
+use Rattle.closing.proofs.next_of.Reads as reads
+use Rattle.closing.proofs.next_of.Lts as lts
+use Rattle.closing.proofs.pass_fours.Reads as pass-fours-reads
+use Rattle.table.proofs.row_at.Reads as row-at-reads
 
 abbrev Inv-loop : tie.InvT-loop
-Inv-loop t i n a r₀ r = NextOf (toZ w32 a) i n t r
+Inv-loop t i n a r₀ r = ?
 
 abbrev μ-loop : tie.MeasureT-loop
-μ-loop t i n a r₀ r = n - r
+μ-loop t i n a r₀ r = ?
 
+-- src/lib.rt:356:9
 returns : tie.Need-returns Inv-loop μ-loop
-returns c = next-none _ _ _ _ (c .before .pre .0)
+returns c = ?
 
+-- src/lib.rt:358:9
 pass-fours-requires : tie.Need-pass-fours-requires Inv-loop μ-loop
-pass-fours-requires c κs = c .before .pre
+pass-fours-requires c κs = ?
 
+-- src/lib.rt:359:5
 loop-holds : tie.Need-loop-holds Inv-loop μ-loop
-loop-holds c = c .pass-fours .ensures
+loop-holds c = ?
 
-is-of-requires : tie.Need-is-of-requires Inv-loop μ-loop
-is-of-requires c κs = omega arith
+-- src/lib.rt:360:13
+row-at-requires : tie.Need-row-at-requires Inv-loop μ-loop
+row-at-requires c κs = ?
 
+-- src/lib.rt:362:13
 returns-2 : tie.Need-returns-2 Inv-loop μ-loop
-returns-2 c =
-    let l = c .before .before .before in
-    simp (same32, l .before .before .before .fits .a) at (l .loop .inv)
+returns-2 c = ?
 
+-- src/lib.rt:364:9
 add-r : tie.Need-add-r Inv-loop μ-loop
-add-r c = omega arith
+add-r c = ?
 
+-- src/lib.rt:359:5
 loop-less : tie.Need-loop-less Inv-loop μ-loop
-loop-less c = omega arith
+loop-less c = ?
 
+-- src/lib.rt:359:5
 loop-again : tie.Need-loop-again Inv-loop μ-loop
-loop-again c =
-    let l = c .before .before .before in
-    next-one _ _ _ _ _ _ (l .loop .inv) (omega arith) refl (sym (c .before .is-of .ensures) ∙ c .if2 .left)
+loop-again c = ?
 
+-- src/lib.rt:351:1
 returns-3 : tie.Need-returns-3 Inv-loop μ-loop
-returns-3 c =
-    let l = c .before in
-    simp (same32, l .before .before .before .fits .a) at (l .loop .inv)
+returns-3 c = ?
 
 pub next-of-spec : {M : Type 1} → statement M
 next-of-spec =
@@ -58,7 +56,7 @@ next-of-spec =
     returns
     pass-fours-requires
     loop-holds
-    is-of-requires
+    row-at-requires
     returns-2
     add-r
     loop-less

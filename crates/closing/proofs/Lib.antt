@@ -1,6 +1,6 @@
 pub mod Spans
-pub mod Searches
 pub mod Filling
+pub mod Searches
 pub mod Derived
 pub mod Laws
 pub mod Growth

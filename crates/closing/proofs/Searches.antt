@@ -10,6 +10,7 @@ use lib.IntN.{ℤ}
 use Rattle.interval.specs.Instants.{eqZ, least}
 use Rattle.interval.proofs.Signed.{_≤ᶻ_, never, least-is}
 use Rattle.table.specs.Table.{cell}
+use Rattle.closing.proofs.Filling.{Kept}
 use Rattle.closing.specs.Added.{nextFrom, nextRow, Passed, leastFrom, leastStart}
 
 -- the next row of a
@@ -83,6 +84,23 @@ module _ (a : ℤ) (t : List ℤ) where
 
   pub passed-one : (i n r k : ℕ) → Passed a i n t r → r < n → k ≡ r + 1 → eqZ (cell t r 0) a ≡ false → Passed a i n t k
   passed-one i n r k f h s e = record { least = omega (arith, f .least); most = omega arith; same = ap (λ x. nextRow a x n t) s ∙ next-on r n h e ∙ f .same }
+
+-- what a search found, said of a table whose first rows are those of the one searched
+pub record Found (a : ℤ) (i n : ℕ) (t : List ℤ) (k : ℕ) : Type 0 where
+  pub least : i ≤ k
+  pub most : k ≤ n
+  pub none : (j : ℕ) → i ≤ j → j < k → eqZ (cell t j 0) a ≡ false
+  pub is : k < n → eqZ (cell t k 0) a ≡ true
+
+pub found : (m : ℕ) (u t : List ℤ) → Kept m u t → (a : ℤ) (i n k : ℕ) → i ≤ n → n ≤ m → k ≡ nextRow a i n u → Found a i n t k
+found m u t w a i n k h g e =
+    let most = next-most a u i n h in
+    record {
+      least = omega (arith, next-least a u i n);
+      most = omega arith;
+      none = λ j p q. ap (λ z. eqZ z a) (sym (w j 0 (omega arith) (omega arith))) ∙ next-none a u i n j p (omega arith);
+      is = λ p. ap (λ z. eqZ z a) (sym (w k 0 (omega arith) (omega arith))) ∙ ap (λ z. eqZ (cell u z 0) a) e ∙ next-is a u i n h (omega arith);
+    }
 
 -- the least start of the rows of b
 module _ (b : ℤ) (t : List ℤ) where

@@ -96,12 +96,14 @@ fn event_rows(
     requires { ⌜ (Appendable f n (now t)) × SerialsFit p ⌝ }
     ensures { λ r. ⌜ Appended f n (eventRows (natAbs (f .entry)) k p (now (codes .entry))) (now (t .entry)) r (now (t .exit)) ⌝ }
 {
+    let room = f.room;
+    let pending = p.count;
     let mut count = n;
     let mut j: usize = 0;
-    while j < p.count {
+    while j < pending {
         let code = codes[j];
         count = push_event(t, count, f, k, p.instant, code, p.first + j);
-        if f.room < count {
+        if room < count {
             return count;
         }
         j += 1;
@@ -173,11 +175,13 @@ fn taken_rows(t: &mut [i32], n: usize, f: Frame, a: i32, taken: Taken, second: b
     requires { ⌜ Appendable f n (now t) ⌝ }
     ensures { λ r. ⌜ Appended f n (takenRows (armOf second) (natAbs (f .entry)) a taken (f .first) (f .end) (now (t .entry))) (now (t .entry)) r (now (t .exit)) ⌝ }
 {
+    let end = f.end;
+    let room = f.room;
     let mut count = n;
     let mut i = f.first;
-    while i < f.end {
+    while i < end {
         count = push_taken(t, count, f, a, taken, second, i);
-        if f.room < count {
+        if room < count {
             return count;
         }
         i += 1;
@@ -228,8 +232,7 @@ fn top_of(t: &[i32], n: usize, b: i32) -> usize
 {
     let mut j = n;
     while 0 < j {
-        let row = table::row_at(t, j - 1);
-        if row.entry == b {
+        if is_of(t, j - 1, b) {
             return j;
         }
         j -= 1;
@@ -244,6 +247,7 @@ fn absence_rows(t: &mut [i32], n: usize, f: Frame, edges: Edges, a: i32, b: i32)
     ensures { λ r. ⌜ Appended f n (absenceRows edges (natAbs (f .entry)) a b (f .first) (f .end) (now (t .entry))) (now (t .entry)) r (now (t .exit)) ⌝ }
 {
     let end = f.end;
+    let room = f.room;
     let mut i = next_of(t, f.first, end, a);
     if end <= i {
         return n;
@@ -252,20 +256,18 @@ fn absence_rows(t: &mut [i32], n: usize, f: Frame, edges: Edges, a: i32, b: i32)
     let mut count = n;
     'candidates: while i < end {
         let r = i;
-        i += 1;
+        i = next_of(t, r + 1, end, a);
         let row = table::row_at(t, r);
-        if row.entry == a {
-            let mut j = top;
-            while is_within(t, j, row.start) {
-                j -= 1;
-                if is_forbidding_row(t, j, b, edges, row) {
-                    continue 'candidates;
-                }
+        let mut j = top;
+        while is_within(t, j, row.start) {
+            j -= 1;
+            if is_forbidding_row(t, j, b, edges, row) {
+                continue 'candidates;
             }
-            count = push_part(t, count, f, r, false);
-            if f.room < count {
-                return count;
-            }
+        }
+        count = push_part(t, count, f, r, false);
+        if room < count {
+            return count;
         }
     }
     count
@@ -335,11 +337,13 @@ fn pairs_with(t: &mut [i32], n: usize, f: Frame, c: Relation, b: i32, r: usize) 
         start: left.start,
         end: left.end,
     };
+    let end = f.end;
+    let room = f.room;
     let mut count = n;
     let mut s = right_from(c, f.first, r);
-    while s < f.end {
+    while s < end {
         count = push_pair(t, count, f, w, s);
-        if f.room < count {
+        if room < count {
             return count;
         }
         s += 1;
@@ -357,8 +361,7 @@ fn next_of(t: &[i32], i: usize, n: usize, a: i32) -> usize
     }
     let mut r = pass_fours(t, i, n, a);
     while r < n {
-        let row = table::row_at(t, r);
-        if row.entry == a {
+        if is_of(t, r, a) {
             return r;
         }
         r += 1;
@@ -453,12 +456,13 @@ fn pair_rows(t: &mut [i32], n: usize, f: Frame, c: Relation, a: i32, b: i32) -> 
     ensures { λ r. ⌜ Appended f n (pairRows c (natAbs (f .entry)) a b (f .first) (f .end) (now (t .entry))) (now (t .entry)) r (now (t .exit)) ⌝ }
 {
     let end = f.end;
+    let room = f.room;
     let mut count = n;
     let first = left_from(t, f, c, b);
     let mut r = next_of(t, first, end, a);
     while r < end {
         count = pairs_with(t, count, f, c, b, r);
-        if f.room < count {
+        if room < count {
             return count;
         }
         r = next_of(t, r + 1, end, a);

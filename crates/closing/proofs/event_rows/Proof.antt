@@ -1,58 +1,59 @@
+-- `event_rows` meets its contract: what the events left append is what all were to append.
+use Prim.Native.Nat.{_+_, _-_, _≤_}
+use borrow.Author.Needs.{needs}
+use native.Mathlib.Nat.{sub-zero}
+use native.Mathlib.Omega.{arith}
+use mathlib.Core.Path.{refl, _∙_}
+use mir.Syntax.{w32}
+use mir.Val.{SFits}
+use lib.IntN.{natAbs}
+use lib.ListN.{getD}
+use Rattle.interval.proofs.Machine.{same32}
+use Rattle.model.specs.Lists.{each}
+use Rattle.closing.specs.Added.{FilledBy, span, eventRow, eventRows}
+use Rattle.closing.proofs.Filling.{Filling, begin, turn, stop, over, appendable}
 use Rattle.closing.proofs.event_rows.Statement.{statement}
 use Rattle.closing.proofs.event_rows.Tie as tie
-use Rattle.closing.proofs.event_rows.Reads as reads
-use Rattle.closing.proofs.event_rows.Lts as lts
-use Rattle.closing.proofs.push_event.Reads as push-event-reads
 
 abbrev Inv-loop : tie.InvT-loop
-Inv-loop t₀ n f k p codes count₀ j₀ t count j = ?
+Inv-loop t₀ n f k p codes room pending count₀ j₀ t count j =
+    (j ≤ p .count) ×
+    Filling (f .room) n (eventRows (natAbs (f .entry)) k p codes) t₀ count (each (λ i. eventRow (natAbs (f .entry)) k (p .instant) (getD codes i 0) (p .first + i)) (span j (p .count))) t
 
 abbrev μ-loop : tie.MeasureT-loop
-μ-loop t₀ n f k p codes count₀ j₀ t count j = ?
+μ-loop t₀ n f k p codes room pending count₀ j₀ t count j = p .count - j
 
--- src/lib.rt:101:5
 loop-holds : tie.Need-loop-holds Inv-loop μ-loop
-loop-holds c = ?
+unfolding eventRows
+loop-holds c = (omega arith, rw sub-zero (begin _ _ _ _ (c .pre .0 .fit)))
 
--- src/lib.rt:102:20
-element-copy-out-code : tie.Need-element-copy-out-code Inv-loop μ-loop
-element-copy-out-code c = ?
-
--- src/lib.rt:103:61
-add-push-event : tie.Need-add-push-event Inv-loop μ-loop
-add-push-event c = ?
-
--- src/lib.rt:103:9
 push-event-requires : tie.Need-push-event-requires Inv-loop μ-loop
-push-event-requires c κs = ?
+push-event-requires c κs =
+    let l = c .before .before .before .before .before in
+    (appendable (l .before .pre .0) (l .loop .inv .1), omega (arith, l .before .pre .1 .most))
 
--- src/lib.rt:105:13
+-- the event's row, with the instant as it reached the callee
+appended : (c : tie.After-push-event Inv-loop μ-loop) → let l = c .before .before .before .before .before .before in let g = l .before .args in FilledBy (g .f .room) (l .loop .count) (eventRow (natAbs (g .f .entry)) (g .k) (g .p .instant) (getD (g .codes .now) (l .loop .j) 0) (g .p .first + l .loop .j)) (l .loop .t) (c .push-event .result) (c .push-event .last .0)
+appended c =
+    let f : SFits w32 (c .before .before .before .before .before .before .before .args .p .instant) = record { sfits = c .before .struct-told .given .0 .1 } in
+    simp (same32, f) at (c .push-event .ensures)
+
 same-length : tie.Need-same-length Inv-loop μ-loop
-same-length c = ?
+same-length c =
+    let d = c .before .before in
+    d .push-event .kept .0 ∙ d .before .before .before .before .before .before .loop .inv .1 .size
 
--- src/lib.rt:105:13
 returns : tie.Need-returns Inv-loop μ-loop
-returns c = ?
+returns c =
+    let d = c .before .before in
+    let l = d .before .before .before .before .before .before in
+    stop _ (l .loop .j) (l .before .args .p .count) (l .loop .inv .1) (omega arith) refl (appended d) (c .if1 .taken)
 
--- src/lib.rt:107:9
-add-j : tie.Need-add-j Inv-loop μ-loop
-add-j c = ?
-
--- src/lib.rt:101:5
-loop-less : tie.Need-loop-less Inv-loop μ-loop
-loop-less c = ?
-
--- src/lib.rt:101:5
 loop-again : tie.Need-loop-again Inv-loop μ-loop
-loop-again c = ?
-
--- src/lib.rt:88:1
-same-length-2 : tie.Need-same-length-2 Inv-loop μ-loop
-same-length-2 c = ?
-
--- src/lib.rt:88:1
-returns-2 : tie.Need-returns-2 Inv-loop μ-loop
-returns-2 c = ?
+loop-again c =
+    let d = c .before .before in
+    let l = d .before .before .before .before .before .before in
+    (omega arith, turn _ (l .loop .j) (l .before .args .p .count) (l .loop .inv .1) (omega arith) refl (appended d) (c .if1 .left))
 
 pub event-rows-spec : {M : Type 1} → statement M
 event-rows-spec =
@@ -61,13 +62,13 @@ event-rows-spec =
     Inv-loop
     μ-loop
     loop-holds
-    element-copy-out-code
-    add-push-event
+    (λ c. omega (arith, c .before .before .pre .1 .few))
+    (λ c. omega (arith, c .before .before .before .before .before .pre .1 .most))
     push-event-requires
     same-length
     returns
-    add-j
-    loop-less
+    (λ c. omega arith)
+    (λ c. omega arith)
     loop-again
-    same-length-2
-    returns-2)
+    (λ c. c .before .loop .inv .1 .size)
+    (λ c. let l = c .before in over _ (l .loop .j) (l .before .args .p .count) (l .loop .inv .1) (omega arith)))

@@ -1,51 +1,32 @@
+-- `next_of` meets its contract: the search from the row reached finds what the whole search finds.
+use Prim.Native.Nat.{_-_}
+use native.Mathlib.Omega.{arith}
+use mathlib.Core.Path.{refl, sym, _∙_}
+use mir.Syntax.{w32}
+use mir.Val.{toZ, ofZ}
+use Rattle.interval.proofs.Machine.{same32}
+use Rattle.closing.specs.Added.{Passed}
+use Rattle.closing.proofs.Searches.{next-here, next-end, passed-one}
 use Rattle.closing.proofs.next_of.Statement.{statement}
 use Rattle.closing.proofs.next_of.Tie as tie
-use Rattle.closing.proofs.next_of.Reads as reads
-use Rattle.closing.proofs.next_of.Lts as lts
-use Rattle.closing.proofs.pass_fours.Reads as pass-fours-reads
-use Rattle.table.proofs.row_at.Reads as row-at-reads
 
 abbrev Inv-loop : tie.InvT-loop
-Inv-loop t i n a r₀ r = ?
+Inv-loop t i n a r₀ r = Passed (toZ w32 a) i n t r
 
 abbrev μ-loop : tie.MeasureT-loop
-μ-loop t i n a r₀ r = ?
+μ-loop t i n a r₀ r = n - r
 
--- src/lib.rt:356:9
-returns : tie.Need-returns Inv-loop μ-loop
-returns c = ?
+found : tie.Need-returns-2 Inv-loop μ-loop
+found c =
+    let l = c .before .before .before in
+    let s = l .before .before .before in
+    simp (same32, s .fits .a) at (next-here (toZ w32 (ofZ w32 (s .args .a))) (s .args .t .now) (l .loop .r) (s .args .n) (omega arith) (sym (c .before .is-of .ensures) ∙ c .if2 .taken) ∙ l .loop .inv .same)
 
--- src/lib.rt:358:9
-pass-fours-requires : tie.Need-pass-fours-requires Inv-loop μ-loop
-pass-fours-requires c κs = ?
-
--- src/lib.rt:359:5
-loop-holds : tie.Need-loop-holds Inv-loop μ-loop
-loop-holds c = ?
-
--- src/lib.rt:360:13
-row-at-requires : tie.Need-row-at-requires Inv-loop μ-loop
-row-at-requires c κs = ?
-
--- src/lib.rt:362:13
-returns-2 : tie.Need-returns-2 Inv-loop μ-loop
-returns-2 c = ?
-
--- src/lib.rt:364:9
-add-r : tie.Need-add-r Inv-loop μ-loop
-add-r c = ?
-
--- src/lib.rt:359:5
-loop-less : tie.Need-loop-less Inv-loop μ-loop
-loop-less c = ?
-
--- src/lib.rt:359:5
-loop-again : tie.Need-loop-again Inv-loop μ-loop
-loop-again c = ?
-
--- src/lib.rt:351:1
-returns-3 : tie.Need-returns-3 Inv-loop μ-loop
-returns-3 c = ?
+none-left : tie.Need-returns-3 Inv-loop μ-loop
+none-left c =
+    let l = c .before in
+    let s = l .before .before .before in
+    simp (same32, s .fits .a) at (next-end (toZ w32 (ofZ w32 (s .args .a))) (s .args .t .now) (l .loop .r) (s .args .n) (omega arith) ∙ l .loop .inv .same)
 
 pub next-of-spec : {M : Type 1} → statement M
 next-of-spec =
@@ -53,12 +34,12 @@ next-of-spec =
     (tie.spec
     Inv-loop
     μ-loop
-    returns
-    pass-fours-requires
-    loop-holds
-    row-at-requires
-    returns-2
-    add-r
-    loop-less
-    loop-again
-    returns-3)
+    (λ c. next-end _ _ _ _ (c .if1 .taken))
+    (λ c κs. c .before .pre)
+    (λ c. c .pass-fours .ensures)
+    (λ c κs. omega arith)
+    found
+    (λ c. omega arith)
+    (λ c. omega arith)
+    (λ c. passed-one _ _ _ _ _ _ (c .before .before .before .loop .inv) (omega arith) refl (sym (c .before .is-of .ensures) ∙ c .if2 .left))
+    none-left)

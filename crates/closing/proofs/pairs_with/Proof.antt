@@ -1,60 +1,71 @@
+-- `pairs_with` meets its contract: what the rows s left append is what all were to append.
+use Prim.Native.Nat.{_-_}
+use borrow.Author.Needs.{needs}
+use native.Mathlib.Omega.{arith}
+use mathlib.Core.Path.{_≡_, _∙_}
+use mir.Syntax.{w32}
+use mir.Val.{SFits, toZ, ofZ}
+use lib.IntN.{natAbs}
+use Rattle.interval.proofs.Machine.{same32}
+use Rattle.model.specs.Lists.{each}
+use Rattle.closing.specs.Added.{span, pairRow, pairsOf}
+use Rattle.closing.proofs.Filling.{Filling, begin, turn, stop, over, appendable}
+use Rattle.closing.proofs.Laws.{pair-same}
 use Rattle.closing.proofs.pairs_with.Statement.{statement}
 use Rattle.closing.proofs.pairs_with.Tie as tie
-use Rattle.closing.proofs.pairs_with.Reads as reads
-use Rattle.closing.proofs.pairs_with.Lts as lts
-use Rattle.closing.proofs.push_pair.Reads as push-pair-reads
-use Rattle.closing.proofs.right_from.Reads as right-from-reads
-use Rattle.table.proofs.row_at.Reads as row-at-reads
 
 abbrev Inv-loop : tie.InvT-loop
-Inv-loop t₀ n f b r w count₀ s₀ t count s = ?
+Inv-loop t₀ n f b r w end room count₀ s₀ t count s =
+    let rows = pairRow (w .relation) (natAbs (f .entry)) (w .operand) (w .left) (w .start) (w .end) t₀ in
+    Filling (f .room) n (each rows (span s₀ (f .end))) t₀ count (each rows (span s (f .end))) t
 
 abbrev μ-loop : tie.MeasureT-loop
-μ-loop t₀ n f b r w count₀ s₀ t count s = ?
+μ-loop t₀ n f b r w end room count₀ s₀ t count s = f .end - s
 
--- src/lib.rt:330:9
-row-at-requires : tie.Need-row-at-requires Inv-loop μ-loop
-row-at-requires c κs = ?
-
--- src/lib.rt:339:9
-right-from-requires : tie.Need-right-from-requires Inv-loop μ-loop
-right-from-requires c κs = ?
-
--- src/lib.rt:340:5
-loop-holds : tie.Need-loop-holds Inv-loop μ-loop
-loop-holds c = ?
-
--- src/lib.rt:341:9
 push-pair-requires : tie.Need-push-pair-requires Inv-loop μ-loop
-push-pair-requires c κs = ?
+push-pair-requires c κs =
+    let l = c .before .before in
+    let s = l .before .before .before .before .before in
+    let a = s .pre .0 in
+    (appendable a (l .loop .inv), omega (arith, a .inside, l .loop .inv .least), omega (arith, a .inside, l .loop .inv .least))
 
--- src/lib.rt:343:13
 same-length : tie.Need-same-length Inv-loop μ-loop
-same-length c = ?
+same-length c =
+    let d = c .before .before in
+    d .push-pair .kept .0 ∙ d .before .before .before .loop .inv .size
 
--- src/lib.rt:343:13
+-- what was to be appended, by the numbers of row r
+whole : (c : tie.After-right-from Inv-loop μ-loop) → let s = c .before .before .before .before in let g = s .args in let z = c .before .before .row-at .result in each (pairRow (g .c) (natAbs (g .f .entry)) (toZ w32 (ofZ w32 (g .b))) (g .r) (toZ w32 (ofZ w32 (z .start))) (toZ w32 (ofZ w32 (z .end))) (g .t .now)) (span (c .right-from .result) (g .f .end)) ≡ pairsOf (g .c) (natAbs (g .f .entry)) (g .b) (g .f .first) (g .f .end) (g .t .now) (g .r)
+unfolding pairsOf
+whole c =
+    let e = c .before in
+    let z = e .before in
+    let start : SFits w32 (z .row-at .result .start) = record { sfits = e .struct-told .given .1 .1 .1 .0 .1 } in
+    let end : SFits w32 (z .row-at .result .end) = record { sfits = e .struct-told .given .1 .1 .1 .1 .0 .1 } in
+    simp (same32 _ (z .before .before .fits .b), same32 _ start, same32 _ end) (simp (z .row-at .ensures, c .right-from .ensures))
+
 returns : tie.Need-returns Inv-loop μ-loop
-returns c = ?
+returns c =
+    let d = c .before .before in
+    let l = d .before .before .before in
+    let h = l .before in
+    let s = h .before .before .before .before in
+    let g = s .args in
+    simp (whole h) at (stop _ (l .loop .s) (g .f .end) (l .loop .inv) (omega arith) (pair-same (g .n) (l .loop .t) (g .t .now) (l .loop .inv .kept) _ _ _ _ _ _ (l .loop .s) (omega (arith, s .pre .0 .inside))) (d .push-pair .ensures) (c .if1 .taken))
 
--- src/lib.rt:345:9
-add-s : tie.Need-add-s Inv-loop μ-loop
-add-s c = ?
-
--- src/lib.rt:340:5
-loop-less : tie.Need-loop-less Inv-loop μ-loop
-loop-less c = ?
-
--- src/lib.rt:340:5
 loop-again : tie.Need-loop-again Inv-loop μ-loop
-loop-again c = ?
+loop-again c =
+    let d = c .before .before in
+    let l = d .before .before .before in
+    let s = l .before .before .before .before .before in
+    let g = s .args in
+    turn _ (l .loop .s) (g .f .end) (l .loop .inv) (omega arith) (pair-same (g .n) (l .loop .t) (g .t .now) (l .loop .inv .kept) _ _ _ _ _ _ (l .loop .s) (omega (arith, s .pre .0 .inside))) (d .push-pair .ensures) (c .if1 .left)
 
--- src/lib.rt:326:1
-same-length-2 : tie.Need-same-length-2 Inv-loop μ-loop
-same-length-2 c = ?
-
--- src/lib.rt:326:1
 returns-2 : tie.Need-returns-2 Inv-loop μ-loop
-returns-2 c = ?
+returns-2 c =
+    let l = c .before in
+    let h = l .before in
+    simp (whole h) at (over _ (l .loop .s) (h .before .before .before .before .args .f .end) (l .loop .inv) (omega arith))
 
 pub pairs-with-spec : {M : Type 1} → statement M
 pairs-with-spec =
@@ -62,14 +73,14 @@ pairs-with-spec =
     (tie.spec
     Inv-loop
     μ-loop
-    row-at-requires
-    right-from-requires
-    loop-holds
+    (λ c κs. omega (arith, c .before .pre .0 .held, c .before .pre .0 .inside, c .before .pre .0 .fit))
+    (λ c κs. search needs)
+    (λ c. begin _ _ _ _ (c .before .before .before .before .pre .0 .fit))
     push-pair-requires
     same-length
     returns
-    add-s
-    loop-less
+    (λ c. omega arith)
+    (λ c. omega arith)
     loop-again
-    same-length-2
+    (λ c. c .before .loop .inv .size)
     returns-2)

@@ -1,50 +1,61 @@
+-- `taken_rows` meets its contract: what the rows left append is what all were to append.
+use Prim.Native.Nat.{_-_}
+use borrow.Author.Needs.{needs}
+use native.Mathlib.Omega.{arith}
+use mathlib.Core.Path.{_∙_}
+use mir.Syntax.{w32}
+use mir.Val.{toZ}
+use lib.IntN.{natAbs}
+use Rattle.interval.proofs.Machine.{same32}
+use Rattle.model.specs.Lists.{each}
+use Rattle.closing.specs.Added.{span, armOf, takenRow, takenRows}
+use Rattle.closing.proofs.Filling.{Filling, begin, turn, stop, over, appendable}
+use Rattle.closing.proofs.Laws.{taken-same}
 use Rattle.closing.proofs.taken_rows.Statement.{statement}
 use Rattle.closing.proofs.taken_rows.Tie as tie
-use Rattle.closing.proofs.taken_rows.Reads as reads
-use Rattle.closing.proofs.taken_rows.Lts as lts
-use Rattle.closing.proofs.push_taken.Reads as push-taken-reads
 
 abbrev Inv-loop : tie.InvT-loop
-Inv-loop t₀ n f a taken second count₀ i₀ t count i = ?
+Inv-loop t₀ n f a taken second end room count₀ i₀ t count i =
+    let rows = takenRow (armOf second) (natAbs (f .entry)) (toZ w32 a) taken t₀ in
+    Filling (f .room) n (each rows (span (f .first) (f .end))) t₀ count (each rows (span i (f .end))) t
 
 abbrev μ-loop : tie.MeasureT-loop
-μ-loop t₀ n f a taken second count₀ i₀ t count i = ?
+μ-loop t₀ n f a taken second end room count₀ i₀ t count i = f .end - i
 
--- src/lib.rt:178:5
-loop-holds : tie.Need-loop-holds Inv-loop μ-loop
-loop-holds c = ?
-
--- src/lib.rt:179:9
 push-taken-requires : tie.Need-push-taken-requires Inv-loop μ-loop
-push-taken-requires c κs = ?
+push-taken-requires c κs =
+    let l = c .before .before in
+    let a = l .before .pre in
+    (appendable a (l .loop .inv), omega (arith, a .inside, l .loop .inv .least))
 
--- src/lib.rt:181:13
 same-length : tie.Need-same-length Inv-loop μ-loop
-same-length c = ?
+same-length c =
+    let d = c .before .before in
+    d .push-taken .kept .0 ∙ d .before .before .before .loop .inv .size
 
--- src/lib.rt:181:13
 returns : tie.Need-returns Inv-loop μ-loop
-returns c = ?
+unfolding takenRows
+returns c =
+    let d = c .before .before in
+    let l = d .before .before .before in
+    let s = l .before in
+    let g = s .args in
+    simp (same32, s .fits .a) at (stop _ (l .loop .i) (g .f .end) (l .loop .inv) (omega arith) (taken-same (g .n) (l .loop .t) (g .t .now) (l .loop .inv .kept) _ _ _ _ (l .loop .i) (omega (arith, s .pre .inside))) (d .push-taken .ensures) (c .if1 .taken))
 
--- src/lib.rt:183:9
-add-i : tie.Need-add-i Inv-loop μ-loop
-add-i c = ?
-
--- src/lib.rt:178:5
-loop-less : tie.Need-loop-less Inv-loop μ-loop
-loop-less c = ?
-
--- src/lib.rt:178:5
 loop-again : tie.Need-loop-again Inv-loop μ-loop
-loop-again c = ?
+loop-again c =
+    let d = c .before .before in
+    let l = d .before .before .before in
+    let s = l .before in
+    let g = s .args in
+    turn _ (l .loop .i) (g .f .end) (l .loop .inv) (omega arith) (taken-same (g .n) (l .loop .t) (g .t .now) (l .loop .inv .kept) _ _ _ _ (l .loop .i) (omega (arith, s .pre .inside))) (d .push-taken .ensures) (c .if1 .left)
 
--- src/lib.rt:172:1
-same-length-2 : tie.Need-same-length-2 Inv-loop μ-loop
-same-length-2 c = ?
-
--- src/lib.rt:172:1
 returns-2 : tie.Need-returns-2 Inv-loop μ-loop
-returns-2 c = ?
+unfolding takenRows
+returns-2 c =
+    let l = c .before in
+    let s = l .before in
+    simp (same32, s .fits .a) at (over _ (l .loop .i) (s .args .f .end) (l .loop .inv) (omega arith))
 
 pub taken-rows-spec : {M : Type 1} → statement M
 taken-rows-spec =
@@ -52,12 +63,12 @@ taken-rows-spec =
     (tie.spec
     Inv-loop
     μ-loop
-    loop-holds
+    (λ c. begin _ _ _ _ (c .pre .fit))
     push-taken-requires
     same-length
     returns
-    add-i
-    loop-less
+    (λ c. omega arith)
+    (λ c. omega arith)
     loop-again
-    same-length-2
+    (λ c. c .before .loop .inv .size)
     returns-2)

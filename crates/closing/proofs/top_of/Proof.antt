@@ -1,46 +1,38 @@
+-- `top_of` meets its contract: the rows left have the same last row of the entry as all.
+use Prim.Native.Nat.{_≤_}
+use native.Mathlib.Omega.{arith}
+use mathlib.Core.Path.{_≡_, refl, sym, _∙_}
+use mir.Syntax.{w32}
+use mir.Val.{toZ, ofZ}
+use Rattle.interval.proofs.Machine.{same32}
+use Rattle.closing.specs.Added.{topOf}
+use Rattle.closing.proofs.Laws.{top-here, top-lower, top-none}
 use Rattle.closing.proofs.top_of.Statement.{statement}
 use Rattle.closing.proofs.top_of.Tie as tie
-use Rattle.closing.proofs.top_of.Reads as reads
-use Rattle.closing.proofs.top_of.Lts as lts
-use Rattle.table.proofs.row_at.Reads as row-at-reads
 
 abbrev Inv-loop : tie.InvT-loop
-Inv-loop t n b j₀ j = ?
+Inv-loop t n b j₀ j = (j ≤ n) × (topOf (toZ w32 b) j t ≡ topOf (toZ w32 b) n t)
 
 abbrev μ-loop : tie.MeasureT-loop
-μ-loop t n b j₀ j = ?
+μ-loop t n b j₀ j = j
 
--- src/lib.rt:229:5
-loop-holds : tie.Need-loop-holds Inv-loop μ-loop
-loop-holds c = ?
-
--- src/lib.rt:230:36
-sub-row-at : tie.Need-sub-row-at Inv-loop μ-loop
-sub-row-at c = ?
-
--- src/lib.rt:230:13
-row-at-requires : tie.Need-row-at-requires Inv-loop μ-loop
-row-at-requires c κs = ?
-
--- src/lib.rt:232:13
 returns : tie.Need-returns Inv-loop μ-loop
-returns c = ?
+returns c =
+    let l = c .before .before .before in
+    let g = l .before .args in
+    simp (same32, l .before .fits .b) at (sym (top-here (toZ w32 (ofZ w32 (g .b))) (g .t .now) (l .loop .j) (omega arith) (sym (c .before .is-of .ensures) ∙ c .if1 .taken)) ∙ l .loop .inv .1)
 
--- src/lib.rt:234:9
-sub-j : tie.Need-sub-j Inv-loop μ-loop
-sub-j c = ?
-
--- src/lib.rt:229:5
-loop-less : tie.Need-loop-less Inv-loop μ-loop
-loop-less c = ?
-
--- src/lib.rt:229:5
 loop-again : tie.Need-loop-again Inv-loop μ-loop
-loop-again c = ?
+loop-again c =
+    let l = c .before .before .before in
+    let g = l .before .args in
+    (omega (arith, l .loop .inv .0), sym (top-lower (toZ w32 (ofZ w32 (g .b))) (g .t .now) (l .loop .j) (omega arith) (sym (c .before .is-of .ensures) ∙ c .if1 .left)) ∙ l .loop .inv .1)
 
--- src/lib.rt:224:1
 returns-2 : tie.Need-returns-2 Inv-loop μ-loop
-returns-2 c = ?
+returns-2 c =
+    let l = c .before in
+    let g = l .before .args in
+    simp (same32, l .before .fits .b) at (sym (top-none (toZ w32 (ofZ w32 (g .b))) (g .t .now) (l .loop .j) (omega arith)) ∙ l .loop .inv .1)
 
 pub top-of-spec : {M : Type 1} → statement M
 top-of-spec =
@@ -48,11 +40,11 @@ top-of-spec =
     (tie.spec
     Inv-loop
     μ-loop
-    loop-holds
-    sub-row-at
-    row-at-requires
+    (λ c. (omega arith, refl))
+    (λ c. omega arith)
+    (λ c κs. omega (arith, c .before .loop .inv .0))
     returns
-    sub-j
-    loop-less
+    (λ c. omega arith)
+    (λ c. omega arith)
     loop-again
     returns-2)

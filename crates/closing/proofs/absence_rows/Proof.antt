@@ -1,0 +1,251 @@
+-- `absence_rows` meets its contract: what the candidates left append is what all were to append; inside, whether a row that is left
+-- forbids the candidate is whether any does.
+use Prim.Native.Nat.{ℕ, _+_, _*_, _-_, _≤_, _<_}
+use mathlib.Core.Path.{_≡_, refl, sym, ap, _∙_}
+use mathlib.Core.Bool.{Bool, true, false}
+use mathlib.Core.List.{List, [], _∷_}
+use lib.IntN.{ℤ, natAbs}
+use lib.ListN.{length}
+use native.Mathlib.Omega.{arith}
+use native.Mathlib.Decide.{ℕ-discrete}
+use mir.Syntax.{w32}
+use mir.Val.{SFits, toZ, ofZ}
+use Rattle.interval.specs.Instants.{eqZ}
+use Rattle.interval.proofs.Machine.{same32}
+use Rattle.model.specs.Lists.{each}
+use Rattle.model.specs.Recognitions.{left}
+use Rattle.model.specs.Order.{Row}
+use Rattle.table.specs.Table.{cell}
+use Rattle.closing.specs.Added.{span, partRow, isWithin, isForbidden, absenceRow, absenceRows, topOf}
+use Rattle.closing.proofs.Laws.{within-some, forbidden-one, forbidden-on, forbidden-end, absence-same, absence-other, absence-forbidden, absence-stands, top-le}
+use Rattle.closing.proofs.Filling.{Filling, nothing, begin, turn, stop, past, over, appendable}
+use Rattle.closing.proofs.Searches.{Found, found}
+use Rattle.closing.proofs.absence_rows.Statement.{statement}
+use Rattle.closing.proofs.absence_rows.Tie as tie
+
+abbrev Inv-loop : tie.InvT-loop
+Inv-loop t n f edges a b end room i top count r row j₀ j = (j ≤ top) × (isForbidden edges (toZ w32 b) (row .start) (row .end) t j ≡ isForbidden edges (toZ w32 b) (row .start) (row .end) t top)
+
+abbrev μ-loop : tie.MeasureT-loop
+μ-loop t n f edges a b end room i top count r row j₀ j = j
+
+abbrev Inv-candidates : tie.InvT-candidates
+Inv-candidates t₀ n f edges a b end room i₀ top count₀ t i count =
+    let rows = absenceRow edges (natAbs (f .entry)) (toZ w32 a) (toZ w32 b) top t₀ in
+    (i < f .end → eqZ (cell t₀ i 0) (toZ w32 a) ≡ true) ×
+    Filling (f .room) n (each rows (span (f .first) (f .end))) t₀ count (each rows (span i (f .end))) t
+
+abbrev μ-candidates : tie.MeasureT-candidates
+μ-candidates t₀ n f edges a b end room i₀ top count₀ t i count = f .end - i
+
+-- the table is as long as its rows
+held : (c : tie.Start Inv-loop μ-loop Inv-candidates μ-candidates) → c .args .f .end * 5 ≤ length (c .args .t .now)
+held c = let a = c .pre in omega (arith, a .held, a .fit, a .inside)
+
+-- the first candidate
+first : (c : tie.After-next-of Inv-loop μ-loop Inv-candidates μ-candidates) → let g = c .before .before .args in Found (toZ w32 (ofZ w32 (g .a))) (g .f .first) (g .f .end) (g .t .now) (c .next-of .result)
+first c =
+    let s = c .before .before in
+    let g = s .args in
+    found (g .n) (g .t .now) (g .t .now) (λ i k p q. refl) _ (g .f .first) (g .f .end) (c .next-of .result) (s .pre .few) (s .pre .inside) (c .next-of .ensures)
+
+-- the place where each search begins
+top-below : (c : tie.After-top-of Inv-loop μ-loop Inv-candidates μ-candidates) → c .top-of .result ≤ c .before .before .before .before .before .args .f .end
+top-below c = let g = c .before .before .before .before .before .args in omega (arith, c .top-of .ensures, top-le (toZ w32 (ofZ w32 (g .b))) (g .t .now) (g .f .end))
+
+returns : tie.Need-returns Inv-loop μ-loop Inv-candidates μ-candidates
+unfolding absenceRows
+returns c =
+    let d = c .before in
+    let s = d .before .before in
+    let g = s .args in
+    let f = first d in
+    simp (same32 _ (s .fits .a)) at (over _ (d .next-of .result) (g .f .end) (past _ _ _ (begin _ _ _ (g .t .now) (s .pre .fit)) _ (f .least) (f .most) (λ j p q. absence-other (g .edges) (natAbs (g .f .entry)) _ (g .b) (topOf (g .b) (g .f .end) (g .t .now)) (g .t .now) j (f .none j p q))) (c .if1 .taken))
+
+candidates-holds : tie.Need-candidates-holds Inv-loop μ-loop Inv-candidates μ-candidates
+candidates-holds c =
+    let d = c .before .before .before in
+    let s = d .before .before in
+    let g = s .args in
+    let f = first d in
+    (f .is, past _ _ _ (begin _ _ _ _ (s .pre .fit)) _ (f .least) (f .most) (λ j p q. absence-other (g .edges) (natAbs (g .f .entry)) _ _ (c .top-of .result) (g .t .now) j (f .none j p q)))
+
+-- the candidate behind this one
+next : (c : tie.After-next-of2 Inv-loop μ-loop Inv-candidates μ-candidates) → let k = c .before .before .before in let g = k .before .before .before .before .before .before .args in Found (toZ w32 (ofZ w32 (g .a))) (k .candidates .i + 1) (g .f .end) (g .t .now) (c .next-of2 .result)
+next c =
+    let k = c .before .before .before in
+    let s = k .before .before .before .before .before .before in
+    let g = s .args in
+    found (g .n) (k .candidates .t) (g .t .now) (k .candidates .inv .1 .kept) _ (k .candidates .i + 1) (g .f .end) (c .next-of2 .result) (omega arith) (s .pre .inside) (c .next-of2 .ensures)
+
+-- a candidate: row i of the table t, while the one before this closing was t₀
+module _ (c : tie.After-row-at Inv-loop μ-loop Inv-candidates μ-candidates) where
+  abbrev k : tie.At-candidates Inv-loop μ-loop Inv-candidates μ-candidates
+  k = c .before .before .before .before .before
+
+  abbrev s : tie.Start Inv-loop μ-loop Inv-candidates μ-candidates
+  s = k .before .before .before .before .before .before
+
+  abbrev top : ℕ
+  top = k .before .top-of .result
+
+  abbrev i : ℕ
+  i = k .candidates .i
+
+  abbrev end : ℕ
+  end = s .args .f .end
+
+  abbrev entry : ℕ
+  entry = natAbs (s .args .f .entry)
+
+  abbrev A : ℤ
+  A = toZ w32 (ofZ w32 (s .args .a))
+
+  abbrev B : ℤ
+  B = toZ w32 (ofZ w32 (s .args .b))
+
+  abbrev t : List ℤ
+  t = k .candidates .t
+
+  abbrev t₀ : List ℤ
+  t₀ = s .args .t .now
+
+  abbrev rows : ℕ → List Row
+  rows = absenceRow (s .args .edges) entry A B top t₀
+
+  abbrev isBarred : ℕ → Bool
+  isBarred j = isForbidden (s .args .edges) B (c .row-at .result .start) (c .row-at .result .end) t j
+
+  low : i < end
+  low = omega arith
+
+  long : end * 5 ≤ length t
+  long = omega (arith, held s, k .candidates .inv .1 .size)
+
+  is-a : eqZ (cell t i 0) A ≡ true
+  is-a = ap (λ z. eqZ z A) (k .candidates .inv .1 .kept i 0 (omega (arith, s .pre .inside)) (omega arith)) ∙ k .candidates .inv .0 low
+
+  same : absenceRow (s .args .edges) entry A B top t i ≡ rows i
+  same = absence-same (s .args .n) t t₀ (k .candidates .inv .1 .kept) entry (s .args .edges) A B top i (omega (arith, top-below (k .before), s .pre .inside)) (omega (arith, s .pre .inside))
+
+  barred : isBarred top ≡ true → rows i ≡ []
+  barred h = sym same ∙ absence-forbidden (s .args .edges) entry A B top t i _ _ (ap (λ x. x .start) (c .row-at .ensures)) (ap (λ x. x .end) (c .row-at .ensures)) is-a h
+
+  stands : isBarred top ≡ false → partRow left entry t i ∷ [] ≡ rows i
+  stands h = absence-stands (s .args .edges) entry A B top t i _ _ (ap (λ x. x .start) (c .row-at .ensures)) (ap (λ x. x .end) (c .row-at .ensures)) is-a h ∙ same
+
+  -- rows behind it up to the next candidate make nothing
+  between : (j : ℕ) → i + 1 ≤ j → j < c .before .before .next-of2 .result → rows j ≡ []
+  between j p q = absence-other (s .args .edges) entry A B top t₀ j (next (c .before .before) .none j p q)
+
+  from-it : rows i ≡ [] → (j : ℕ) → i ≤ j → j < c .before .before .next-of2 .result → rows j ≡ []
+  from-it e j p q = go (ℕ-discrete j i)
+    where
+      go : Dec (j ≡ i) → rows j ≡ []
+      go (yes d) = ap rows d ∙ e
+      go (no d) = between j (omega arith) q
+
+-- the row before place j is within the candidate
+within : (c : tie.After-is-within Inv-loop μ-loop Inv-candidates μ-candidates) → let l = c .before .before .before in c .is-within .result ≡ isWithin (l .before .row-at .result .start) (t (l .before)) (l .loop .j)
+within c =
+    let l = c .before .before .before in
+    let f : SFits w32 (l .before .row-at .result .start) = record { sfits = c .before .struct-told .given .1 .1 .1 .0 .1 } in
+    simp (same32 _ f) at (c .is-within .ensures)
+
+some-left : (c : tie.Then2 Inv-loop μ-loop Inv-candidates μ-candidates) → 0 < c .before .before .before .before .loop .j
+some-left c =
+    let l = c .before .before .before .before in
+    within-some (s (l .before) .args .edges) (B (l .before)) (l .before .row-at .result .start) (l .before .row-at .result .end) (t (l .before)) (l .loop .j) (sym (within (c .before)) ∙ c .if2 .taken)
+
+candidates-again : tie.Need-candidates-again Inv-loop μ-loop Inv-candidates μ-candidates
+candidates-again c =
+    let y = c .before .before .before in
+    let l = y .before .before .before .before in
+    let r = l .before in
+    let hit = forbidden-one (s r .args .edges) (B r) (r .row-at .result .start) (r .row-at .result .end) (t r) (l .loop .j) (sym (within (y .before)) ∙ y .if2 .taken) (sym (c .before .is-forbidding-row .ensures) ∙ c .if3 .taken) in
+    let f = next (r .before .before) in
+    (f .is, past _ (i r) (end r) (k r .candidates .inv .1) _ (omega (arith, f .least)) (f .most) (from-it r (barred r (sym (l .loop .inv .1) ∙ hit))))
+
+loop-again : tie.Need-loop-again Inv-loop μ-loop Inv-candidates μ-candidates
+loop-again c =
+    let y = c .before .before .before in
+    let l = y .before .before .before .before in
+    let r = l .before in
+    let on = forbidden-on (s r .args .edges) (B r) (r .row-at .result .start) (r .row-at .result .end) (t r) (l .loop .j) (sym (within (y .before)) ∙ y .if2 .taken) (sym (c .before .is-forbidding-row .ensures) ∙ c .if3 .left) in
+    (omega (arith, l .loop .inv .0), sym on ∙ l .loop .inv .1)
+
+-- no row forbids the candidate
+free : (c : tie.Else2 Inv-loop μ-loop Inv-candidates μ-candidates) → let r = c .before .before .before .before .before in isBarred r (top r) ≡ false
+free c =
+    let l = c .before .before .before .before in
+    let r = l .before in
+    sym (l .loop .inv .1) ∙ forbidden-end (s r .args .edges) (B r) (r .row-at .result .start) (r .row-at .result .end) (t r) (l .loop .j) (sym (within (c .before)) ∙ c .if2 .left)
+
+push-part-requires : tie.Need-push-part-requires Inv-loop μ-loop Inv-candidates μ-candidates
+push-part-requires c κs =
+    let r = c .before .before .before .before .before .before in
+    (appendable (s r .pre) (k r .candidates .inv .1), omega (arith, low r, s r .pre .inside, k r .candidates .inv .1 .least))
+
+same-length : tie.Need-same-length-2 Inv-loop μ-loop Inv-candidates μ-candidates
+same-length c =
+    let d = c .before .before in
+    d .push-part .kept .0 ∙ k (d .before .before .before .before .before .before .before) .candidates .inv .1 .size
+
+-- what was to be appended
+whole : (c : tie.After-top-of Inv-loop μ-loop Inv-candidates μ-candidates) → let s = c .before .before .before .before .before in let g = s .args in each (absenceRow (g .edges) (natAbs (g .f .entry)) (toZ w32 (ofZ w32 (g .a))) (toZ w32 (ofZ w32 (g .b))) (c .top-of .result) (g .t .now)) (span (g .f .first) (g .f .end)) ≡ absenceRows (g .edges) (natAbs (g .f .entry)) (g .a) (g .b) (g .f .first) (g .f .end) (g .t .now)
+unfolding absenceRows
+whole c =
+    let s = c .before .before .before .before .before in
+    simp (same32 _ (s .fits .a), same32 _ (s .fits .b)) (simp (simp (same32 _ (s .fits .b)) at (c .top-of .ensures)))
+
+returns-2 : tie.Need-returns-2 Inv-loop μ-loop Inv-candidates μ-candidates
+returns-2 c =
+    let d = c .before .before in
+    let y = d .before .before in
+    let r = y .before .before .before .before .before in
+    simp (whole (k r .before)) at (stop _ (i r) (end r) (k r .candidates .inv .1) (low r) (stands r (free y)) (d .push-part .ensures) (c .if4 .taken))
+
+candidates-again-2 : tie.Need-candidates-again-2 Inv-loop μ-loop Inv-candidates μ-candidates
+candidates-again-2 c =
+    let d = c .before .before in
+    let y = d .before .before in
+    let r = y .before .before .before .before .before in
+    let f = next (r .before .before) in
+    (f .is, past _ _ _ (turn _ (i r) (end r) (k r .candidates .inv .1) (low r) (stands r (free y)) (d .push-part .ensures) (c .if4 .left)) _ (f .least) (f .most) (between r))
+
+returns-3 : tie.Need-returns-3 Inv-loop μ-loop Inv-candidates μ-candidates
+returns-3 c =
+    let k = c .before in
+    simp (whole (k .before)) at (over _ (k .candidates .i) (k .before .before .before .before .before .before .args .f .end) (k .candidates .inv .1) (omega arith))
+
+pub absence-rows-spec : {M : Type 1} → statement M
+absence-rows-spec =
+    tie.close
+    (tie.spec
+    Inv-loop
+    μ-loop
+    Inv-candidates
+    μ-candidates
+    (λ c κs. let s = c .before in (s .pre .few, held s))
+    (λ c. refl)
+    returns
+    (λ c κs. held (c .before .before .before .before))
+    candidates-holds
+    (λ c. omega arith)
+    (λ c κs. let k = c .before .before in (omega arith, omega (arith, held (k .before .before .before .before .before .before), k .candidates .inv .1 .size)))
+    (λ c κs. let k = c .before .before .before .before in omega (arith, held (k .before .before .before .before .before .before), k .candidates .inv .1 .size))
+    (λ c. (omega arith, refl))
+    (λ c κs. let l = c .before .before in omega (arith, long (l .before), top-below (k (l .before) .before), l .loop .inv .0))
+    (λ c. omega (arith, some-left c))
+    (λ c κs. let y = c .before in let l = y .before .before .before .before in omega (arith, some-left y, long (l .before), top-below (k (l .before) .before), l .loop .inv .0))
+    (λ c. let r = c .before .before .before .before .before .before .before .before in omega (arith, low r, next (r .before .before) .least))
+    candidates-again
+    (λ c. omega (arith, some-left (c .before .before .before)))
+    loop-again
+    push-part-requires
+    same-length
+    returns-2
+    (λ c. let r = c .before .before .before .before .before .before .before .before .before in omega (arith, low r, next (r .before .before) .least))
+    candidates-again-2
+    (λ c. c .before .candidates .inv .1 .size)
+    returns-3)

@@ -106,6 +106,7 @@ appendable {f} {n₀} {all} {t₀} {n} {rest} {t} a w =
       most = a .most;
       held = omega (arith, a .held, w .size);
       above = a .above;
+      low = a .low;
       few = a .few;
       inside = omega (arith, a .inside, w .least);
       ordered = λ i j h k. rw (old i (omega arith), old j k) (a .ordered i j h k);

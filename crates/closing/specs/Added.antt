@@ -6,7 +6,7 @@ use mathlib.Core.Path.{_≡_}
 use mathlib.Core.Bool.{Bool, true, false, cond, not, _&&_, _||_}
 use mathlib.Core.List.{List, [], _∷_, _++_}
 use lib.Dec.{eqb, leb, ltb}
-use lib.IntN.{ℤ, pos}
+use lib.IntN.{ℤ, pos, natAbs}
 use lib.ListN.{length, getD}
 use lib.Signed.{leZ}
 use Rattle.interval.specs.Instants.{eqZ, least, greatest}
@@ -33,6 +33,7 @@ pub record Appendable (f : Frame) (n : ℕ) (t : List ℤ) : Type 0 where
   pub most : f .room ≤ 65535
   pub held : f .room * 5 ≤ length t
   pub above : leZ (pos 0) (f .entry) ≡ true
+  pub low : natAbs (f .entry) < 32
   pub few : f .first ≤ f .end
   pub inside : f .end ≤ n
   pub ordered : Ordered (f .first) t

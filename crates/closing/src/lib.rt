@@ -85,14 +85,7 @@ fn push_event(
 }
 
 // event: a row for each pending event of code k. One look at each event.
-fn event_rows(
-    t: &mut [i32],
-    n: usize,
-    f: Frame,
-    k: u32,
-    p: Pending,
-    codes: &[u8; 64],
-) -> usize
+fn event_rows(t: &mut [i32], n: usize, f: Frame, k: u32, p: Pending, codes: &[u8; 64]) -> usize
     requires { ⌜ (Appendable f n (now t)) × SerialsFit p ⌝ }
     ensures { λ r. ⌜ Appended f n (eventRows (natAbs (f .entry)) k p (now (codes .entry))) (now (t .entry)) r (now (t .exit)) ⌝ }
 {
@@ -432,7 +425,11 @@ fn left_from(t: &[i32], f: Frame, c: Relation, b: i32) -> usize
     let s = next_of(t, f.first, end, b);
     match ending {
         Ending::Before => if s < end { 0 } else { end },
-        Ending::Within => if s < end { reaching_from(t, f, b, s) } else { end },
+        Ending::Within => if s < end {
+            reaching_from(t, f, b, s)
+        } else {
+            end
+        },
         Ending::Together => if s < end { f.first } else { end },
         Ending::Either => if s < end { 0 } else { f.first },
     }
@@ -471,14 +468,7 @@ fn pair_rows(t: &mut [i32], n: usize, f: Frame, c: Relation, a: i32, b: i32) -> 
 }
 
 // The rows of one entry, by its operator. Costs what that operator's function costs.
-fn entry_rows(
-    t: &mut [i32],
-    n: usize,
-    f: Frame,
-    e: Entry,
-    p: Pending,
-    codes: &[u8; 64],
-) -> usize
+fn entry_rows(t: &mut [i32], n: usize, f: Frame, e: Entry, p: Pending, codes: &[u8; 64]) -> usize
     requires { ⌜ (Appendable f n (now t)) × SerialsFit p × (entryFits (natAbs (f .entry)) e ≡ true) ⌝ }
     ensures { λ r. ⌜ Appended f n (addedRows (entryOperator e) (natAbs (f .entry)) p (now (codes .entry)) (f .first) (f .end) (now (t .entry))) (now (t .entry)) r (now (t .exit)) ⌝ }
 {
@@ -495,13 +485,12 @@ fn entry_rows(
     }
 }
 
-// The rows of all entries, in their order. Costs what the entries' functions cost.
-fn all_rows(chart: Chart, state: WatchState, t: &mut [i32], room: usize) -> usize
-    requires { ⌜ Closable chart state (now t) × (room ≡ capacity (length (now t))) ⌝ }
+// The rows of all entries, in their order; `codes` are the state's, taken out of it to be lent. Costs what the entries' functions cost.
+fn all_rows(chart: Chart, state: WatchState, codes: [u8; 64], t: &mut [i32], room: usize) -> usize
+    requires { ⌜ Closable chart state (now t) × (codes ≡ state .codes) × (room ≡ capacity (length (now t))) ⌝ }
     ensures { λ r. ⌜ FilledBy room (state .rows) (drop (state .rows) (closedRows chart state (now (t .entry)))) (now (t .entry)) r (now (t .exit)) ⌝ }
 {
     let rows = state.rows;
-    let codes = state.codes;
     let p = Pending {
         instant: state.instant,
         first: state.events - state.pending + 1,
@@ -535,7 +524,8 @@ pub fn close(chart: Chart, state: WatchState, table: &mut [i32]) -> usize
     ensures { λ r. ⌜ (r ≡ closedNumber chart state (now (table .entry))) × (now (table .exit) ≡ closedTable chart state (now (table .entry))) ⌝ }
 {
     let room = table::rows_that_fit(table.len());
-    let n = all_rows(chart, state, table, room);
+    let codes = state.codes;
+    let n = all_rows(chart, state, codes, table, room);
     if n <= room {
         return n;
     }

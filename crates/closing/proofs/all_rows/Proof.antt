@@ -1,70 +1,147 @@
+-- `all_rows` meets its contract: what the entries left append is what all were to append.
+use Prim.Native.Nat.{ℕ, _+_, _*_, _-_, _≤_, _<_}
+use borrow.Author.Needs.{needs}
+use native.Mathlib.Numerals.{add-one}
+use native.Mathlib.Omega.{arith}
+use mathlib.Core.Path.{_≡_, refl, sym, ap, _∙_}
+use mathlib.Core.List.{List}
+use lib.IntN.{pos}
+use lib.ListN.{length, take, drop}
+use mir.Syntax.{w32}
+use mir.Val.{SFits, toZ, ofZ}
+use mir.ValLaws.{toZ-pos}
+use Rattle.interval.proofs.Machine.{same32}
+use Rattle.interval.proofs.Signed.{is-le}
+use Rattle.chart.proofs.Usable.{usable-few, usable-fits}
+use Rattle.model.proofs.Capacity.{capacity-most, capacity-fits}
+use Rattle.model.specs.Capacity.{capacity}
+use Rattle.model.specs.Recognitions.{Event}
+use Rattle.model.specs.RowSteps.{numbered}
+use Rattle.closing.specs.declared.Pending.{Pending}
+use Rattle.table.specs.Table.{cell}
+use Rattle.table.specs.Operators.{entryOperator}
+use Rattle.chart.specs.Charts.{entryAt}
+use Rattle.closing.specs.Added.{pendingAt, FilledBy, addedRows}
+use Rattle.closing.specs.Closed.{closedRows}
+use Rattle.closing.proofs.Filling.{Filling, begin, ended}
+use Rattle.closing.proofs.Derived.{Grown}
+use Rattle.closing.proofs.Growth.{grown-none}
+use Rattle.closing.proofs.Entries.{eventsIn, leftRows, left-first, left-last, entry-full, entry-next}
 use Rattle.closing.proofs.all_rows.Statement.{statement}
 use Rattle.closing.proofs.all_rows.Tie as tie
-use Rattle.closing.proofs.all_rows.Reads as reads
-use Rattle.closing.proofs.all_rows.Lts as lts
-use Rattle.closing.proofs.entry_rows.Reads as entry-rows-reads
+
+-- the events that are pending
+abbrev eventsOf : Pending → List ℕ → List Event
+eventsOf p codes = numbered (p .instant) (p .first) (take (p .count) codes)
 
 abbrev Inv-loop : tie.InvT-loop
-Inv-loop t₀ room chart rows codes p count n₀ i₀ t n i = ?
+Inv-loop t₀ room chart codes rows p count n₀ i₀ t n i =
+    (i ≤ chart .count) ×
+    (count ≡ chart .count) ×
+    Grown (p .instant) rows n t ×
+    Filling room rows (leftRows chart (p .instant) (eventsOf p codes) 0 rows t₀) t₀ n (leftRows chart (p .instant) (eventsOf p codes) i n t) t
 
 abbrev μ-loop : tie.MeasureT-loop
-μ-loop t₀ room chart rows codes p count n₀ i₀ t n i = ?
+μ-loop t₀ room chart codes rows p count n₀ i₀ t n i = chart .count - i
 
--- src/lib.rt:507:16
-sub-t14 : tie.Need-sub-t14 Inv-loop μ-loop
-sub-t14 c = ?
+-- the open instant, as the loop has it
+instant : (c : tie.After-struct-told Inv-loop μ-loop) → SFits w32 (c .before .before .args .state .instant)
+instant c = record { sfits = c .struct-told .given .0 .1 }
 
--- src/lib.rt:507:16
-add-t15 : tie.Need-add-t15 Inv-loop μ-loop
-add-t15 c = ?
-
--- src/lib.rt:513:5
 loop-holds : tie.Need-loop-holds Inv-loop μ-loop
-loop-holds c = ?
+loop-holds c =
+    let s = c .before .before in
+    let g = s .args in
+    let p = s .pre .0 in
+    (omega arith, refl, simp (same32 _ (instant c)) (grown-none (g .t1) (g .state .instant) (g .state .rows) (g .t .now) (p .ready) (p .ended)), begin _ _ _ _ (rw (s .pre .2) (p .ready .fit)))
 
--- src/lib.rt:514:17
-mul-e : tie.Need-mul-e Inv-loop μ-loop
-mul-e c = ?
+-- the table is long enough
+held : (c : tie.Start Inv-loop μ-loop) → c .args .room * 5 ≤ length (c .args .t .now)
+held c = let room : c .args .room ≡ capacity (length (c .args .t .now)) = c .pre .2 in omega (arith, capacity-fits (length (c .args .t .now)))
 
--- src/lib.rt:514:17
-element-copy-out-e : tie.Need-element-copy-out-e Inv-loop μ-loop
-element-copy-out-e c = ?
+below : (c : tie.In-loop Inv-loop μ-loop) → c .before .loop .i < c .before .before .before .before .args .t1 .count
+below c = omega arith
 
--- src/lib.rt:519:20
-cast-t21 : tie.Need-cast-t21 Inv-loop μ-loop
-cast-t21 c = ?
+-- an entry's number
+number : (c : tie.In-loop Inv-loop μ-loop) → (c .before .loop .i < 32) × (toZ w32 (c .before .loop .i) ≡ pos (c .before .loop .i))
+number c =
+    let s = c .before .before .before .before in
+    let few = usable-few (s .args .t1) (s .pre .0 .ready .usable) in
+    let low : c .before .loop .i < 32 = omega arith in
+    (low, toZ-pos w32 (c .before .loop .i) (omega arith))
 
--- src/lib.rt:521:9
 entry-rows-requires : tie.Need-entry-rows-requires Inv-loop μ-loop
-entry-rows-requires c κs = ?
+entry-rows-requires c κs =
+    let y = c .before .before .before in
+    let l = y .before in
+    let s = l .before .before .before in
+    let g = s .args in
+    let p = s .pre .0 in
+    let f = l .loop .inv .3 in
+    let n = number y in
+    let room : g .room ≡ capacity (length (g .t .now)) = s .pre .2 in
+    rw (n .1) (
+      record {
+        fit = f .most;
+        most = omega (arith, capacity-most (length (g .t .now)));
+        held = omega (arith, held s, f .size);
+        above = is-le (pos 0) (pos (l .loop .i)) (omega arith);
+        low = n .0;
+        few = f .least;
+        inside = omega arith;
+        ordered = λ i j h k. is-le (cell (l .loop .t) i 4) (cell (l .loop .t) j 4) (l .loop .inv .2 .ordered i j h k);
+      },
+      record { few = p .few; most = omega (arith, p .counted, p .most) },
+      usable-fits (g .t1) (p .ready .usable) (l .loop .i) (omega arith),
+    )
 
--- src/lib.rt:523:13
+-- the events that are pending, as the loop has them and as the state has them
+abbrev pendingOf : tie.Start Inv-loop μ-loop → Pending
+pendingOf c = let w = c .args .state in pendingAt (toZ w32 (ofZ w32 (w .instant))) (w .events - w .pending + 1) (w .pending)
+
+whole : (c : tie.After-struct-told Inv-loop μ-loop) → let s = c .before .before in let g = s .args in leftRows (g .t1) (pendingOf s .instant) (eventsOf (pendingOf s) (g .t3)) 0 (g .state .rows) (g .t .now) ≡ drop (g .state .rows) (closedRows (g .t1) (g .state) (g .t .now))
+whole c = let s = c .before .before in let g = s .args in simp (same32 _ (instant c), add-one, s .pre .1) (left-first (g .t1) (g .state) (g .t .now))
+
+-- the rows of the entry were appended
+appended : (c : tie.After-entry-rows Inv-loop μ-loop) → let l = c .before .before .before .before .before in let s = l .before .before .before in let g = s .args in FilledBy (g .room) (l .loop .n) (addedRows (entryOperator (entryAt (g .t1) (l .loop .i))) (l .loop .i) (pendingOf s) (g .t3) (g .state .rows) (l .loop .n) (l .loop .t)) (l .loop .t) (c .entry-rows .result) (c .entry-rows .last .0)
+appended c = simp (number (c .before .before .before .before) .1) at (c .entry-rows .ensures)
+
+few : (c : tie.Start Inv-loop μ-loop) → c .args .state .pending ≤ length (c .args .t3)
+few c = omega (arith, c .pre .0 .few)
+
 same-length : tie.Need-same-length Inv-loop μ-loop
-same-length c = ?
+same-length c =
+    let d = c .before .before in
+    d .entry-rows .kept .0 ∙ d .before .before .before .before .before .loop .inv .3 .size
 
--- src/lib.rt:523:13
 returns : tie.Need-returns Inv-loop μ-loop
-returns c = ?
+returns c =
+    let d = c .before .before in
+    let l = d .before .before .before .before .before in
+    let e = l .before in
+    let s = e .before .before in
+    let g = s .args in
+    let p = pendingOf s in
+    simp (whole e) at (entry-full (g .t1) (p .instant) (p .first) (p .count) (g .t3) (few s) (g .state .rows) (l .loop .i) (l .loop .n) (l .loop .t) (l .loop .inv .2) (below (d .before .before .before .before)) (l .loop .inv .3) (appended d) (c .if1 .taken))
 
--- src/lib.rt:525:9
-add-i : tie.Need-add-i Inv-loop μ-loop
-add-i c = ?
-
--- src/lib.rt:513:5
-loop-less : tie.Need-loop-less Inv-loop μ-loop
-loop-less c = ?
-
--- src/lib.rt:513:5
 loop-again : tie.Need-loop-again Inv-loop μ-loop
-loop-again c = ?
+loop-again c =
+    let d = c .before .before in
+    let l = d .before .before .before .before .before in
+    let s = l .before .before .before in
+    let g = s .args in
+    let p = pendingOf s in
+    let w = entry-next (g .t1) (p .instant) (p .first) (p .count) (g .t3) (few s) (g .state .rows) (l .loop .i) (l .loop .n) (l .loop .t) (l .loop .inv .2) (below (d .before .before .before .before)) (l .loop .inv .3) (appended d) (omega (arith, held s, l .loop .inv .3 .size)) (c .if1 .left) in
+    (omega arith, refl, w .1, w .0)
 
--- src/lib.rt:499:1
-same-length-2 : tie.Need-same-length-2 Inv-loop μ-loop
-same-length-2 c = ?
-
--- src/lib.rt:499:1
 returns-2 : tie.Need-returns-2 Inv-loop μ-loop
-returns-2 c = ?
+returns-2 c =
+    let l = c .before in
+    let e = l .before in
+    let s = e .before .before in
+    let g = s .args in
+    let p = pendingOf s in
+    simp (whole e) at (ended (l .loop .inv .3) (left-last (g .t1) (p .instant) (eventsOf p (g .t3)) (l .loop .i) (l .loop .n) (l .loop .t) (omega arith)))
 
 pub all-rows-spec : {M : Type 1} → statement M
 all-rows-spec =
@@ -72,17 +149,17 @@ all-rows-spec =
     (tie.spec
     Inv-loop
     μ-loop
-    sub-t14
-    add-t15
+    (λ c. omega (arith, c .before .pre .0 .counted))
+    (λ c. omega (arith, c .before .pre .0 .most))
     loop-holds
-    mul-e
-    element-copy-out-e
-    cast-t21
+    (λ c. omega (arith, number c .0))
+    (λ c. number c .0)
+    (λ c. record { sfits = omega (arith, number (c .before) .0) })
     entry-rows-requires
     same-length
     returns
-    add-i
-    loop-less
+    (λ c. omega arith)
+    (λ c. omega arith)
     loop-again
-    same-length-2
+    (λ c. c .before .loop .inv .3 .size)
     returns-2)

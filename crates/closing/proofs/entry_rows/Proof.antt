@@ -1,166 +1,96 @@
+-- `entry_rows` meets its contract: each arm appends what the definition has for the operator.
+use Prim.Native.Nat.{ℕ, _<_}
 use borrow.Author.Needs.{needs}
+use mathlib.Core.Path.{_≡_, sym, _∙_}
+use lib.IntN.{pos, natAbs}
+use mir.Syntax.{w32}
+use mir.Val.{SFits}
+use Rattle.interval.proofs.Machine.{same32}
+use Rattle.chart.specs.declared.operator.Kind.{Kind}
+use Rattle.chart.proofs.Usable.{Lower, fits-lower}
+use Rattle.table.specs.Operators.{entryOperator}
+use Rattle.table.proofs.Operators.{IsOperator, entry-operator}
+use Rattle.closing.specs.Added.{addedRows}
+use Rattle.closing.proofs.Entries.{small}
 use Rattle.closing.proofs.entry_rows.Statement.{statement}
 use Rattle.closing.proofs.entry_rows.Tie as tie
-use Rattle.closing.proofs.entry_rows.Reads as reads
-use Rattle.closing.proofs.entry_rows.Lts as lts
-use Rattle.chart.proofs.operator.kind_of.Reads as kind-of-reads
-use Rattle.closing.proofs.absence_rows.Reads as absence-rows-reads
-use Rattle.closing.proofs.event_rows.Reads as event-rows-reads
-use Rattle.closing.proofs.or_rows.Reads as or-rows-reads
-use Rattle.closing.proofs.pair_rows.Reads as pair-rows-reads
-use Rattle.closing.proofs.taken_rows.Reads as taken-rows-reads
 
--- src/lib.rt:487:9
-kind-of-requires : tie.Need-kind-of-requires
-kind-of-requires c κs = search needs
+-- what the entry's operator is, and its operands, by its kind
+module _ (c : tie.After-kind-of) (k : Kind) (h : c .kind-of .result ≡ k) where
+  operator : let e = c .before .args .e in IsOperator k (e .a) (e .b) (entryOperator e)
+  operator = entry-operator (c .before .args .e) k (sym (c .kind-of .ensures) ∙ h)
 
--- src/lib.rt:489:35
-enum-told : tie.Need-enum-told
-enum-told c = search needs
+  lower : let v = c .before in Lower k (natAbs (v .args .f .entry)) (v .args .e .a) (v .args .e .b)
+  lower = let v = c .before in fits-lower (natAbs (v .args .f .entry)) (v .args .e) k (v .pre .2) (sym (c .kind-of .ensures) ∙ h)
 
--- src/lib.rt:489:24
-event-rows-requires : tie.Need-event-rows-requires
-event-rows-requires c κs = search needs
+-- the operands are small numbers, by the operator
+fits : (c : tie.Start) (a : ℕ) → a < natAbs (c .args .f .entry) → SFits w32 (pos a)
+fits c a h = small a _ h (c .pre .0 .low)
 
--- src/lib.rt:490:29
-enum-told-2 : tie.Need-enum-told-2
-enum-told-2 c = search needs
+or-fits : (c : tie.After-enum-told2) → let e = c .before .before .before .args .e in SFits w32 (pos (e .a)) × SFits w32 (pos (e .b))
+or-fits c =
+    let v = c .before .before .before in
+    let l = lower (c .before .before) _ (c .enum-told2 .given .1) in (fits v _ (l .0), fits v _ (l .1))
 
--- src/lib.rt:490:38
-cast-or-rows : tie.Need-cast-or-rows
-cast-or-rows c = ?
+pair-fits : (c : tie.After-kind) → let e = c .before .before .before .args .e in SFits w32 (pos (e .a)) × SFits w32 (pos (e .b))
+pair-fits c =
+    let v = c .before .before .before in
+    let l = lower (c .before .before) _ (c .kind .given .1) in (fits v _ (l .0), fits v _ (l .1))
 
--- src/lib.rt:490:48
-cast-or-rows-2 : tie.Need-cast-or-rows-2
-cast-or-rows-2 c = ?
+absence-fits : (c : tie.After-kind2) → let e = c .before .before .before .args .e in SFits w32 (pos (e .a)) × SFits w32 (pos (e .b))
+absence-fits c =
+    let v = c .before .before .before in
+    let l = lower (c .before .before) _ (c .kind2 .given .1) in (fits v _ (l .0), fits v _ (l .1))
 
--- src/lib.rt:490:21
-or-rows-requires : tie.Need-or-rows-requires
-or-rows-requires c κs = search needs
+length-fits : (c : tie.After-kind3) → SFits w32 (pos (c .before .before .before .args .e .a))
+length-fits c = fits (c .before .before .before) _ (lower (c .before .before) _ (c .kind3 .given .1))
 
--- src/lib.rt:491:20
-enum-known-kind : tie.Need-enum-known-kind
-enum-known-kind c = search needs
+-- the rows appended by each
+event-added : tie.Need-returns
+unfolding addedRows
+event-added c = let y = c .before .before .before in simp (operator (y .before .before) _ (y .enum-told .given .1)) (c .before .event-rows .ensures)
 
--- src/lib.rt:491:48
-cast-pair-rows : tie.Need-cast-pair-rows
-cast-pair-rows c = ?
+or-added : tie.Need-returns-2
+unfolding addedRows
+or-added c =
+    let y = c .before .before .before in
+    let f = or-fits y in
+    simp (operator (y .before .before) _ (y .enum-told2 .given .1)) (simp (same32, f .0, f .1) at (c .before .or-rows .ensures))
 
--- src/lib.rt:491:58
-cast-pair-rows-2 : tie.Need-cast-pair-rows-2
-cast-pair-rows-2 c = ?
+pair-added : tie.Need-returns-3
+unfolding addedRows
+pair-added c =
+    let y = c .before .before .before .before in
+    let f = pair-fits y in
+    simp (operator (y .before .before) _ (y .kind .given .1)) (simp (same32, f .0, f .1) at (c .before .pair-rows .ensures))
 
--- src/lib.rt:491:26
-pair-rows-requires : tie.Need-pair-rows-requires
-pair-rows-requires c κs = search needs
+absence-added : tie.Need-returns-4
+unfolding addedRows
+absence-added c =
+    let y = c .before .before .before .before in
+    let f = absence-fits y in
+    simp (operator (y .before .before) _ (y .kind2 .given .1)) (simp (same32, f .0, f .1) at (c .before .absence-rows .ensures))
 
--- src/lib.rt:492:23
-enum-known-kind-2 : tie.Need-enum-known-kind-2
-enum-known-kind-2 c = search needs
-
--- src/lib.rt:492:62
-cast-absence-rows : tie.Need-cast-absence-rows
-cast-absence-rows c = ?
-
--- src/lib.rt:492:72
-cast-absence-rows-2 : tie.Need-cast-absence-rows-2
-cast-absence-rows-2 c = ?
-
--- src/lib.rt:492:33
-absence-rows-requires : tie.Need-absence-rows-requires
-absence-rows-requires c κs = search needs
-
--- src/lib.rt:493:22
-enum-known-kind-3 : tie.Need-enum-known-kind-3
-enum-known-kind-3 c = search needs
-
--- src/lib.rt:493:51
-cast-taken-rows : tie.Need-cast-taken-rows
-cast-taken-rows c = ?
-
--- src/lib.rt:493:31
-taken-rows-requires : tie.Need-taken-rows-requires
-taken-rows-requires c κs = search needs
-
--- src/lib.rt:494:26
-enum-told-3 : tie.Need-enum-told-3
-enum-told-3 c = search needs
-
--- src/lib.rt:474:1
-same-length : tie.Need-same-length
-same-length c = search needs
-
--- src/lib.rt:474:1
-returns : tie.Need-returns
-returns c = ?
-
--- src/lib.rt:474:1
-same-length-2 : tie.Need-same-length-2
-same-length-2 c = search needs
-
--- src/lib.rt:474:1
-returns-2 : tie.Need-returns-2
-returns-2 c = ?
-
--- src/lib.rt:474:1
-same-length-3 : tie.Need-same-length-3
-same-length-3 c = search needs
-
--- src/lib.rt:474:1
-returns-3 : tie.Need-returns-3
-returns-3 c = ?
-
--- src/lib.rt:474:1
-same-length-4 : tie.Need-same-length-4
-same-length-4 c = search needs
-
--- src/lib.rt:474:1
-returns-4 : tie.Need-returns-4
-returns-4 c = ?
-
--- src/lib.rt:474:1
-same-length-5 : tie.Need-same-length-5
-same-length-5 c = search needs
-
--- src/lib.rt:474:1
-returns-5 : tie.Need-returns-5
-returns-5 c = ?
-
--- src/lib.rt:474:1
-returns-6 : tie.Need-returns-6
-returns-6 c = ?
+length-added : tie.Need-returns-5
+unfolding addedRows
+length-added c =
+    let y = c .before .before .before .before in
+    simp (operator (y .before .before) _ (y .kind3 .given .1)) (simp (same32, length-fits y) at (c .before .taken-rows .ensures))
 
 pub entry-rows-spec : {M : Type 1} → statement M
 entry-rows-spec =
     tie.close
     (tie.spec
-    kind-of-requires
-    enum-told
-    event-rows-requires
-    enum-told-2
-    cast-or-rows
-    cast-or-rows-2
-    or-rows-requires
-    enum-known-kind
-    cast-pair-rows
-    cast-pair-rows-2
-    pair-rows-requires
-    enum-known-kind-2
-    cast-absence-rows
-    cast-absence-rows-2
-    absence-rows-requires
-    enum-known-kind-3
-    cast-taken-rows
-    taken-rows-requires
-    enum-told-3
-    same-length
-    returns
-    same-length-2
-    returns-2
-    same-length-3
-    returns-3
-    same-length-4
-    returns-4
-    same-length-5
-    returns-5
-    returns-6)
+    (λ c κs. search needs)
+    (λ c. search needs) (λ c κs. search needs)
+    (λ c. search needs) (λ c. or-fits (c .before) .0) (λ c. or-fits (c .before) .1) (λ c κs. search needs)
+    (λ c. search needs) (λ c. pair-fits (c .before .before) .0) (λ c. pair-fits (c .before .before) .1) (λ c κs. search needs)
+    (λ c. search needs) (λ c. absence-fits (c .before .before) .0) (λ c. absence-fits (c .before .before) .1) (λ c κs. search needs)
+    (λ c. search needs) (λ c. length-fits (c .before .before)) (λ c κs. search needs)
+    (λ c. search needs)
+    (λ c. search needs) event-added
+    (λ c. search needs) or-added
+    (λ c. search needs) pair-added
+    (λ c. search needs) absence-added
+    (λ c. search needs) length-added
+    (λ c. absurd (lower (c .before .before) _ (c .enum-told3 .given .1))))

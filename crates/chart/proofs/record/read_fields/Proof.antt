@@ -21,49 +21,18 @@ within c =
 apart : (c : tie.Else1) → indexOf 9 (c .before .before .before .args .s .now) ≡ length (c .before .before .before .args .s .now) → ⊥
 apart c e = c .if1 .left (c .before .find .ensures ∙ e)
 
-find-requires : tie.Need-find-requires
-find-requires c κs = search needs
-
-returns : tie.Need-returns
-returns c = sym (parsed-one _ (sym (c .before .find .ensures) ∙ c .if1 .taken))
-
-slice-aggregate-read-number : tie.Need-slice-aggregate-read-number
-slice-aggregate-read-number c = sym (length-take-le _ _ (omega (arith, within (c .before))))
-
-read-number-requires : tie.Need-read-number-requires
-read-number-requires c κs = search needs
-
-add-read-numbered : tie.Need-add-read-numbered
-add-read-numbered c = omega (arith, within (c .before .before))
-
-sub-read-numbered : tie.Need-sub-read-numbered
-sub-read-numbered c = omega (arith, within (c .before .before))
-
-part-read-numbered-start : tie.Need-part-read-numbered-start
-part-read-numbered-start c = omega (arith, within (c .before .before))
-
-part-read-numbered-end : tie.Need-part-read-numbered-end
-part-read-numbered-end c = search needs
-
-read-numbered-requires : tie.Need-read-numbered-requires
-read-numbered-requires c κs = search needs
-
 returns-2 : tie.Need-returns-2
 returns-2 c =
     let b = c .before .before .before .before in
     simp (part-from, c .before .before .read-number .ensures, b .before .find .ensures) at (c .read-numbered .ensures) ∙ sym (parsed-cut _ (apart b))
 
 pub read-fields-spec : {M : Type 1} → statement M
-read-fields-spec =
-    tie.close
-    (tie.spec
-    find-requires
-    returns
-    slice-aggregate-read-number
-    read-number-requires
-    add-read-numbered
-    sub-read-numbered
-    part-read-numbered-start
-    part-read-numbered-end
-    read-numbered-requires
-    returns-2)
+read-fields-spec = tie.close (tie.spec
+    (λ c κs. search needs)
+    (λ c. sym (parsed-one _ (sym (c .before .find .ensures) ∙ c .if1 .taken)))
+    (λ c. sym (length-take-le _ _ (omega (arith, within (c .before)))))
+    (λ c κs. search needs)
+    (λ c. omega (arith, within (c .before .before)))
+    (λ c. omega (arith, within (c .before .before)))
+    (λ c. omega (arith, within (c .before .before)))
+    (λ c. search needs) (λ c κs. search needs) returns-2)

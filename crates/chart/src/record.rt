@@ -1,6 +1,6 @@
 // One line of a chart: its fields on paper, and the entry that it asks for.
 ghost use mathlib.Core.Path.{_≡_};
-ghost use Prim.Native.Nat.{_≤_, _<_, min};
+ghost use Prim.Native.Nat.{_≤_, _<_};
 ghost use lib.ListN.{length};
 ghost use Rattle.text.specs.Text.{fields, whole};
 ghost use Rattle.chart.specs.Records.{parsedLine, numbered, operatorLine, byOperator, eventLine, withCode, operandsLine, secondOperand, withOperands, refusedLine, checkedEntry, checkedLine, lineAnswer, answerTo};

@@ -1,5 +1,5 @@
 -- `add_line` meets its contract: a full chart, a line that is refused, a line that is taken.
-use mathlib.Core.Path.{_≡_, sym, ap, _∙_}
+use mathlib.Core.Path.{sym, ap, _∙_}
 use borrow.Author.Needs.{needs}
 use Rattle.chart.proofs.Charts.{add-full, add-refused, add-taken}
 use Rattle.chart.proofs.add_line.Statement.{statement}

@@ -1,6 +1,6 @@
 -- `entry_fits` meets its contract: the two tests are those of the definition.
 use borrow.Author.Needs.{needs}
-use mathlib.Core.Path.{_≡_, sym, ap, _∙_}
+use mathlib.Core.Path.{sym, _∙_}
 use Rattle.chart.specs.Charts.{entryFits}
 use Rattle.chart.proofs.entry_fits.Statement.{statement}
 use Rattle.chart.proofs.entry_fits.Tie as tie

@@ -1,5 +1,5 @@
 -- `read_line` meets its contract: refusals 2 and 3 in the definition's order, then the fields.
-use mathlib.Core.Path.{_≡_, sym, ap, _∙_}
+use mathlib.Core.Path.{sym}
 use native.Mathlib.Omega.{arith}
 use borrow.Author.Needs.{needs}
 use borrow.Author.Tests.{eq-eqb, ne-eqb}

@@ -1,5 +1,4 @@
 -- `read_numbered` meets its contract: each arm is the definition's.
-use mathlib.Core.Path.{_≡_, sym, ap, _∙_}
 use borrow.Author.Needs.{needs}
 use Rattle.chart.specs.Records.{numbered}
 use Rattle.chart.proofs.record.read_numbered.Statement.{statement}

@@ -2,11 +2,11 @@
 use Prim.Native.Nat.{ℕ, suc, _+_, _-_, _≤_, _<_}
 use native.Mathlib.Omega.{arith}
 use native.Mathlib.Numerals.{add-one}
-use mathlib.Core.Path.{_≡_, refl}
+use mathlib.Core.Path.{_≡_, refl, ap, subst}
 use mathlib.Core.Bool.{Bool, true, false, cond, _&&_}
 use mathlib.Core.List.{List, [], _∷_}
-use borrow.Author.Tests.{eq-eqb, ne-eqb, eqb-true, eqb-false, leb-true, leb-false, ltb-true, ltb-false, lt-ltb, le-leb, lt-leb}
-use lib.Dec.{eqb, leb, ltb}
+use borrow.Author.Tests.{eq-eqb, ne-eqb, eqb-true, eqb-false, ltb-true, ltb-false, lt-ltb, le-leb, lt-leb}
+use lib.Dec.{eqb, ltb}
 use lib.ListN.{length, take, drop, length-take}
 use lib.Seq.{length-take-le}
 use Rattle.text.specs.Text.{Line, lines, indexOf, whole, lineSize}
@@ -14,6 +14,7 @@ use Rattle.text.proofs.Laws.{first-whole, first-broken, index-le, lines-none, s
 use Rattle.chart.specs.Records.{answerTo, lineAnswer, refusedLine}
 use Rattle.chart.specs.Charts.{readLines, addLine, takenChart, readChart, orNoLine, noEntries, withEntry, refusedChart, isUsable, allBelow, entryFits, entryAt}
 use Rattle.chart.specs.declared.Chart.{Chart}
+use Rattle.chart.specs.declared.ChartAnswer.{ChartAnswer}
 use Rattle.chart.specs.declared.record.LineAnswer.{LineAnswer}
 use Rattle.chart.proofs.Below.{not-all}
 
@@ -127,42 +128,41 @@ module _ (c : Chart) (s : List ℕ) where
   unfolding addLine readLines
   add-taken h z = simp (lt-leb _ _ h, eq-eqb _ _ z)
 
-  -- a line that is taken makes the chart one entry longer
-  pub add-line-taken : (addLine c s) .refusal ≡ 0 → ((addLine c s) .chart) .count ≡ c .count + 1
-  unfolding addLine readLines refusedChart withEntry
-  add-line-taken z = go (leb 32 (c .count)) (eqb (a .refusal) 0) refl z
-    where
-      a : LineAnswer
-      a = answerTo (c .count) (whole s)
-
-      go : (t u : Bool) → eqb (a .refusal) 0 ≡ u → (cond t (refusedChart 2 33) (cond u (takenChart (withEntry c (a .entry))) (refusedChart (a .refusal) (c .count + 1)))) .refusal ≡ 0 → ((cond t (refusedChart 2 33) (cond u (takenChart (withEntry c (a .entry))) (refusedChart (a .refusal) (c .count + 1)))) .chart) .count ≡ c .count + 1
-      go true u e y = absurd (omega arith)
-      go false true e y = refl
-      go false false e y = absurd (eqb-false (a .refusal) 0 e y)
-
--- the reader's answer to a list of lines, one line at a time
-full-answer : (l : Line) → answerTo 32 l ≡ refusedLine 2
-unfolding answerTo
-full-answer l = refl
-
-pub lines-by-one : (c : Chart) (s : List ℕ) (ls : List Line) → c .count ≤ 32 → readLines c (whole s ∷ ls) ≡ cond (eqb ((addLine c s) .refusal) 0) (readLines ((addLine c s) .chart) ls) (addLine c s)
+-- a chart taken, by its first line
+pub taken-first : (c d : Chart) (l : Line) (ls : List Line) → readLines c (l ∷ ls) ≡ takenChart d → ((answerTo (c .count) l) .refusal ≡ 0) × (readLines (withEntry c ((answerTo (c .count) l) .entry)) ls ≡ takenChart d)
 unfolding readLines refusedChart
-lines-by-one c s ls h = go (leb 32 (c .count)) refl (eqb (a .refusal) 0) refl
+taken-first c d l ls e = go (eqb (a .refusal) 0) refl e
   where
     a : LineAnswer
-    a = answerTo (c .count) (whole s)
+    a = answerTo (c .count) l
 
-    go : (t : Bool) → leb 32 (c .count) ≡ t → (u : Bool) → eqb (a .refusal) 0 ≡ u → readLines c (whole s ∷ ls) ≡ cond (eqb ((addLine c s) .refusal) 0) (readLines ((addLine c s) .chart) ls) (addLine c s)
-    go true e u f =
-        let k = leb-true 32 (c .count) e in
-        let n : c .count ≡ 32 = omega arith in
-        rw (add-full c s k, n, full-answer (whole s))
-    go false e true f =
-        let z = eqb-true (a .refusal) 0 f in
-        simp (add-taken c s (leb-false 32 (c .count) e) z, f)
-    go false e false f =
-        let z = eqb-false (a .refusal) 0 f in
-        simp (add-refused c s (leb-false 32 (c .count) e) z, f)
+    go : (b : Bool) → eqb (a .refusal) 0 ≡ b → cond b (readLines (withEntry c (a .entry)) ls) (refusedChart (a .refusal) (c .count + 1)) ≡ takenChart d → (a .refusal ≡ 0) × (readLines (withEntry c (a .entry)) ls ≡ takenChart d)
+    go true p z = (eqb-true (a .refusal) 0 p, z)
+    go false p z = absurd (eqb-false (a .refusal) 0 p (ap (λ x. x .refusal) z))
+
+-- what each line that is taken keeps, all lines keep
+pub lines-kept : (P : Chart → Type 0) → ((c : Chart) (l : Line) → (answerTo (c .count) l) .refusal ≡ 0 → P c → P (withEntry c ((answerTo (c .count) l) .entry))) → (c d : Chart) (ls : List Line) → readLines c ls ≡ takenChart d → P c → P d
+unfolding readLines
+lines-kept P step c d [] e p = subst P (ap (λ a. a .chart) e) p
+lines-kept P step c d (l ∷ ls) e p =
+    let h = taken-first c d l ls e in
+    lines-kept P step (withEntry c ((answerTo (c .count) l) .entry)) d ls (h .1) (step c l (h .0) p)
+
+-- an answer with number 0 is a chart taken
+abbrev IsTaken : ChartAnswer → Type 0
+IsTaken a = a .refusal ≡ 0 → a ≡ takenChart (a .chart)
+
+pub all-taken : (c : Chart) (ls : List Line) → IsTaken (readLines c ls)
+unfolding readLines refusedChart
+all-taken c [] z = refl
+all-taken c (l ∷ ls) z = go (eqb (a .refusal) 0) refl (all-taken (withEntry c (a .entry)) ls) z
+  where
+    a : LineAnswer
+    a = answerTo (c .count) l
+
+    go : (b : Bool) → eqb (a .refusal) 0 ≡ b → IsTaken (readLines (withEntry c (a .entry)) ls) → IsTaken (cond b (readLines (withEntry c (a .entry)) ls) (refusedChart (a .refusal) (c .count + 1)))
+    go true e f = f
+    go false e f = λ y. absurd (eqb-false (a .refusal) 0 e y)
 
 -- the check behind refusal 14
 and-false : (a b : Bool) → b ≡ false → (a && b) ≡ false

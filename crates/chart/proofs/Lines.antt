@@ -1,10 +1,10 @@
 -- Laws of the reader of a chart's lines that other crates go by.
 use Prim.Native.Nat.{ℕ, _+_, _≤_}
 use native.Mathlib.Omega.{arith}
-use mathlib.Core.Path.{_≡_, refl, ap, subst}
+use mathlib.Core.Path.{_≡_, refl, ap}
 use mathlib.Core.Bool.{Bool, true, false, cond}
 use mathlib.Core.List.{List, [], _∷_, _++_}
-use borrow.Author.Tests.{eq-eqb, eqb-true, eqb-false, leb-true}
+use borrow.Author.Tests.{eq-eqb, leb-true}
 use lib.Dec.{eqb, leb}
 use Rattle.text.specs.Text.{Line, whole, isRecord}
 use Rattle.chart.specs.Records.{answerTo}
@@ -12,7 +12,8 @@ use Rattle.chart.specs.Charts.{noEntries, withEntry, refusedChart, taken
 use Rattle.chart.specs.declared.Entry.{Entry}
 use Rattle.chart.specs.declared.Chart.{Chart}
 use Rattle.chart.specs.declared.record.LineAnswer.{LineAnswer}
-use Rattle.chart.proofs.Usable.{Good, good-more, answer-fits}
+use Rattle.chart.proofs.Charts.{all-taken, taken-first, lines-kept}
+use Rattle.chart.proofs.Usable.{Good, good-line}
 
 pub no-entries-count : noEntries .count ≡ 0
 unfolding noEntries
@@ -64,34 +65,11 @@ module _ (c : Chart) (l : Line) where
 
   -- an answer with number 0 is a chart taken
   pub read-taken : (readLines c (l ∷ [])) .refusal ≡ 0 → readLines c (l ∷ []) ≡ takenChart ((readLines c (l ∷ [])) .chart)
-  unfolding readLines refusedChart
-  read-taken z = go (eqb (answer .refusal) 0) refl z
-    where
-      go : (b : Bool) → eqb (answer .refusal) 0 ≡ b → (cond b (takenChart (withEntry c (answer .entry))) (refusedChart (answer .refusal) (c .count + 1))) .refusal ≡ 0 → cond b (takenChart (withEntry c (answer .entry))) (refusedChart (answer .refusal) (c .count + 1)) ≡ takenChart ((cond b (takenChart (withEntry c (answer .entry))) (refusedChart (answer .refusal) (c .count + 1))) .chart)
-      go true p y = refl
-      go false p y = absurd (eqb-false (answer .refusal) 0 p y)
-
--- a chart taken, by its first line
-taken-first : (c d : Chart) (l : Line) (ls : List Line) → readLines c (l ∷ ls) ≡ takenChart d → ((answerTo (c .count) l) .refusal ≡ 0) × (readLines (withEntry c ((answerTo (c .count) l) .entry)) ls ≡ takenChart d)
-unfolding readLines refusedChart
-taken-first c d l ls e = go (eqb (a .refusal) 0) refl e
-  where
-    a : LineAnswer
-    a = answerTo (c .count) l
-
-    go : (b : Bool) → eqb (a .refusal) 0 ≡ b → cond b (readLines (withEntry c (a .entry)) ls) (refusedChart (a .refusal) (c .count + 1)) ≡ takenChart d → (a .refusal ≡ 0) × (readLines (withEntry c (a .entry)) ls ≡ takenChart d)
-    go true p z = (eqb-true (a .refusal) 0 p, z)
-    go false p z = absurd (eqb-false (a .refusal) 0 p (ap (λ x. x .refusal) z))
+  read-taken z = all-taken c (l ∷ []) z
 
 -- a chart read from lines is one whose entries fit so far
 pub lines-good : (c d : Chart) (ls : List Line) → Good c → readLines c ls ≡ takenChart d → Good d
-unfolding readLines
-lines-good c d [] g e = subst Good (ap (λ a. a .chart) e) g
-lines-good c d (l ∷ ls) g e =
-    let h = taken-first c d l ls e in
-    let a = answerTo (c .count) l in
-    let f = answer-fits (c .count) l (h .0) in
-    lines-good (withEntry c (a .entry)) d ls (good-more c (a .entry) g (f .0) (f .1)) (h .1)
+lines-good c d ls g e = lines-kept Good good-line c d ls e g
 
 -- one line more
 pub lines-more : (c d : Chart) (ls : List Line) (l : Line) → readLines c ls ≡ takenChart d → readLines c (ls ++ l ∷ []) ≡ readLines d (l ∷ [])

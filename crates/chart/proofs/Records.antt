@@ -30,6 +30,14 @@ before-end s d = let p = index-le 9 s in omega arith
 pub cut-field : (s : List ℕ) → (indexOf 9 s ≡ length s → ⊥) → fields s ≡ take (indexOf 9 s) s ∷ fields (drop (indexOf 9 s + 1) s)
 cut-field s d = rw add-one (split-cut 9 s (before-end s d))
 
+-- the same where t is the place that was found
+pub record Cut (s : List ℕ) (t : ℕ) : Type 0 where
+  pub within : t < length s
+  pub parts : fields s ≡ take t s ∷ fields (drop (t + 1) s)
+
+pub tab-cut : (s : List ℕ) (t : ℕ) → t ≡ indexOf 9 s → (t ≡ length s → ⊥) → Cut s t
+tab-cut s t e d = rw e (record { within = before-end s (rw e at d); parts = cut-field s (rw e at d) })
+
 -- one field more
 more-fields : (s : List ℕ) → (indexOf 9 s ≡ length s → ⊥) → (k : List ℕ) × (l : List ℕ) × (ls : List (List ℕ)) × (fields s ≡ k ∷ l ∷ ls)
 more-fields s d =
@@ -54,10 +62,6 @@ module _ (e : ℕ) (s : List ℕ) where
       go false true = refl
       go false false = refl
 
-  pub operator-cut : (indexOf 9 s ≡ length s → ⊥) → operatorLine e (fields s) ≡ byOperator e (operatorOf (take (indexOf 9 s) s)) (fields (drop (indexOf 9 s + 1) s))
-  unfolding operatorLine
-  operator-cut d = rw (cut-field s d)
-
 module _ (e op : ℕ) (s : List ℕ) where
   pub second-one : (x : Number) → indexOf 9 s ≡ length s → secondOperand e op x (fields s) ≡ withOperands e op x (numberOf s)
   unfolding secondOperand
@@ -71,10 +75,6 @@ module _ (e op : ℕ) (s : List ℕ) where
   unfolding operandsLine secondOperand
   operands-one h = rw (one-field s h)
 
-  pub operands-cut : (indexOf 9 s ≡ length s → ⊥) → operandsLine e op (fields s) ≡ secondOperand e op (numberOf (take (indexOf 9 s) s)) (fields (drop (indexOf 9 s + 1) s))
-  unfolding operandsLine
-  operands-cut d = rw (cut-field s d)
-
 numbered-none : (x : Number) → numbered x [] ≡ Parsed.Malformed
 unfolding numbered operatorLine
 numbered-none (Number.Value n) = refl
@@ -84,10 +84,6 @@ module _ (s : List ℕ) where
   pub parsed-one : indexOf 9 s ≡ length s → parsedLine (fields s) ≡ Parsed.Malformed
   unfolding parsedLine
   parsed-one h = rw (one-field s h) (numbered-none (numberOf s))
-
-  pub parsed-cut : (indexOf 9 s ≡ length s → ⊥) → parsedLine (fields s) ≡ numbered (numberOf (take (indexOf 9 s) s)) (fields (drop (indexOf 9 s + 1) s))
-  unfolding parsedLine
-  parsed-cut d = rw (cut-field s d)
 
 -- operands that are in range and lower fit 32 bits
 pub record Small (a b : ℕ) : Type 0 where

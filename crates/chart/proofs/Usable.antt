@@ -1,27 +1,25 @@
--- A chart that was read is one a watch may use: `read-usable`, and line by line `good-none`, `good-added`, `good-usable`.
-use Prim.Native.Nat.{ℕ, _+_, _≤_, _<_}
+-- A chart that was read is one a watch may use: `read-usable`, and line by line `good-none`, `good-line`, `good-usable`.
+use Prim.Native.Nat.{ℕ, _≤_, _<_}
 use native.Mathlib.Omega.{arith}
 use mathlib.Core.Path.{_≡_, refl, ap, _∙_}
 use mathlib.Core.Bool.{Bool, true, false, cond, _&&_}
 use mathlib.Core.List.{List, [], _∷_}
-use mathlib.Core.Logic.{_⊎_, inl, inr}
-use borrow.Author.Tests.{eqb-true, eqb-false, leb-true, ltb-true}
+use borrow.Author.Tests.{eqb-false, leb-true, ltb-true}
 use lib.Dec.{eqb, leb, ltb}
 use lib.ListN.{length, getD, set, length-set, length-replicate}
 use lib.Seq.{getD-set-same, getD-set-other}
 use Rattle.interval.proofs.Signed.{never, and-first, and-second}
-use Rattle.text.specs.Text.{Line, lines, whole, isRecord, fields}
+use Rattle.text.specs.Text.{Line, lines, isRecord, fields}
 use Rattle.chart.specs.Operators.{kindOf, inRange, areLower}
 use Rattle.chart.specs.Records.{entry, answerTo, refusedLine, takenLine, checkedEntry, checkedLine, parsedLine}
-use Rattle.chart.specs.Charts.{readLines, addLine, takenChart, readChart, orNoLine, noEntries, withEntry, refusedChart, isUsable, allBelow, entryFits, entryAt}
+use Rattle.chart.specs.Charts.{readChart, orNoLine, noEntries, withEntry, refusedChart, isUsable, allBelow, entryFits, entryAt}
 use Rattle.chart.specs.declared.Entry.{Entry}
 use Rattle.chart.specs.declared.Chart.{Chart}
 use Rattle.chart.specs.declared.operator.Kind.{Kind}
 use Rattle.chart.specs.declared.operator.Kind.the-variants.{Event, Or, Pair, Absence, Length, Unknown}
 use Rattle.chart.specs.declared.record.Parsed.{Parsed}
-use Rattle.chart.specs.declared.record.LineAnswer.{LineAnswer}
 use Rattle.chart.proofs.Below.{none-below, one-more, same-below, at-place}
-use Rattle.chart.proofs.Charts.{usable}
+use Rattle.chart.proofs.Charts.{usable, taken-first, lines-kept, all-taken}
 
 -- a chart so far: at most 32 entries, all of which fit.
 pub record Good (c : Chart) : Type 0 where
@@ -69,39 +67,16 @@ good-more c e g d h = record {
   fits = one-more (c .count) (λ n. entryFits n (getD (set (c .entries) (c .count) e) n (entry 0 0 0))) (same-below (c .count) (λ n. entryFits n (getD (set (c .entries) (c .count) e) n (entry 0 0 0))) (λ n. entryFits n (entryAt c n)) (λ i k. ap (entryFits i) (getD-set-other (c .entries) (c .count) i e (entry 0 0 0) (λ p. omega arith))) ∙ g .fits) (ap (entryFits (c .count)) (getD-set-same (c .entries) (c .count) e (entry 0 0 0) (omega (arith, g .size, g .few))) ∙ h);
 }
 
--- the lines left to read keep a good chart good
-left-good : (c : Chart) (ls : List Line) → Good c → (1 ≤ c .count) ⊎ (0 < length ls) → (readLines c ls) .refusal ≡ 0 → isUsable ((readLines c ls) .chart) ≡ true
-unfolding readLines withEntry refusedChart
-left-good c [] g (inl h) z = usable c h (g .few) (g .fits)
-left-good c [] g (inr h) z = absurd (omega arith)
-left-good c (l ∷ ls) g s z = go (eqb (a .refusal) 0) refl (λ d h y. left-good d ls h y) z
-  where
-    a : LineAnswer
-    a = answerTo (c .count) l
-
-    go : (t : Bool) → eqb (a .refusal) 0 ≡ t → ((d : Chart) → Good d → (1 ≤ d .count) ⊎ (0 < length ls) → (readLines d ls) .refusal ≡ 0 → isUsable ((readLines d ls) .chart) ≡ true) → (cond t (readLines (withEntry c (a .entry)) ls) (refusedChart (a .refusal) (c .count + 1))) .refusal ≡ 0 → isUsable ((cond t (readLines (withEntry c (a .entry)) ls) (refusedChart (a .refusal) (c .count + 1))) .chart) ≡ true
-    go true e left y =
-        let f = answer-fits (c .count) l (eqb-true (a .refusal) 0 e) in
-        left (withEntry c (a .entry)) (good-more c (a .entry) g (f .0) (f .1)) (inl (omega arith)) y
-    go false e left y = absurd (eqb-false (a .refusal) 0 e y)
-
--- and so does one more line; with an entry, a good chart is one a watch may use
-pub good-added : (c : Chart) (s : List ℕ) → Good c → (addLine c s) .refusal ≡ 0 → Good ((addLine c s) .chart)
-unfolding addLine readLines refusedChart
-good-added c s g z = go (leb 32 (c .count)) (eqb (a .refusal) 0) refl z
-  where
-    a : LineAnswer
-    a = answerTo (c .count) (whole s)
-
-    go : (t u : Bool) → eqb (a .refusal) 0 ≡ u → (cond t (refusedChart 2 33) (cond u (takenChart (withEntry c (a .entry))) (refusedChart (a .refusal) (c .count + 1)))) .refusal ≡ 0 → Good ((cond t (refusedChart 2 33) (cond u (takenChart (withEntry c (a .entry))) (refusedChart (a .refusal) (c .count + 1)))) .chart)
-    go true u e y = absurd (omega arith)
-    go false true e y =
-        let f = answer-fits (c .count) (whole s) (eqb-true (a .refusal) 0 e) in
-        good-more c (a .entry) g (f .0) (f .1)
-    go false false e y = absurd (eqb-false (a .refusal) 0 e y)
+-- a line that is taken keeps a good chart good; with an entry, it is one a watch may use
+pub good-line : (c : Chart) (l : Line) → (answerTo (c .count) l) .refusal ≡ 0 → Good c → Good (withEntry c ((answerTo (c .count) l) .entry))
+good-line c l z g = let f = answer-fits (c .count) l z in good-more c _ g (f .0) (f .1)
 
 pub good-usable : (c : Chart) → Good c → 1 ≤ c .count → isUsable c ≡ true
 good-usable c g h = usable c h (g .few) (g .fits)
+
+longer : (c : Chart) (e : Entry) → 1 ≤ (withEntry c e) .count
+unfolding withEntry
+longer c e = omega arith
 
 -- the reader's charts are those a watch may use
 pub read-usable : (s : List ℕ) → (readChart s) .refusal ≡ 0 → isUsable ((readChart s) .chart) ≡ true
@@ -110,7 +85,10 @@ read-usable s z = go (lines s) z
   where
     go : (ls : List Line) → (orNoLine ls) .refusal ≡ 0 → isUsable ((orNoLine ls) .chart) ≡ true
     go [] y = absurd (omega arith)
-    go (l ∷ ls) y = left-good noEntries (l ∷ ls) good-none (inr (omega arith)) y
+    go (l ∷ ls) y =
+        let e = all-taken noEntries (l ∷ ls) y in
+        let h = taken-first noEntries _ l ls e in
+        good-usable _ (lines-kept Good good-line noEntries _ (l ∷ ls) e good-none) (lines-kept (λ c. 1 ≤ c .count) (λ c k z g. longer c _) _ _ ls (h .1) (longer noEntries _))
 
 -- a chart that a watch may use has at most 32 entries, all of which fit
 module _ (c : Chart) (u : isUsable c ≡ true) where

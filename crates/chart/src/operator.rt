@@ -2,8 +2,6 @@
 ghost use mathlib.Core.Path.{_≡_};
 ghost use Prim.Native.Nat.{_<_};
 ghost use lib.ListN.{getD};
-ghost use lib.Dec.{ltb};
-ghost use mathlib.Core.Bool.{_&&_};
 ghost use mathlib.Core.List.{[]};
 ghost use Rattle.chart.specs.Operators.{words, paddedWords, wordLengths, sameBytes, operatorOf, edgesOf, relationOf, lengthTestOf, kindOf, shapeOf, inRange, areLower};
 use interval::Edges;
@@ -138,7 +136,7 @@ pub fn in_range(k: Kind, a: u64, b: u64) -> bool
     ensures { λ r. ⌜ r ≡ inRange k a b ⌝ }
 {
     match k {
-        Kind::Event => a <= 255 && b == 0,
+        Kind::Event => (a <= 255) & (b == 0),
         Kind::Or => true,
         Kind::Pair(_) => true,
         Kind::Absence(_) => true,
@@ -151,18 +149,13 @@ pub fn in_range(k: Kind, a: u64, b: u64) -> bool
 pub fn are_lower(k: Kind, n: u64, a: u64, b: u64) -> bool
     ensures { λ r. ⌜ r ≡ areLower k n a b ⌝ }
 {
+    let both = (a < n) & (b < n);
     match k {
         Kind::Event => true,
-        Kind::Or => both_lower(n, a, b),
-        Kind::Pair(_) => both_lower(n, a, b),
-        Kind::Absence(_) => both_lower(n, a, b),
+        Kind::Or => both,
+        Kind::Pair(_) => both,
+        Kind::Absence(_) => both,
         Kind::Length(_) => a < n,
         Kind::Unknown => false,
     }
-}
-
-fn both_lower(n: u64, a: u64, b: u64) -> bool
-    ensures { λ r. ⌜ r ≡ (ltb a n && ltb b n) ⌝ }
-{
-    a < n && b < n
 }

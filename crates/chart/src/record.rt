@@ -1,9 +1,9 @@
 // One line of a chart: its fields on paper, and the entry that it asks for.
 ghost use mathlib.Core.Path.{_≡_};
-ghost use Prim.Native.Nat.{_≤_, _<_, min};
+ghost use Prim.Native.Nat.{_≤_, _<_};
 ghost use lib.ListN.{length};
 ghost use Rattle.text.specs.Text.{fields, whole};
-ghost use Rattle.chart.specs.Records.{parsedLine, numbered, operatorLine, eventLine, withCode, operandsLine, secondOperand, withOperands, refusedLine, checkedEntry, checkedLine, lineAnswer, answerTo};
+ghost use Rattle.chart.specs.Records.{parsedLine, numbered, operatorLine, byOperator, eventLine, withCode, operandsLine, secondOperand, withOperands, refusedLine, checkedEntry, checkedLine, lineAnswer, answerTo};
 use crate::Entry;
 use crate::operator::are_lower;
 use crate::operator::in_range;
@@ -53,13 +53,20 @@ fn read_operator(entry: u64, s: &[u8]) -> Parsed
         return Parsed::Malformed;
     }
     let op = operator_of(&s[..t]);
+    by_operator(entry, op, &s[t + 1..])
+}
+
+// What follows the operator word.
+fn by_operator(entry: u64, op: u8, s: &[u8]) -> Parsed
+    ensures { λ r. ⌜ r ≡ byOperator entry op (fields (now (s .entry))) ⌝ }
+{
     if op == 17 {
         return Parsed::Malformed;
     }
     if op == 0 {
-        return read_event(entry, &s[t + 1..]);
+        return read_event(entry, s);
     }
-    read_operands(entry, op, &s[t + 1..])
+    read_operands(entry, op, s)
 }
 
 fn read_event(entry: u64, s: &[u8]) -> Parsed

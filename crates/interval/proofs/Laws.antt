@@ -1,6 +1,6 @@
 -- The laws of instants and of the conditions that other crates go by; none of them opens a definition of `specs/` itself.
 -- No law depends on whether a length test includes its limit, so that a change of it moves none of them.
-use Prim.Native.Nat.{ℕ, _+_, _<_, _≤_}
+use Prim.Native.Nat.{ℕ, _≤_}
 use native.Mathlib.Omega.{arith}
 use mathlib.Core.Path.{_≡_, refl, sym, _∙_}
 use mathlib.Core.Logic.{_⊎_, inl, inr}
@@ -16,7 +16,7 @@ use Rattle.interval.specs.declared.Ending.{Ending}
 use Rattle.interval.specs.declared.Ending.the-variants.{Before, Within, Together, Either}
 use Rattle.interval.specs.declared.Edges.{Edges}
 use Rattle.interval.specs.declared.Edges.the-variants.{ClosedClosed, OpenOpen, ClosedOpen, OpenClosed}
-use Rattle.interval.proofs.Signed.{_≤ᶻ_, _<ᶻ_, posPart, negPart, signed, never, and-first, and-second, antisym, least-is, greatest-is, lt-true, lt-false, le-true, le-false, is-lt, not-lt, is-le, not-le, instant-told, is-instant, eq-true, eq-told, eq-fact}
+use Rattle.interval.proofs.Signed.{_≤ᶻ_, _<ᶻ_, signed, never, and-first, and-second, antisym, least-is, greatest-is, lt-true, lt-false, le-true, le-false, is-lt, not-lt, is-le, not-le, instant-told, is-instant, eq-true, eq-told, eq-fact}
 
 -- the order of instants
 pub lt-irrefl : (a : ℤ) → ltZ a a ≡ true → ⊥

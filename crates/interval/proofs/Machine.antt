@@ -1,17 +1,17 @@
 -- Signed machine numbers: what a signed variable holds is read back as it is, `==` tests equality, a cast keeps the number.
-use Prim.Native.Nat.{ℕ, _+_, _<_, _≤_, _^_}
+use Prim.Native.Nat.{_+_, _<_, _≤_, _^_}
 use native.Mathlib.Omega.{arith}
 use mathlib.Core.Path.{_≡_, refl, sym, ap, _∙_}
 use mathlib.Core.Bool.{Bool, true, false}
 use borrow.Author.Tests.{eqb-true, eqb-false, eq-eqb, ne-eqb}
 use lib.Dec.{T, eqb}
-use lib.IntN.{ℤ, pos, negsuc, natAbs}
+use lib.IntN.{ℤ, pos, negsuc, natAbs, _-ℤ_}
 use lib.Signed.{leZ, mag, nonNeg}
 use mir.Syntax.{Width, w32, w64}
 use mir.Val.{SFits, Fits, toZ, ofZ}
 use mir.ValLaws.{toZ-ofZ}
 use Rattle.interval.specs.Instants.{isInstant, eqZ}
-use Rattle.interval.proofs.Signed.{posPart, negPart, never, instant-told, eq-true, eq-false}
+use Rattle.interval.proofs.Signed.{posPart, negPart, never, instant-told, eq-true, eq-false, sub-fact}
 
 -- a bound on the sum is one on both, since one of the two is 0
 fits32′ : (z : ℤ) → mag z < 2 ^ 31 → posPart z + negPart z ≤ 2 ^ 31
@@ -41,6 +41,10 @@ same64 z f = toZ-ofZ w64 z f
 
 pub widened : (z : ℤ) → SFits w32 z → SFits w64 z
 widened z f = is-fit64 z (omega (arith, fits32 z f))
+
+-- the difference of two i32 is an i64
+pub difference-fits : (a b : ℤ) → SFits w32 a → SFits w32 b → SFits w64 (a -ℤ b)
+difference-fits a b f g = is-fit64 _ (omega (arith, sub-fact a b, fits32 a f, fits32 b g))
 
 -- `==` of two signed numbers is a test of their bits, and of the numbers
 bits-eq : (w : Width) (a b : ℤ) → SFits w a → SFits w b → ofZ w a ≡ ofZ w b → a ≡ b

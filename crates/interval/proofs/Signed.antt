@@ -5,8 +5,8 @@ use native.Mathlib.Omega.{arith}
 use mathlib.Core.Path.{_≡_, refl, sym, ap, _∙_, subst}
 use mathlib.Core.Logic.{_⊎_, inl, inr}
 use mathlib.Core.Bool.{Bool, true, false, cond, not, _&&_}
-use borrow.Author.Tests.{ltb-true, ltb-false, leb-true, leb-false, lt-ltb, le-ltb, le-leb, lt-leb, eqb-true, eqb-false, eq-eqb}
-use lib.Dec.{T, eqb, ltb}
+use borrow.Author.Tests.{ltb-true, ltb-false, leb-true, leb-false, lt-ltb, le-ltb, le-leb, lt-leb, eqb-true, eq-eqb}
+use lib.Dec.{T, ltb}
 use lib.IntN.{ℤ, pos, negsuc, _+ℤ_, _-ℤ_, negℤ, subℕ}
 use lib.Signed.{ltZ, leZ}
 use Rattle.interval.specs.Instants.{isInstant, eqZ, least, greatest}
@@ -191,19 +191,15 @@ greatest-is a b = go (leZ a b) refl
     go false e = record { left = omega arith; right = omega (arith, signed) }
 
 -- each is one of the two
+one-of : (P : ℤ → Type 0) (a b : ℤ) (c : Bool) → P a → P b → P (cond c a b)
+one-of P a b true p q = p
+one-of P a b false p q = q
+
 pub least-most : (P : ℤ → Type 0) (a b : ℤ) → P a → P b → P (least a b)
-least-most P a b p q = go (leZ a b)
-  where
-    go : (c : Bool) → P (cond c a b)
-    go true = p
-    go false = q
+least-most P a b p q = one-of P a b (leZ a b) p q
 
 pub greatest-most : (P : ℤ → Type 0) (a b : ℤ) → P a → P b → P (greatest a b)
-greatest-most P a b p q = go (leZ a b)
-  where
-    go : (c : Bool) → P (cond c b a)
-    go true = q
-    go false = p
+greatest-most P a b p q = one-of P b a (leZ a b) q p
 
 pub le-cases : (a b : ℤ) → a ≤ᶻ b → (a <ᶻ b) ⊎ (a ≡ b)
 le-cases a b h = go (ltZ a b) refl

@@ -1,6 +1,6 @@
 // Instants and lengths, which clock marks and forgets are refused, and the conditions on intervals. The lowest crate: every other crate
 // goes by these contracts and by the laws of `proofs/Laws.antt`, and looks at no inequality itself. Every function takes constant time and
-// accepts every input.
+// accepts every input. Comparisons are joined by `&` and `|`: each is as cheap as the branch that would spare it.
 ghost use mathlib.Core.Path.{_≡_};
 ghost use lib.IntN.{_-ℤ_};
 ghost use lib.Signed.{ltZ, leZ};
@@ -46,14 +46,14 @@ pub enum LengthTest {
 pub fn is_instant(x: i32) -> bool
     ensures { λ r. ⌜ r ≡ isInstant x ⌝ }
 {
-    -1000000000 <= x && x <= 1000000000
+    (-1000000000 <= x) & (x <= 1000000000)
 }
 
 // The same of a number that was read and is not known to fit an i32.
 pub fn is_wide_instant(z: i64) -> bool
     ensures { λ r. ⌜ r ≡ isInstant z ⌝ }
 {
-    -1000000000 <= z && z <= 1000000000
+    (-1000000000 <= z) & (z <= 1000000000)
 }
 
 // Whether d is in the range of the lengths; as wide as numbers are read.
@@ -97,23 +97,14 @@ pub fn is_same(a: i32, b: i32) -> bool
 pub fn is_mark_refused(opened: i32, x: i32) -> bool
     ensures { λ r. ⌜ r ≡ isMarkRefused opened x ⌝ }
 {
-    if !is_instant(x) {
-        return true;
-    }
-    x <= opened
+    !is_instant(x) | (x <= opened)
 }
 
 // Whether a forget of what starts before f is refused: f is below the floor, above the open instant or out of range.
 pub fn is_forget_refused(floor: i32, opened: i32, f: i32) -> bool
     ensures { λ r. ⌜ r ≡ isForgetRefused floor opened f ⌝ }
 {
-    if f < floor {
-        return true;
-    }
-    if opened < f {
-        return true;
-    }
-    !is_instant(f)
+    (f < floor) | ((opened < f) | !is_instant(f))
 }
 
 // The least of two starts.
@@ -145,23 +136,12 @@ pub fn is_related(c: Relation, rs: i32, re: i32, ss: i32, se: i32) -> bool
         Relation::Seq => re < ss,
         Relation::And => true,
         Relation::Meets => re == ss,
-        Relation::Overlaps => overlaps(rs, re, ss, se),
-        Relation::Starts => rs == ss && re < se,
-        Relation::During => ss < rs && re < se,
-        Relation::Finishes => ss < rs && re == se,
-        Relation::Equals => rs == ss && re == se,
+        Relation::Overlaps => (rs < ss) & ((ss < re) & (re < se)),
+        Relation::Starts => (rs == ss) & (re < se),
+        Relation::During => (ss < rs) & (re < se),
+        Relation::Finishes => (ss < rs) & (re == se),
+        Relation::Equals => (rs == ss) & (re == se),
     }
-}
-
-fn overlaps(rs: i32, re: i32, ss: i32, se: i32) -> bool
-    ensures { λ r. ⌜ r ≡ isRelated Relation.Overlaps rs re ss se ⌝ }
-{
-    if rs < ss {
-        if ss < re {
-            return re < se;
-        }
-    }
-    false
 }
 
 // Where two intervals r and s that meet the condition of c end.
@@ -185,10 +165,10 @@ pub fn is_forbidding(e: Edges, rs: i32, re: i32, ss: i32, se: i32) -> bool
     ensures { λ r. ⌜ r ≡ isForbidding e rs re ss se ⌝ }
 {
     match e {
-        Edges::ClosedClosed => rs <= ss && se <= re,
-        Edges::OpenOpen => rs < ss && se < re,
-        Edges::ClosedOpen => rs <= ss && se < re,
-        Edges::OpenClosed => rs < ss && se <= re,
+        Edges::ClosedClosed => (rs <= ss) & (se <= re),
+        Edges::OpenOpen => (rs < ss) & (se < re),
+        Edges::ClosedOpen => (rs <= ss) & (se < re),
+        Edges::OpenClosed => (rs < ss) & (se <= re),
     }
 }
 

@@ -5,11 +5,5 @@ use Rattle.chart.specs.Charts.{verdictOf}
 use Rattle.chart.proofs.check.Statement.{statement}
 use Rattle.chart.proofs.check.Tie as tie
 
-read-requires : tie.Need-read-requires
-read-requires c κs = search needs
-
-returns : tie.Need-returns
-returns c = ap verdictOf (c .read .ensures)
-
 pub check-spec : {M : Type 1} → statement M
-check-spec = tie.close (tie.spec read-requires returns)
+check-spec = tie.close (tie.spec (λ c κs. search needs) (λ c. ap verdictOf (c .read .ensures)))

@@ -4,9 +4,6 @@ use Rattle.chart.specs.Charts.{noEntries}
 use Rattle.chart.proofs.no_entries.Statement.{statement}
 use Rattle.chart.proofs.no_entries.Tie as tie
 
-returns : tie.Need-returns
-unfolding noEntries
-returns c = search needs
-
 pub no-entries-spec : {M : Type 1} → statement M
-no-entries-spec = tie.close (tie.spec returns)
+unfolding noEntries
+no-entries-spec = tie.close (tie.spec (λ c. search needs))

@@ -43,41 +43,11 @@ part-size c =
 goes-on : (c : tie.Else2 Inv-loop μ-loop) → let l = c .before .before .before .before .before .before in Taken (l .loop .chart .count) (drop (l .loop .at) (l .before .before .before .before .args .s .now))
 goes-on c = taken _ _ (ap (λ x. x .refusal) (sym (answered (c .before))) ∙ c .if2 .left)
 
-refused-requires : tie.Need-refused-requires Inv-loop μ-loop
-refused-requires c κs = search needs
-
-returns : tie.Need-returns Inv-loop μ-loop
-returns c = c .refused .ensures ∙ sym (no-line _ (c .before .if1 .taken))
-
-no-entries-requires : tie.Need-no-entries-requires Inv-loop μ-loop
-no-entries-requires c κs = search needs
-
 loop-holds : tie.Need-loop-holds Inv-loop μ-loop
 unfolding noEntries
 loop-holds c =
     let s = c .before .before .before .args .s .now in
     (omega arith, omega (arith, ap (λ d. d .count) (c .no-entries .ensures)), rw (c .no-entries .ensures) (sym (some-line s (omega arith))))
-
-sub-line-size : tie.Need-sub-line-size Inv-loop μ-loop
-sub-line-size c = omega arith
-
-part-line-size-start : tie.Need-part-line-size-start Inv-loop μ-loop
-part-line-size-start c = omega arith
-
-part-line-size-end : tie.Need-part-line-size-end Inv-loop μ-loop
-part-line-size-end c = search needs
-
-line-size-requires : tie.Need-line-size-requires Inv-loop μ-loop
-line-size-requires c κs = search needs
-
-sub-read-line : tie.Need-sub-read-line Inv-loop μ-loop
-sub-read-line c = omega arith
-
-part-read-line-start : tie.Need-part-read-line-start Inv-loop μ-loop
-part-read-line-start c = omega arith
-
-part-read-line-end : tie.Need-part-read-line-end Inv-loop μ-loop
-part-read-line-end c = search needs
 
 read-line-requires : tie.Need-read-line-requires Inv-loop μ-loop
 read-line-requires c κs =
@@ -85,15 +55,6 @@ read-line-requires c κs =
     let l = z .before .before .before in
     let r = drop (l .loop .at) (l .before .before .before .before .args .s .now) in
     (rw (part-from, sized z) (size-le r), omega arith)
-
-add-refused : tie.Need-add-refused Inv-loop μ-loop
-add-refused c = omega arith
-
-cast-refused : tie.Need-cast-refused Inv-loop μ-loop
-cast-refused c = omega arith
-
-refused-requires-2 : tie.Need-refused-requires-2 Inv-loop μ-loop
-refused-requires-2 c κs = search needs
 
 returns-2 : tie.Need-returns-2 Inv-loop μ-loop
 returns-2 c =
@@ -109,26 +70,11 @@ roomy c =
     let l = c .before .before .before .before .before .before in
     omega (arith, t .room, l .loop .inv .1)
 
-mul-e : tie.Need-mul-e Inv-loop μ-loop
-mul-e c = omega (arith, roomy (c .before))
-
-element-set-from-e : tie.Need-element-set-from-e Inv-loop μ-loop
-element-set-from-e c = roomy (c .before)
-
-add-chart : tie.Need-add-chart Inv-loop μ-loop
-add-chart c = omega (arith, roomy (c .before))
-
 add-at : tie.Need-add-at Inv-loop μ-loop
 add-at c =
     let a = c .before .before in
     let l = a .before .before .before .before .before in
     omega (arith, part-size a, l .before .before .before .before .good .0 .0)
-
-loop-less : tie.Need-loop-less Inv-loop μ-loop
-loop-less c =
-    let d = c .before in
-    let t = goes-on d in
-    omega (arith, part-size (d .before), t .some, sized (d .before .before .before))
 
 loop-again : tie.Need-loop-again Inv-loop μ-loop
 unfolding withEntry
@@ -148,31 +94,15 @@ returns-3 c =
     sym (no-line-left (l .loop .chart)) ∙ ap (λ x. readLines (l .loop .chart) (lines x)) (sym (drop-of-length-le s {i = l .loop .at} (omega arith))) ∙ l .loop .inv .2
 
 pub read-spec : {M : Type 1} → statement M
-read-spec =
-    tie.close
-    (tie.spec
-    Inv-loop
-    μ-loop
-    refused-requires
-    returns
-    no-entries-requires
-    loop-holds
-    sub-line-size
-    part-line-size-start
-    part-line-size-end
-    line-size-requires
-    sub-read-line
-    part-read-line-start
-    part-read-line-end
-    read-line-requires
-    add-refused
-    cast-refused
-    refused-requires-2
-    returns-2
-    mul-e
-    element-set-from-e
-    add-chart
+read-spec = tie.close (tie.spec
+    Inv-loop μ-loop (λ c κs. search needs)
+    (λ c. c .refused .ensures ∙ sym (no-line _ (c .before .if1 .taken)))
+    (λ c κs. search needs) loop-holds (λ c. omega arith) (λ c. omega arith) (λ c. search needs) (λ c κs. search needs)
+    (λ c. omega arith) (λ c. omega arith) (λ c. search needs) read-line-requires (λ c. omega arith) (λ c. omega arith)
+    (λ c κs. search needs) returns-2
+    (λ c. omega (arith, roomy (c .before)))
+    (λ c. roomy (c .before))
+    (λ c. omega (arith, roomy (c .before)))
     add-at
-    loop-less
-    loop-again
-    returns-3)
+    (λ c. let d = c .before in let t = goes-on d in omega (arith, part-size (d .before), t .some, sized (d .before .before .before)))
+    loop-again returns-3)

@@ -4,9 +4,6 @@ use Rattle.interval.specs.Instants.{firstFloor}
 use Rattle.interval.proofs.first_floor.Statement.{statement}
 use Rattle.interval.proofs.first_floor.Tie as tie
 
-returns : tie.Need-returns
-unfolding firstFloor
-returns c = search needs
-
 pub first-floor-spec : {M : Type 1} → statement M
-first-floor-spec = tie.close (tie.spec returns)
+unfolding firstFloor
+first-floor-spec = tie.close (tie.spec (λ c. search needs))

@@ -4,9 +4,6 @@ use Rattle.interval.specs.Instants.{isLength}
 use Rattle.interval.proofs.is_length.Statement.{statement}
 use Rattle.interval.proofs.is_length.Tie as tie
 
-returns : tie.Need-returns
-unfolding isLength
-returns c = search needs
-
 pub is-length-spec : {M : Type 1} → statement M
-is-length-spec = tie.close (tie.spec returns)
+unfolding isLength
+is-length-spec = tie.close (tie.spec (λ c. search needs))

@@ -4,8 +4,5 @@ use Rattle.interval.proofs.Machine.{eq-bits}
 use Rattle.interval.proofs.is_same.Statement.{statement}
 use Rattle.interval.proofs.is_same.Tie as tie
 
-returns : tie.Need-returns
-returns c = eq-bits w32 _ _ (c .fits .a) (c .fits .b)
-
 pub is-same-spec : {M : Type 1} → statement M
-is-same-spec = tie.close (tie.spec returns)
+is-same-spec = tie.close (tie.spec (λ c. eq-bits w32 _ _ (c .fits .a) (c .fits .b)))

@@ -3,15 +3,7 @@ use Rattle.interval.proofs.Machine.{same32}
 use Rattle.interval.proofs.least_start.Statement.{statement}
 use Rattle.interval.proofs.least_start.Tie as tie
 
-returns : tie.Need-returns
-returns c =
-    let f = c .before .fits in
-    simp (same32 _ (f .a), simp (same32 _ (f .a), same32 _ (f .b)) at (c .if1 .taken))
-
-returns-2 : tie.Need-returns-2
-returns-2 c =
-    let f = c .before .fits in
-    simp (same32 _ (f .b), simp (same32 _ (f .a), same32 _ (f .b)) at (c .if1 .left))
-
 pub least-start-spec : {M : Type 1} → statement M
-least-start-spec = tie.close (tie.spec returns returns-2)
+least-start-spec = tie.close (tie.spec
+    (λ c. let f = c .before .fits in simp (same32, f .a, simp (same32, f .a, f .b) at (c .if1 .taken)))
+    (λ c. let f = c .before .fits in simp (same32, f .b, simp (same32, f .a, f .b) at (c .if1 .left))))

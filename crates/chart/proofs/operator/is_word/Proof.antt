@@ -1,8 +1,7 @@
 -- `is_word` meets its contract: the comparison of what is left is that of the whole, and the table of letters spells the words.
-use Prim.Native.Nat.{ℕ, _+_, _*_, _-_, _≤_, _<_}
+use Prim.Native.Nat.{ℕ, _-_, _≤_, _<_}
 use mathlib.Core.Path.{_≡_, refl, sym, _∙_}
-use mathlib.Core.Bool.{true}
-use mathlib.Core.List.{List, [], _∷_}
+use mathlib.Core.List.{List, []}
 use native.Mathlib.Omega.{arith}
 use borrow.Author.Needs.{needs}
 use lib.ListN.{length, drop, getD}
@@ -29,44 +28,12 @@ abbrev μ-loop : tie.MeasureT-loop
 lent : (c : tie.Start Inv-loop μ-loop) → Word (c .args .letters .now) (c .args .sizes .now) (c .args .i)
 lent c = word (c .args .letters .now) (c .args .sizes .now) (c .pre .1) (c .pre .2) (c .args .i) (c .pre .0)
 
-mul-n : tie.Need-mul-n Inv-loop μ-loop
-mul-n c = search needs
-
-element-copy-out-n : tie.Need-element-copy-out-n Inv-loop μ-loop
-element-copy-out-n c = search needs
-
-returns : tie.Need-returns Inv-loop μ-loop
-returns c =
-    let g = c .before .before .args in
-    sym (same-lengths (g .s .now) (getD words (g .i) []) (λ e. c .if1 .taken (e ∙ (lent (c .before .before)) .size)))
-
-loop-holds : tie.Need-loop-holds Inv-loop μ-loop
-loop-holds c = (omega arith, c .if1 .left, refl)
-
-shared-slice-read-if2 : tie.Need-shared-slice-read-if2 Inv-loop μ-loop
-shared-slice-read-if2 c = omega arith
-
-mul-if2 : tie.Need-mul-if2 Inv-loop μ-loop
-mul-if2 c = omega arith
-
-add-if2 : tie.Need-add-if2 Inv-loop μ-loop
-add-if2 c = let s = c .before .before .before .before .before in omega (arith, (lent s) .small)
-
-element-copy-out-if2 : tie.Need-element-copy-out-if2 Inv-loop μ-loop
-element-copy-out-if2 c = let s = c .before .before .before .before .before in omega (arith, (lent s) .small)
-
 returns-2 : tie.Need-returns-2 Inv-loop μ-loop
 returns-2 c =
     let l = c .before .before .before .before in
     let g = l .before .before .before .args in
     let w = lent (l .before .before .before) in
     sym (same-not (g .s .now) (getD words (g .i) []) (l .loop .k) (omega arith) (omega (arith, w .size)) (λ e. c .if2 .taken (e ∙ w .letter (l .loop .k) (omega arith)))) ∙ l .loop .inv .2
-
-add-k : tie.Need-add-k Inv-loop μ-loop
-add-k c = omega arith
-
-loop-less : tie.Need-loop-less Inv-loop μ-loop
-loop-less c = omega arith
 
 loop-again : tie.Need-loop-again Inv-loop μ-loop
 loop-again c =
@@ -83,21 +50,11 @@ returns-3 c =
     sym (same-end (g .s .now) (getD words (g .i) []) (l .loop .k) (omega arith) (omega (arith, w .size))) ∙ l .loop .inv .2
 
 pub is-word-spec : {M : Type 1} → statement M
-is-word-spec =
-    tie.close
-    (tie.spec
-    Inv-loop
-    μ-loop
-    mul-n
-    element-copy-out-n
-    returns
-    loop-holds
-    shared-slice-read-if2
-    mul-if2
-    add-if2
-    element-copy-out-if2
-    returns-2
-    add-k
-    loop-less
-    loop-again
-    returns-3)
+is-word-spec = tie.close (tie.spec
+    Inv-loop μ-loop (λ c. search needs) (λ c. search needs)
+    (λ c. let g = c .before .before .args in sym (same-lengths (g .s .now) (getD words (g .i) []) (λ e. c .if1 .taken (e ∙ (lent (c .before .before)) .size))))
+    (λ c. (omega arith, c .if1 .left, refl))
+    (λ c. omega arith) (λ c. omega arith)
+    (λ c. let s = c .before .before .before .before .before in omega (arith, (lent s) .small))
+    (λ c. let s = c .before .before .before .before .before in omega (arith, (lent s) .small))
+    returns-2 (λ c. omega arith) (λ c. omega arith) loop-again returns-3)

@@ -8,18 +8,6 @@ use Rattle.chart.proofs.Records.{event-one, event-more}
 use Rattle.chart.proofs.record.read_event.Statement.{statement}
 use Rattle.chart.proofs.record.read_event.Tie as tie
 
-find-requires : tie.Need-find-requires
-find-requires c κs = search needs
-
-returns : tie.Need-returns
-returns c = sym (event-more _ _ (λ e. c .if1 .taken (c .before .find .ensures ∙ e)))
-
-read-number-requires : tie.Need-read-number-requires
-read-number-requires c κs = search needs
-
-with-code-requires : tie.Need-with-code-requires
-with-code-requires c κs = search needs
-
 returns-2 : tie.Need-returns-2
 returns-2 c =
     let b = c .before .before in
@@ -27,5 +15,7 @@ returns-2 c =
     c .with-code .ensures ∙ ap (withCode _) (c .before .read-number .ensures) ∙ sym (event-one _ _ e)
 
 pub read-event-spec : {M : Type 1} → statement M
-read-event-spec =
-    tie.close (tie.spec find-requires returns read-number-requires with-code-requires returns-2)
+read-event-spec = tie.close (tie.spec
+    (λ c κs. search needs)
+    (λ c. sym (event-more _ _ (λ e. c .if1 .taken (c .before .find .ensures ∙ e))))
+    (λ c κs. search needs) (λ c κs. search needs) returns-2)

@@ -1,69 +1,22 @@
--- `read_operands` meets its contract: the first tab cuts off the first field.
-use Prim.Native.Nat.{_+_, _≤_, _<_}
-use mathlib.Core.Path.{_≡_, sym, ap, _∙_}
+-- `read_operands` meets its contract: the first tab cuts off the first operand.
+use mathlib.Core.Path.{sym, _∙_}
 use native.Mathlib.Omega.{arith}
 use borrow.Author.Needs.{needs}
-use lib.ListN.{length, take, drop}
 use lib.Seq.{length-take-le}
-use Rattle.text.specs.Text.{indexOf, fields}
-use Rattle.text.proofs.Laws.{index-le, part-from}
-use Rattle.chart.proofs.Records.{operands-one, operands-cut}
+use Rattle.text.proofs.Laws.{part-from}
+use Rattle.chart.specs.Records.{operandsLine}
+use Rattle.chart.proofs.Records.{operands-one, Cut, tab-cut}
 use Rattle.chart.proofs.record.read_operands.Statement.{statement}
 use Rattle.chart.proofs.record.read_operands.Tie as tie
 
--- a tab was found before the end
-within : (c : tie.Else1) → c .before .find .result < length (c .before .before .before .args .s .now)
-within c =
-    let s = c .before .before .before .args .s .now in
-    let p : c .before .find .result ≤ length s = rw (c .before .find .ensures) (index-le 9 s) in
-    omega arith
-
-apart : (c : tie.Else1) → indexOf 9 (c .before .before .before .args .s .now) ≡ length (c .before .before .before .args .s .now) → ⊥
-apart c e = c .if1 .left (c .before .find .ensures ∙ e)
-
-find-requires : tie.Need-find-requires
-find-requires c κs = search needs
-
-returns : tie.Need-returns
-returns c = sym (operands-one _ _ _ (sym (c .before .find .ensures) ∙ c .if1 .taken))
-
-slice-aggregate-read-number : tie.Need-slice-aggregate-read-number
-slice-aggregate-read-number c = sym (length-take-le _ _ (omega (arith, within (c .before))))
-
-read-number-requires : tie.Need-read-number-requires
-read-number-requires c κs = search needs
-
-add-read-second : tie.Need-add-read-second
-add-read-second c = omega (arith, within (c .before .before))
-
-sub-read-second : tie.Need-sub-read-second
-sub-read-second c = omega (arith, within (c .before .before))
-
-part-read-second-start : tie.Need-part-read-second-start
-part-read-second-start c = omega (arith, within (c .before .before))
-
-part-read-second-end : tie.Need-part-read-second-end
-part-read-second-end c = search needs
-
-read-second-requires : tie.Need-read-second-requires
-read-second-requires c κs = search needs
-
-returns-2 : tie.Need-returns-2
-returns-2 c =
-    let b = c .before .before .before .before in
-    simp (part-from, c .before .before .read-number .ensures, b .before .find .ensures) at (c .read-second .ensures) ∙ sym (operands-cut _ _ _ (apart b))
+cut : (c : tie.Else1) → Cut (c .before .before .before .args .s .now) (c .before .find .result)
+cut c = tab-cut _ _ (c .before .find .ensures) (c .if1 .left)
 
 pub read-operands-spec : {M : Type 1} → statement M
-read-operands-spec =
-    tie.close
-    (tie.spec
-    find-requires
-    returns
-    slice-aggregate-read-number
-    read-number-requires
-    add-read-second
-    sub-read-second
-    part-read-second-start
-    part-read-second-end
-    read-second-requires
-    returns-2)
+unfolding operandsLine
+read-operands-spec = tie.close (tie.spec
+    (λ c κs. search needs) (λ c. sym (operands-one _ _ _ (sym (c .before .find .ensures) ∙ c .if1 .taken)))
+    (λ c. sym (length-take-le _ _ (omega (arith, (cut (c .before)) .within)))) (λ c κs. search needs)
+    (λ c. omega (arith, (cut (c .before .before)) .within)) (λ c. omega (arith, (cut (c .before .before)) .within)) (λ c. omega (arith, (cut (c .before .before)) .within))
+    (λ c. search needs) (λ c κs. search needs)
+    (λ c. rw ((cut (c .before .before .before .before)) .parts, ← c .before .before .read-number .ensures) (simp part-from at (c .read-second .ensures))))

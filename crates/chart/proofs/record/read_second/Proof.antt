@@ -8,18 +8,6 @@ use Rattle.chart.proofs.Records.{second-one, second-more}
 use Rattle.chart.proofs.record.read_second.Statement.{statement}
 use Rattle.chart.proofs.record.read_second.Tie as tie
 
-find-requires : tie.Need-find-requires
-find-requires c κs = search needs
-
-returns : tie.Need-returns
-returns c = sym (second-more _ _ _ _ (λ e. c .if1 .taken (c .before .find .ensures ∙ e)))
-
-read-number-requires : tie.Need-read-number-requires
-read-number-requires c κs = search needs
-
-with-operands-requires : tie.Need-with-operands-requires
-with-operands-requires c κs = search needs
-
 returns-2 : tie.Need-returns-2
 returns-2 c =
     let b = c .before .before in
@@ -27,6 +15,7 @@ returns-2 c =
     c .with-operands .ensures ∙ ap (withOperands _ _ _) (c .before .read-number .ensures) ∙ sym (second-one _ _ _ _ e)
 
 pub read-second-spec : {M : Type 1} → statement M
-read-second-spec =
-    tie.close
-    (tie.spec find-requires returns read-number-requires with-operands-requires returns-2)
+read-second-spec = tie.close (tie.spec
+    (λ c κs. search needs)
+    (λ c. sym (second-more _ _ _ _ (λ e. c .if1 .taken (c .before .find .ensures ∙ e))))
+    (λ c κs. search needs) (λ c κs. search needs) returns-2)

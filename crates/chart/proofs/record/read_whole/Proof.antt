@@ -7,21 +7,12 @@ use Rattle.chart.specs.Records.{answerTo}
 use Rattle.chart.proofs.record.read_whole.Statement.{statement}
 use Rattle.chart.proofs.record.read_whole.Tie as tie
 
-refused-line-requires : tie.Need-refused-line-requires
-refused-line-requires c κs = search needs
-
 returns : tie.Need-returns
 unfolding answerTo
 returns c =
     let n = c .before .before .before .args .n in
     let less : n ≡ 32 → ⊥ = λ e. omega arith in
     simp (ne-eqb n 32 less, le-ltb _ _ (c .before .if1 .taken), c .refused-line .ensures)
-
-read-fields-requires : tie.Need-read-fields-requires
-read-fields-requires c κs = search needs
-
-check-line-requires : tie.Need-check-line-requires
-check-line-requires c κs = search needs
 
 returns-2 : tie.Need-returns-2
 unfolding answerTo
@@ -32,6 +23,4 @@ returns-2 c =
     simp (ne-eqb n 32 less, lt-ltb _ _ (d .if1 .left), ← c .before .read-fields .ensures) (c .check-line .ensures)
 
 pub read-whole-spec : {M : Type 1} → statement M
-read-whole-spec =
-    tie.close
-    (tie.spec refused-line-requires returns read-fields-requires check-line-requires returns-2)
+read-whole-spec = tie.close (tie.spec (λ c κs. search needs) returns (λ c κs. search needs) (λ c κs. search needs) returns-2)

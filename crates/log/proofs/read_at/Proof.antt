@@ -16,13 +16,9 @@ pub read-at-spec : {M : Type 1} → statement M
 read-at-spec =
     tie.close
     (tie.spec
-    (λ c κs. search needs)
-    (λ c. search needs)
-    (λ c. search needs)
+    (λ c κs. search needs) (λ c. search needs) (λ c. search needs)
     (λ c. no-instant (c .before .before .before .before .args .word) _ (sym (c .before .before .read-instant .ensures) ∙ c .enum-told .given .1))
-    (λ c. search needs)
-    (λ c. search needs)
-    (λ c. search needs)
+    (λ c. search needs) (λ c. search needs) (λ c. search needs)
     (λ c. at-instant _ Word.Open _ _ (c .enum-told2 .given .1) (value (c .before .before)))
     (λ c. at-instant _ Word.Clock _ _ (c .enum-told3 .given .1) (value (c .before .before)))
     (λ c. at-instant _ Word.Forget _ _ (c .enum-told4 .given .1) (value (c .before .before))))

@@ -17,9 +17,7 @@ unfolding eventCall wordCall
 read-event-spec =
     tie.close
     (tie.spec
-    (λ c κs. search needs)
-    (λ c. search needs)
-    (λ c. search needs)
+    (λ c κs. search needs) (λ c. search needs) (λ c. search needs)
     (λ c. sym (ap eventCall (sym (c .before .before .read-number .ensures) ∙ c .enum-told .given .1)))
     (λ c. sym (ap eventCall (value (c .before)) ∙ simp (lt-leb _ _ (c .if1 .taken))))
     (λ c. search needs)

@@ -10,8 +10,8 @@ use native.Mathlib.Nat.{zero-add, lt-of-lt-of-le, pow-le-pow-right}
 use lib.Dec.{eqb, leb, ltb, eqb·suc-zero}
 use lib.Signed.{leZ, natAbs-le}
 use lib.IntN.{ℤ, pos, negsuc, natAbs}
-use lib.ListN.{length, getD, take, drop}
-use lib.Seq.{append-snoc, take-append-seam}
+use lib.ListN.{length, getD, drop}
+use lib.Seq.{append-snoc}
 use mir.Syntax.{w32}
 use mir.Val.{SFits}
 use borrow.Author.Tests.{lt-ltb, le-leb, lt-leb, ne-eqb, ltb-true, leb-true, leb-false, eqb-true, eqb-false, not-true}

@@ -64,8 +64,8 @@ remaining-all out at whole = record { same = refl; ends = refl; output = refl }
 
 module _ {out₀ : List ℕ} {at : ℕ} {whole out : List ℕ} {place : ℕ} {rest : List ℕ} (r : Remaining out₀ at whole out place rest) where
   -- one piece more was written
-  pub remaining-less : (piece rest₁ out₁ : List ℕ) (place₁ : ℕ) → rest ≡ piece ++ rest₁ → out₁ ≡ sets out place piece → place₁ ≡ place + length piece → Remaining out₀ at whole out₁ place₁ rest₁
-  remaining-less piece rest₁ out₁ place₁ e f g =
+  pub remaining-less : (piece rest₁ : List ℕ) {out₁ : List ℕ} {place₁ : ℕ} → rest ≡ piece ++ rest₁ → place₁ ≡ place + length piece → out₁ ≡ sets out place piece → Remaining out₀ at whole out₁ place₁ rest₁
+  remaining-less piece rest₁ e g f =
       let sizes : length rest ≡ length piece + length rest₁ = ap length e ∙ length-append piece rest₁ in
       record {
         same = ap length f ∙ length-sets out place piece ∙ r .same;
@@ -73,6 +73,10 @@ module _ {out₀ : List ℕ} {at : ℕ} {whole out : List ℕ} {place : ℕ} {re
         output = rw (f, g) (sym (sets-append out place piece rest₁)) ∙ ap (λ (l : List ℕ). sets out place l) (sym e) ∙ r .output;
       }
 
+  -- all that was left was written
+  pub remaining-last : {out₁ : List ℕ} {place₁ : ℕ} → place₁ ≡ place + length rest → out₁ ≡ sets out place rest → (place₁ ≡ at + length whole) × (out₁ ≡ sets out₀ at whole)
+  remaining-last g f = (g ∙ r .ends, f ∙ r .output)
+
   -- nothing is left
   pub remaining-none : rest ≡ [] → (place ≡ at + length whole) × (out ≡ sets out₀ at whole)
-  remaining-none e = (omega (arith, r .ends, ap length e), ap (λ (l : List ℕ). sets out place l) (sym e) ∙ r .output)
+  remaining-none e = remaining-last (rw e (omega arith)) (rw e)

@@ -1,9 +1,6 @@
 -- `decimal::magnitude` meets its contract: the opposite of an i32 is found in 64 bits, where it fits, and is not negative.
-use mathlib.Core.Path.{_≡_}
-use mathlib.Core.Bool.{true}
 use native.Mathlib.Omega.{arith}
 use lib.IntN.{pos, negℤ}
-use lib.Signed.{ltZ}
 use mir.Syntax.{w64}
 use mir.Val.{SFits}
 use Rattle.interval.proofs.Signed.{lt-false, is-le}

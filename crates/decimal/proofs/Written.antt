@@ -33,7 +33,7 @@ withPart l n p = take n l ++ (p ++ drop (length l - n) (drop n l))
 pub with-part : (l : List ℕ) (n : ℕ) (p : List ℕ) → withPart l n p ≡ take n l ++ p
 with-part l n p = rw (drop-of-length-le (drop n l) (le-of-eq (length-drop n l)), append-nil)
 
--- what is told of a spelling that was written into a part p: r bytes of it
+-- what a call tells that wrote the spelling s into the part of l from place n on: r bytes, and the part p
 abbrev pub PartTold : List ℕ → List ℕ → ℕ → ℕ → List ℕ → Type 0
 PartTold s l n r p = (r ≡ writtenLength s (part l n)) × (p ≡ writtenOutput s (part l n))
 

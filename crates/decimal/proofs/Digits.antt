@@ -1,25 +1,15 @@
 -- Digits and the spelling of a number: its unfolding by tens, its value, its bytes, its first byte and its length.
-use mathlib.Core.Path.{_≡_, refl, sym, ap, _∙_, subst}
-use mathlib.Core.Bool.{Bool, true, false, _&&_}
+use mathlib.Core.Path.{_≡_, refl, sym, ap, _∙_}
+use mathlib.Core.Bool.{Bool, true, false}
 use mathlib.Core.List.{List, [], _∷_, _++_}
 use Prim.Native.Nat.{ℕ, zero, suc, _+_, _*_, _-_, _/_, _%_, _^_, _<_, _≤_}
 use native.Mathlib.Omega.{arith}
 use native.Mathlib.Nat.{add-zero, add-suc, suc-add, pow-suc, one-le-pow}
-use lib.Dec.{T, leb, ltb}
+use lib.Dec.{leb, ltb}
 use lib.ListN.{length, getD, length-append, List·getD-append}
 use borrow.Author.Tests.{lt-ltb, le-ltb, le-leb, ltb-true, ltb-false, leb-true}
+use Rattle.interval.proofs.Signed.{and-first, and-second}
 use Rattle.decimal.specs.Spelling.{isDigit, allDigits, valueFrom, digitsValue, digit, digitsWithin, spelledNumber}
-
-pub never : {P : Type 0} → false ≡ true → P
-never e = absurd (subst T (sym e) tt)
-
-pub and-left : (a b : Bool) → (a && b) ≡ true → a ≡ true
-and-left true b e = refl
-and-left false b e = e
-
-pub and-right : (a b : Bool) → (a && b) ≡ true → b ≡ true
-and-right true b e = e
-and-right false b e = never e
 
 -- The spelling of a number, unfolded: one digit, or the spelling of its tens and the last digit.
 small-within : (f n : ℕ) → n < 10 → digitsWithin f n ≡ digit n ∷ []
@@ -70,11 +60,11 @@ digit-is d h = rw (le-leb 48 (digit d) (omega arith), le-leb (digit d) 57 (omega
 
 pub digit-least : (b : ℕ) → isDigit b ≡ true → 48 ≤ b
 unfolding isDigit
-digit-least b e = leb-true 48 b (and-left (leb 48 b) (leb b 57) e)
+digit-least b e = leb-true 48 b (and-first (leb 48 b) (leb b 57) e)
 
 pub digit-most : (b : ℕ) → isDigit b ≡ true → b ≤ 57
 unfolding isDigit
-digit-most b e = leb-true b 57 (and-right (leb 48 b) (leb b 57) e)
+digit-most b e = leb-true b 57 (and-second (leb 48 b) (leb b 57) e)
 
 -- One digit more at the end.
 value-more : (n : ℕ) (s : List ℕ) (b : ℕ) → valueFrom n (s ++ (b ∷ [])) ≡ valueFrom n s * 10 + (b - 48)
@@ -85,7 +75,7 @@ value-more n (a ∷ s) b = value-more (n * 10 + (a - 48)) s b
 digits-more : (s : List ℕ) (b : ℕ) → allDigits s ≡ true → isDigit b ≡ true → allDigits (s ++ (b ∷ [])) ≡ true
 unfolding allDigits
 digits-more [] b e d = rw d
-digits-more (a ∷ s) b e d = rw (and-left (isDigit a) (allDigits s) e, digits-more s b (and-right (isDigit a) (allDigits s) e) d)
+digits-more (a ∷ s) b e d = rw (and-first (isDigit a) (allDigits s) e, digits-more s b (and-second (isDigit a) (allDigits s) e) d)
 
 -- A spelling's value, its bytes, its first byte and its length.
 pub spelled-value : (n : ℕ) → digitsValue (spelledNumber n) ≡ n
@@ -148,13 +138,13 @@ pub value-below : (i m : ℕ) (s : List ℕ) → m < 10 ^ i → allDigits s ≡ 
 unfolding valueFrom allDigits
 value-below i m [] h e = rw add-zero h
 value-below i m (b ∷ s) h e =
-    let d = digit-most b (and-left (isDigit b) (allDigits s) e) in
+    let d = digit-most b (and-first (isDigit b) (allDigits s) e) in
     rw (add-suc i (length s), ← suc-add i (length s))
-    (value-below (suc i) (m * 10 + (b - 48)) s (digit-below i m (b - 48) h (omega arith)) (and-right (isDigit b) (allDigits s) e))
+    (value-below (suc i) (m * 10 + (b - 48)) s (digit-below i m (b - 48) h (omega arith)) (and-second (isDigit b) (allDigits s) e))
 
 -- Each byte of digits is a digit.
 pub digits-byte : (s : List ℕ) (i : ℕ) → allDigits s ≡ true → i < length s → isDigit (getD s i 0) ≡ true
 unfolding allDigits
 digits-byte [] i e h = absurd (omega arith)
-digits-byte (b ∷ s) zero e h = and-left (isDigit b) (allDigits s) e
-digits-byte (b ∷ s) (suc i) e h = digits-byte s i (and-right (isDigit b) (allDigits s) e) (omega arith)
+digits-byte (b ∷ s) zero e h = and-first (isDigit b) (allDigits s) e
+digits-byte (b ∷ s) (suc i) e h = digits-byte s i (and-second (isDigit b) (allDigits s) e) (omega arith)

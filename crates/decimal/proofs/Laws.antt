@@ -10,15 +10,17 @@ use native.Mathlib.Nat.{zero-add, lt-of-lt-of-le, pow-le-pow-right}
 use lib.Dec.{eqb, leb, ltb, eqb·suc-zero}
 use lib.Signed.{leZ, natAbs-le}
 use lib.IntN.{ℤ, pos, negsuc, natAbs}
-use lib.ListN.{length, getD, take, drop}
-use lib.Seq.{append-snoc, take-append-seam}
+use lib.ListN.{length, getD, drop}
+use lib.Seq.{append-snoc}
 use mir.Syntax.{w32}
 use mir.Val.{SFits}
 use borrow.Author.Tests.{lt-ltb, le-leb, lt-leb, ne-eqb, ltb-true, leb-true, leb-false, eqb-true, eqb-false, not-true}
+use Rattle.interval.proofs.Signed.{never, and-first, and-second}
+use Rattle.text.proofs.Laws.{lt-or-le}
 use Rattle.decimal.specs.declared.Number.{Number}
 use Rattle.decimal.specs.declared.Instant.{Instant}
 use Rattle.decimal.specs.Spelling.{isDigit, allDigits, valueFrom, digitsValue, hasLeadingZero, isNumber, numberOf, withoutMinus, withMinus, instantOf, digit, spelledNumber, spelled, writtenLength, writtenOutput}
-use Rattle.decimal.proofs.Digits.{never, and-left, and-right, digit-least, digit-most, digits-byte, spelled-small, spelled-large, spelled-value, spelled-digits, spelled-nonempty, spelled-first, length-most, value-below}
+use Rattle.decimal.proofs.Digits.{digit-least, digit-most, digits-byte, spelled-small, spelled-large, spelled-value, spelled-digits, spelled-nonempty, spelled-first, length-most, value-below}
 
 -- What a number's spelling tells.
 record Numeral (s : List ℕ) (n : ℕ) : Type 0 where
@@ -35,32 +37,23 @@ numeral s n e = at (isNumber s) refl e
     at : (t : Bool) → isNumber s ≡ t → cond t (Number.Value (digitsValue s)) Number.Malformed ≡ Number.Value n → Numeral s n
     at true p q =
         let rest = leb (length s) 10 && (not (hasLeadingZero s) && allDigits s) in
-        let p₁ = and-right (ltb 0 (length s)) rest p in
-        let p₂ = and-right (leb (length s) 10) (not (hasLeadingZero s) && allDigits s) p₁ in
+        let p₁ = and-second (ltb 0 (length s)) rest p in
+        let p₂ = and-second (leb (length s) 10) (not (hasLeadingZero s) && allDigits s) p₁ in
         record {
-          some-bytes = ltb-true 0 (length s) (and-left (ltb 0 (length s)) rest p);
-          few-bytes = leb-true (length s) 10 (and-left (leb (length s) 10) (not (hasLeadingZero s) && allDigits s) p₁);
-          first = not-true (hasLeadingZero s) (and-left (not (hasLeadingZero s)) (allDigits s) p₂);
-          digits = and-right (not (hasLeadingZero s)) (allDigits s) p₂;
+          some-bytes = ltb-true 0 (length s) (and-first (ltb 0 (length s)) rest p);
+          few-bytes = leb-true (length s) 10 (and-first (leb (length s) 10) (not (hasLeadingZero s) && allDigits s) p₁);
+          first = not-true (hasLeadingZero s) (and-first (not (hasLeadingZero s)) (allDigits s) p₂);
+          digits = and-second (not (hasLeadingZero s)) (allDigits s) p₂;
           value = cc;
         }
     at false p q = let z : _≡_ {A = ℕ} 0 1 = cc in absurd (omega arith)
 
--- The number of a spelling is below the tenth power of ten, and the spelling has 1 to 10 bytes, all digits.
+-- The number of a spelling is below the tenth power of ten.
 pub number-below : (s : List ℕ) (n : ℕ) → numberOf s ≡ Number.Value n → n < 10 ^ 10
 number-below s n e =
     let f = numeral s n e in
     rw (← f .value)
     (lt-of-lt-of-le (value-below 0 0 s (omega arith) (f .digits)) (rw zero-add (pow-le-pow-right {n = 10} (omega arith) (f .few-bytes))))
-
-pub number-length-least : (s : List ℕ) (n : ℕ) → numberOf s ≡ Number.Value n → 1 ≤ length s
-number-length-least s n e = numeral s n e .some-bytes
-
-pub number-length-most : (s : List ℕ) (n : ℕ) → numberOf s ≡ Number.Value n → length s ≤ 10
-number-length-most s n e = numeral s n e .few-bytes
-
-pub number-digits : (s : List ℕ) (n : ℕ) → numberOf s ≡ Number.Value n → allDigits s ≡ true
-number-digits s n e = numeral s n e .digits
 
 -- A number of at most ten digits is read back from its spelling.
 leading : (n : ℕ) → hasLeadingZero (spelledNumber n) ≡ false
@@ -86,8 +79,8 @@ from-digits : (m : ℕ) (s : List ℕ) → 0 < m → allDigits s ≡ true → sp
 unfolding valueFrom allDigits
 from-digits m [] h e = sym (append-nil (spelledNumber m))
 from-digits m (b ∷ s) h e =
-    from-digits (m * 10 + (b - 48)) s (omega arith) (and-right (isDigit b) (allDigits s) e)
-    ∙ rw (more-digit m b h (and-left (isDigit b) (allDigits s) e)) (append-snoc (spelledNumber m) b s)
+    from-digits (m * 10 + (b - 48)) s (omega arith) (and-second (isDigit b) (allDigits s) e)
+    ∙ rw (more-digit m b h (and-first (isDigit b) (allDigits s) e)) (append-snoc (spelledNumber m) b s)
 
 one-digit : (b : ℕ) → isDigit b ≡ true → spelledNumber (0 * 10 + (b - 48)) ≡ b ∷ []
 one-digit b e =
@@ -99,21 +92,18 @@ one-digit b e =
 spelled-again : (s : List ℕ) → 0 < length s → hasLeadingZero s ≡ false → allDigits s ≡ true → spelledNumber (digitsValue s) ≡ s
 unfolding valueFrom allDigits hasLeadingZero
 spelled-again [] h f e = absurd (omega arith)
-spelled-again (b ∷ []) h f e = one-digit b (and-left (isDigit b) true e)
+spelled-again (b ∷ []) h f e = one-digit b (and-first (isDigit b) true e)
 spelled-again (b ∷ a ∷ s) h f e =
-    let d = and-left (isDigit b) (isDigit a && allDigits s) e in
+    let d = and-first (isDigit b) (isDigit a && allDigits s) e in
     let l = digit-least b d in
     let f₁ : eqb b 48 ≡ false = rw (lt-ltb 1 (suc (suc (length s))) (omega arith)) at f in
     let z : 0 < 0 * 10 + (b - 48) = omega (arith, eqb-false b 48 f₁) in
-    from-digits (0 * 10 + (b - 48)) (a ∷ s) z (and-right (isDigit b) (isDigit a && allDigits s) e) ∙ rw (one-digit b d)
+    from-digits (0 * 10 + (b - 48)) (a ∷ s) z (and-second (isDigit b) (isDigit a && allDigits s) e) ∙ rw (one-digit b d)
 
 pub number-one-spelling : (s : List ℕ) (n : ℕ) → numberOf s ≡ Number.Value n → s ≡ spelledNumber n
 number-one-spelling s n e =
     let f = numeral s n e in
     sym (spelled-again s (f .some-bytes) (f .first) (f .digits)) ∙ ap spelledNumber (f .value)
-
-pub number-same-spelling : (s t : List ℕ) (n : ℕ) → numberOf s ≡ Number.Value n → numberOf t ≡ Number.Value n → s ≡ t
-number-same-spelling s t n e f = number-one-spelling s n e ∙ sym (number-one-spelling t n f)
 
 -- The sign apart: a number below 0 has a minus and then its absolute value.
 pub spelled-plain : (z : ℤ) → leZ (pos 0) z ≡ true → spelled z ≡ spelledNumber (natAbs z)
@@ -126,10 +116,7 @@ unfolding spelled
 spelled-minus (pos n) e = absurd (omega (arith, leb-false 0 n e))
 spelled-minus (negsuc n) e = refl
 
--- The spelling of a number: at least one byte, at most k + 1 below the (k + 1)th power of ten, and so at most 20 for what a u64 holds.
-pub number-digits-least : (n : ℕ) → 1 ≤ length (spelledNumber n)
-number-digits-least n = spelled-nonempty n
-
+-- The spelling of a number: at most k + 1 bytes below the (k + 1)th power of ten, and so at most 20 for what a u64 holds.
 pub number-digits-most : (k n : ℕ) → n < 10 ^ suc k → length (spelledNumber n) ≤ suc k
 number-digits-most k n h = length-most k n h
 
@@ -160,14 +147,10 @@ spelled-byte (pos n) i h = inl (digits-byte (spelledNumber n) i (spelled-digits 
 spelled-byte (negsuc n) zero h = inr refl
 spelled-byte (negsuc n) (suc i) h = inl (digits-byte (spelledNumber (suc n)) i (spelled-digits (suc n)) (omega arith))
 
--- So each byte is from 45 to 57: neither the tab nor the end of a line.
+-- So each byte is at least 45: neither the tab nor the end of a line.
 pub spelled-byte-least : (z : ℤ) (i : ℕ) → i < length (spelled z) → 45 ≤ getD (spelled z) i 0
 spelled-byte-least z i h =
     ⊎-elim (λ e. omega (arith, digit-least (getD (spelled z) i 0) e)) (λ e. omega arith) (spelled-byte z i h)
-
-pub spelled-byte-most : (z : ℤ) (i : ℕ) → i < length (spelled z) → getD (spelled z) i 0 ≤ 57
-spelled-byte-most z i h =
-    ⊎-elim (λ e. digit-most (getD (spelled z) i 0) e) (λ e. omega arith) (spelled-byte z i h)
 
 -- What an instant's spelling tells: it is the number's, or has a minus in front of that of a number other than 0.
 data Signed : List ℕ → ℤ → Type 0 where
@@ -221,22 +204,13 @@ instant-one-spelling s z e = at (signed s z e)
     at (without-minus {s = t} {n = n} p) = number-one-spelling t n p
     at (with-minus {s = t} {n = n} p) = ap (λ (l : List ℕ). 45 ∷ l) (number-one-spelling t (suc n) p)
 
-pub instant-same-spelling : (s t : List ℕ) (z : ℤ) → instantOf s ≡ Instant.Value z → instantOf t ≡ Instant.Value z → s ≡ t
-instant-same-spelling s t z e f = instant-one-spelling s z e ∙ sym (instant-one-spelling t z f)
-
--- The instant of a spelling has at most ten digits, and the spelling 1 to 11 bytes.
+-- The instant of a spelling has at most ten digits.
 pub instant-below : (s : List ℕ) (z : ℤ) → instantOf s ≡ Instant.Value z → natAbs z < 10 ^ 10
 instant-below s z e = at (signed s z e)
   where
     at : {s : List ℕ} {z : ℤ} → Signed s z → natAbs z < 10 ^ 10
     at (without-minus {s = t} {n = n} p) = number-below t n p
     at (with-minus {s = t} {n = n} p) = number-below t (suc n) p
-
-pub instant-length-least : (s : List ℕ) (z : ℤ) → instantOf s ≡ Instant.Value z → 1 ≤ length s
-instant-length-least s z e = rw (instant-one-spelling s z e) (spelled-length-least z)
-
-pub instant-length-most : (s : List ℕ) (z : ℤ) → instantOf s ≡ Instant.Value z → length s ≤ 11
-instant-length-most s z e = rw (instant-one-spelling s z e) (spelled-length-most z (instant-below s z e))
 
 -- What is written of a spelling: all of it where the output has room, else nothing.
 module _ (s out : List ℕ) where
@@ -248,30 +222,16 @@ module _ (s out : List ℕ) where
   unfolding writtenOutput
   written-output-all h = rw (le-leb (length s) (length out) h)
 
-  pub written-length-none : length out < length s → writtenLength s out ≡ 0
-  unfolding writtenLength
-  written-length-none h = rw (lt-leb (length s) (length out) h)
-
-  pub written-output-none : length out < length s → writtenOutput s out ≡ out
-  unfolding writtenOutput
-  written-output-none h = rw (lt-leb (length s) (length out) h)
-
-  at-leb : (t : Bool) → leb (length s) (length out) ≡ t → (length s ≤ length out) ⊎ (length out < length s)
-  at-leb true e = inl (leb-true (length s) (length out) e)
-  at-leb false e = inr (leb-false (length s) (length out) e)
-
-  has-room : (length s ≤ length out) ⊎ (length out < length s)
-  has-room = at-leb (leb (length s) (length out)) refl
+  pub written-none : length out < length s → (0 ≡ writtenLength s out) × (out ≡ writtenOutput s out)
+  unfolding writtenLength writtenOutput
+  written-none h = rw (lt-leb (length s) (length out) h) (refl, refl)
 
   pub written-length-most : writtenLength s out ≤ length out
   written-length-most =
-      ⊎-elim (λ h. omega (arith, written-length-all h)) (λ h. omega (arith, written-length-none h)) has-room
+      ⊎-elim (λ h. omega (arith, written-none h .0)) (λ h. omega (arith, written-length-all h)) (lt-or-le (length out) (length s))
 
-  pub written-none : 1 ≤ length s → writtenLength s out ≡ 0 → length out < length s
-  written-none l e = ⊎-elim (λ h. absurd (omega (arith, written-length-all h))) (λ h. h) has-room
+  pub was-short : 1 ≤ length s → writtenLength s out ≡ 0 → length out < length s
+  was-short l e = ⊎-elim (λ h. h) (λ h. absurd (omega (arith, written-length-all h))) (lt-or-le (length out) (length s))
 
-  pub written-all : (writtenLength s out ≡ 0 → ⊥) → length s ≤ length out
-  written-all e = ⊎-elim (λ h. h) (λ h. absurd (e (written-length-none h))) has-room
-
-  pub written-front : length s ≤ length out → take (length s) (writtenOutput s out) ≡ s
-  written-front h = rw (written-output-all h) (take-append-seam s (drop (length s) out))
+  pub had-room : (writtenLength s out ≡ 0 → ⊥) → length s ≤ length out
+  had-room e = ⊎-elim (λ h. absurd (e (sym (written-none h .0)))) (λ h. h) (lt-or-le (length out) (length s))

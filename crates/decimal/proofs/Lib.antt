@@ -1,6 +1,6 @@
 pub mod Laws
 pub mod Written
 mod Digits
-mod Parts
+mod Minus
 mod Signs
 mod Examples

@@ -1,24 +1,14 @@
--- Signed numbers in the code: what a variable holds is read back, and the opposite of a number has the same absolute value.
-use mathlib.Core.Path.{_≡_, refl, subst}
-use mathlib.Core.Bool.{true, false}
+-- The opposite of a number, as the code finds it in 64 bits: it fits, has the same absolute value, and is positive where the number is negative.
+use mathlib.Core.Path.{_≡_, refl}
+use mathlib.Core.Bool.{true}
 use Prim.Native.Nat.{zero, suc, _<_, _^_}
 use native.Mathlib.Omega.{arith}
 use lib.Dec.{T}
 use lib.IntN.{ℤ, pos, negsuc, negℤ, natAbs, _-ℤ_, +ℤ-idl}
-use lib.Signed.{ltZ, nonNeg, natAbs-le}
-use mir.Syntax.{w32, w64}
-use mir.Val.{SFits, toZ, ofZ}
-use mir.ValLaws.{toZ-ofZ}
+use lib.Signed.{ltZ, nonNeg}
+use mir.Syntax.{w64}
+use mir.Val.{SFits}
 use borrow.Author.Tests.{ltb-true}
-
-pub same32 : (z : ℤ) → SFits w32 z → toZ w32 (ofZ w32 z) ≡ z
-same32 z f = toZ-ofZ w32 z f
-
-pub same64 : (z : ℤ) → SFits w64 z → toZ w64 (ofZ w64 z) ≡ z
-same64 z f = toZ-ofZ w64 z f
-
-pub widened : (z : ℤ) → SFits w32 z → SFits w64 z
-widened z f = record { sfits = omega (arith, f .sfits) }
 
 pub opposite : (z : ℤ) → pos 0 -ℤ z ≡ negℤ z
 opposite z = +ℤ-idl (negℤ z)
@@ -36,10 +26,3 @@ opposite-abs (negsuc n) = refl
 pub opposite-sign : (z : ℤ) → ltZ z (pos 0) ≡ true → T (nonNeg (negℤ z))
 opposite-sign (pos n) e = absurd (omega (arith, ltb-true n 0 e))
 opposite-sign (negsuc n) e = tt
-
-pub abs-fits : (z : ℤ) → SFits w32 z → natAbs z < 2 ^ 32
-abs-fits z f = omega (arith, natAbs-le z (f .sfits))
-
-pub sign : (z : ℤ) → ltZ z (pos 0) ≡ false → T (nonNeg z)
-sign (pos n) e = tt
-sign (negsuc n) e = subst T e tt

@@ -1,11 +1,13 @@
 -- Bytes written one after another into an output, each piece behind the one before it.
 use Prim.Native.Nat.{ℕ, suc, _+_, _-_, _≤_}
 use native.Mathlib.Omega.{arith}
-use native.Mathlib.Nat.{add-zero}
+use native.Mathlib.Nat.{add-zero, le-of-eq}
+use native.Mathlib.Numerals.{add-one}
 use mathlib.Core.Path.{_≡_, refl, sym, ap, _∙_}
 use mathlib.Core.List.{List, [], _∷_, _++_, append-nil, append-assoc}
-use lib.ListN.{length, set, take, drop, length-append, length-take, length-drop, drop-of-length-le}
-use lib.Seq.{sets, sets-eq, length-sets, take-all, drop-drop}
+use lib.ListN.{length, set, take, drop, length-append, length-drop, length-set, drop-of-length-le}
+use lib.Seq.{sets, sets-eq, length-sets, drop-drop}
+use Rattle.text.proofs.Laws.{part-from}
 use Rattle.decimal.specs.Spelling.{writtenLength, writtenOutput}
 use Rattle.decimal.proofs.Laws.{written-length-all, written-output-all}
 
@@ -21,19 +23,35 @@ front-written out b h =
     let e : 0 + length b ≡ length b = omega arith in
     sets-eq b out 0 (omega arith) ∙ rw e
 
--- a spelling written into the part of the output from place n on
-module _ (s l : List ℕ) (n : ℕ) (room : n + length s ≤ length l) where
-  part-room : length s ≤ length (take (length l - n) (drop n l))
-  part-room = simp (length-take, length-drop) (omega arith)
+-- the part of an output from place n on, as code lends it, and the output with p in the place of that part
+abbrev pub part : List ℕ → ℕ → List ℕ
+part l n = take (length l - n) (drop n l)
 
-  pub part-length : writtenLength s (take (length l - n) (drop n l)) ≡ length s
-  part-length = written-length-all s (take (length l - n) (drop n l)) part-room
+abbrev pub withPart : List ℕ → ℕ → List ℕ → List ℕ
+withPart l n p = take n l ++ (p ++ drop (length l - n) (drop n l))
 
-  pub part-written : take n l ++ (writtenOutput s (take (length l - n) (drop n l)) ++ drop (length l - n) (drop n l)) ≡ sets l n s
-  part-written =
-      let all : length (drop n l) ≤ length l - n = simp length-drop (omega arith) in
-      let fits : length s ≤ length (drop n l) = simp length-drop (omega arith) in
-      simp (take-all (length l - n) (drop n l) all, drop-of-length-le (drop n l) all, append-nil, written-output-all s (drop n l) fits, drop-drop, ← append-assoc) (sym (sets-eq s l n room))
+pub with-part : (l : List ℕ) (n : ℕ) (p : List ℕ) → withPart l n p ≡ take n l ++ p
+with-part l n p = rw (drop-of-length-le (drop n l) (le-of-eq (length-drop n l)), append-nil)
+
+-- what a call tells that wrote the spelling s into the part of l from place n on: r bytes, and the part p
+abbrev pub PartTold : List ℕ → List ℕ → ℕ → ℕ → List ℕ → Type 0
+PartTold s l n r p = (r ≡ writtenLength s (part l n)) × (p ≡ writtenOutput s (part l n))
+
+-- where there is room behind the first n bytes
+pub part-written : (s l : List ℕ) (n : ℕ) {r : ℕ} {p : List ℕ} → n + length s ≤ length l → PartTold s l n r p → (r ≡ length s) × (withPart l n p ≡ sets l n s)
+part-written s l n {r} {p} room told =
+    let fits : length s ≤ length (drop n l) = simp length-drop (omega arith) in
+    let size = rw part-from at (told .0) in
+    let bytes = rw part-from at (told .1) in (
+      size ∙ written-length-all s (drop n l) fits,
+      with-part l n p ∙ rw (bytes, written-output-all s (drop n l) fits, drop-drop, ← append-assoc, sets-eq s l n room),
+    )
+
+-- the same behind a byte b at place n
+pub byte-part-written : (s out : List ℕ) (n b : ℕ) {r : ℕ} {p : List ℕ} → n + 1 + length s ≤ length out → PartTold s (set out n b) (n + 1) r p → (r ≡ length s) × (withPart (set out n b) (n + 1) p ≡ sets out n (b ∷ s))
+byte-part-written s out n b room told =
+    let w = part-written s (set out n b) (n + 1) (simp length-set room) told in
+    (w .0, w .1 ∙ ap (λ k. sets (set out n b) k s) (add-one n))
 
 -- What is left to write: the output `out` with `rest` written at `place` is the output `out₀` with `whole` written at `at`.
 pub record Remaining (out₀ : List ℕ) (at : ℕ) (whole out : List ℕ) (place : ℕ) (rest : List ℕ) : Type 0 where
@@ -46,8 +64,8 @@ remaining-all out at whole = record { same = refl; ends = refl; output = refl }
 
 module _ {out₀ : List ℕ} {at : ℕ} {whole out : List ℕ} {place : ℕ} {rest : List ℕ} (r : Remaining out₀ at whole out place rest) where
   -- one piece more was written
-  pub remaining-less : (piece rest₁ out₁ : List ℕ) (place₁ : ℕ) → rest ≡ piece ++ rest₁ → out₁ ≡ sets out place piece → place₁ ≡ place + length piece → Remaining out₀ at whole out₁ place₁ rest₁
-  remaining-less piece rest₁ out₁ place₁ e f g =
+  pub remaining-less : (piece rest₁ : List ℕ) {out₁ : List ℕ} {place₁ : ℕ} → rest ≡ piece ++ rest₁ → place₁ ≡ place + length piece → out₁ ≡ sets out place piece → Remaining out₀ at whole out₁ place₁ rest₁
+  remaining-less piece rest₁ e g f =
       let sizes : length rest ≡ length piece + length rest₁ = ap length e ∙ length-append piece rest₁ in
       record {
         same = ap length f ∙ length-sets out place piece ∙ r .same;
@@ -55,6 +73,10 @@ module _ {out₀ : List ℕ} {at : ℕ} {whole out : List ℕ} {place : ℕ} {re
         output = rw (f, g) (sym (sets-append out place piece rest₁)) ∙ ap (λ (l : List ℕ). sets out place l) (sym e) ∙ r .output;
       }
 
+  -- all that was left was written
+  pub remaining-last : {out₁ : List ℕ} {place₁ : ℕ} → place₁ ≡ place + length rest → out₁ ≡ sets out place rest → (place₁ ≡ at + length whole) × (out₁ ≡ sets out₀ at whole)
+  remaining-last g f = (g ∙ r .ends, f ∙ r .output)
+
   -- nothing is left
   pub remaining-none : rest ≡ [] → (place ≡ at + length whole) × (out ≡ sets out₀ at whole)
-  remaining-none e = (omega (arith, r .ends, ap length e), ap (λ (l : List ℕ). sets out place l) (sym e) ∙ r .output)
+  remaining-none e = remaining-last (rw e (omega arith)) (rw e)

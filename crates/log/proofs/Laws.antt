@@ -1,6 +1,6 @@
 -- Laws of a line of the log: what has a tab is no number, a text that starts with a word and its tab is that word's call, and any
 -- other is malformed.
-use Prim.Native.Nat.{ℕ, zero, suc, _+_, _^_, _≤_, _<_}
+use Prim.Native.Nat.{ℕ, zero, suc, _+_, _-_, _^_, _≤_, _<_}
 use native.Mathlib.Omega.{arith}
 use native.Mathlib.Numerals.{add-one}
 use mathlib.Core.Path.{_≡_, refl, sym, ap, _∙_}
@@ -13,20 +13,21 @@ use lib.ListN.{length, getD, take, drop, drop-of-length-le}
 use lib.Seq.{drop-cons}
 use mir.Syntax.{w64}
 use mir.Val.{SFits, toZ, ofZ}
-use mir.ValLaws.{toZ-ofZ}
 use Rattle.interval.proofs.Signed.{never, and-first, and-second}
+use Rattle.interval.proofs.Machine.{same64}
 use Rattle.text.specs.Text.{indexOf, fields}
-use Rattle.text.proofs.Laws.{index-le, index-without, lacks, index-lacks, index-cut, split-some, split-word}
+use Rattle.text.proofs.Laws.{index-le, index-without, lacks, index-lacks, index-cut, split-some, split-word, part-from}
 use Rattle.decimal.specs.Spelling.{numberOf, instantOf, spelled}
 use Rattle.decimal.specs.declared.Number.{Number}
 use Rattle.decimal.specs.declared.Instant.{Instant}
 use Rattle.decimal.proofs.Laws.{number-one-spelling, instant-one-spelling, instant-below, spelled-plain, spelled-byte-least}
 use Rattle.chart.specs.Operators.{sameBytes, placeOf}
 use Rattle.chart.proofs.Records.{one-field, cut-field}
-use Rattle.chart.proofs.Words.{same-eq, same-not, same-lengths, place-hit, place-on, place-none}
+use Rattle.chart.proofs.Words.{same-eq, place-hit, place-on, place-none}
 use Rattle.chart.proofs.Places.{same-self, place-le}
 use Rattle.log.specs.declared.Call.{Call}
-use Rattle.log.specs.Log.{openWord, eventWord, clockWord, forgetWord, callWords, eventCall, instantCall, wordCall, fieldsCall, callOf, startsWith, answerOf, takenLine, refusedLine, codeAnswer, instantAnswer, wordAnswer, fieldsAnswer, lineAnswer}
+use Rattle.log.specs.declared.Word.{Word}
+use Rattle.log.specs.Log.{openWord, eventWord, clockWord, forgetWord, callWords, eventCall, instantCall, wordCall, placeAmongWords, fieldsCall, callOf, startsWith, answerOf, takenLine, refusedLine, codeAnswer, instantAnswer, wordAnswer, fieldsAnswer, lineAnswer}
 
 -- a number has no tab
 no-tab : (z : ℤ) → indexOf 9 (spelled z) ≡ length (spelled z)
@@ -34,14 +35,14 @@ no-tab z = index-without 9 (spelled z) (λ i k e. omega (arith, spelled-byte-lea
 
 -- what has a tab is no number and no instant
 module _ (s : List ℕ) (tab : indexOf 9 s ≡ length s → ⊥) where
-  pub number-tab : numberOf s ≡ Number.Malformed
+  number-tab : numberOf s ≡ Number.Malformed
   number-tab = go (numberOf s) refl
     where
       go : (r : Number) → numberOf s ≡ r → r ≡ Number.Malformed
       go (Number.Value n) e = absurd (tab (rw (number-one-spelling s n e, ← spelled-plain (pos n) (le-leb 0 n (omega arith))) (no-tab (pos n))))
       go Number.Malformed e = refl
 
-  pub instant-tab : instantOf s ≡ Instant.Malformed
+  instant-tab : instantOf s ≡ Instant.Malformed
   instant-tab = go (instantOf s) refl
     where
       go : (r : Instant) → instantOf s ≡ r → r ≡ Instant.Malformed
@@ -59,13 +60,29 @@ module _ (s : List ℕ) (tab : indexOf 9 s ≡ length s → ⊥) where
       go false false false true = refl
       go false false false false = refl
 
--- an instant that was read fits 64 bits
-abs-fits : (z : ℤ) → natAbs z < 10 ^ 10 → SFits w64 z
-abs-fits (pos n) h = record { sfits = omega arith }
-abs-fits (negsuc n) h = record { sfits = omega arith }
+-- a word that an instant follows: with none behind it, and with an instant, which fits 64 bits
+abbrev callAt : Word → ℤ → Call
+callAt Word.Open z = Call.Open z
+callAt Word.Clock z = Call.Clock z
+callAt Word.Forget z = Call.Forget z
 
-pub instant-fits : (s : List ℕ) (z : ℤ) → instantOf s ≡ Instant.Value z → toZ w64 (ofZ w64 z) ≡ z
-instant-fits s z e = toZ-ofZ w64 z (abs-fits z (instant-below s z e))
+word-at : (w : Word) (s : List ℕ) → wordCall (placeAmongWords w) s ≡ instantCall (callAt w) (instantOf s)
+unfolding wordCall instantCall
+word-at Word.Open s = refl
+word-at Word.Clock s = refl
+word-at Word.Forget s = refl
+
+pub no-instant : (w : Word) (s : List ℕ) → instantOf s ≡ Instant.Malformed → Call.Malformed ≡ wordCall (placeAmongWords w) s
+unfolding instantCall
+no-instant w s e = sym (word-at w s ∙ ap (instantCall (callAt w)) e)
+
+fits64 : (z : ℤ) → natAbs z < 10 ^ 10 → SFits w64 z
+fits64 (pos n) h = record { sfits = omega arith }
+fits64 (negsuc n) h = record { sfits = omega arith }
+
+pub at-instant : (w v : Word) (s : List ℕ) (z : ℤ) → w ≡ v → instantOf s ≡ Instant.Value z → callAt v (toZ w64 (ofZ w64 z)) ≡ wordCall (placeAmongWords w) s
+unfolding instantCall
+at-instant w v s z d e = rw (d, same64 z (fits64 z (instant-below s z e))) (sym (word-at v s ∙ ap (instantCall (callAt v)) e))
 
 -- the fields behind the word need no count, since what has a tab is malformed anyway
 behind-word : (w t : List ℕ) → fieldsCall (w ∷ fields t) ≡ wordCall (placeOf w callWords) t
@@ -79,19 +96,19 @@ behind-word w t = go (eqb (indexOf 9 t) (length t)) refl
         let q = split-some 9 (drop (indexOf 9 t + 1) t) in
         rw (cut-field t d, q .2) (sym (word-tab t d (placeOf w callWords)))
 
--- a comparison with p goes on at place i
-module _ (p s : List ℕ) (i : ℕ) where
-  pub starts-on : i < length p → i < length s → getD s i 0 ≡ getD p i 0 → startsWith (drop i p) (drop i s) ≡ startsWith (drop (i + 1) p) (drop (i + 1) s)
+-- a comparison with p, of which the bytes from place i on are left
+module _ (p s : List ℕ) (i : ℕ) {b : Bool} (e : startsWith (drop i p) (drop i s) ≡ b) where
+  pub starts-on : i < length p → i < length s → getD s i 0 ≡ getD p i 0 → startsWith (drop (i + 1) p) (drop (i + 1) s) ≡ b
   unfolding startsWith
-  starts-on h g e = rw (drop-cons p i 0 h, drop-cons s i 0 g, eq-eqb _ _ e, add-one)
+  starts-on h g d = sym (rw (drop-cons p i 0 h, drop-cons s i 0 g, eq-eqb _ _ d, add-one)) ∙ e
 
-  pub starts-not : i < length p → i < length s → (getD s i 0 ≡ getD p i 0 → ⊥) → startsWith (drop i p) (drop i s) ≡ false
+  pub starts-not : i < length p → i < length s → (getD s i 0 ≡ getD p i 0 → ⊥) → false ≡ b
   unfolding startsWith
-  starts-not h g e = rw (drop-cons p i 0 h, drop-cons s i 0 g, ne-eqb _ _ e)
+  starts-not h g d = rw (drop-cons p i 0 h, drop-cons s i 0 g, ne-eqb _ _ d) at e
 
-  pub starts-end : length p ≤ i → startsWith (drop i p) (drop i s) ≡ true
+  pub starts-end : length p ≤ i → true ≡ b
   unfolding startsWith
-  starts-end h = rw (drop-of-length-le p h)
+  starts-end h = rw (drop-of-length-le p h) at e
 
 pub starts-short : (p s : List ℕ) → length s < length p → startsWith p s ≡ false
 unfolding startsWith
@@ -104,7 +121,7 @@ starts-short (a ∷ p) (b ∷ s) h = rw (starts-short p s (omega arith)) (go (eq
     go false = refl
 
 -- a text that starts with p is p and the rest
-pub starts-cut : (p s : List ℕ) → startsWith p s ≡ true → s ≡ p ++ drop (length p) s
+starts-cut : (p s : List ℕ) → startsWith p s ≡ true → s ≡ p ++ drop (length p) s
 unfolding startsWith
 starts-cut [] s e = refl
 starts-cut (a ∷ p) [] e = never e
@@ -113,7 +130,7 @@ starts-cut (a ∷ p) (b ∷ s) e =
     let r = starts-cut p s (and-second (eqb b a) (startsWith p s) e) in
     cc
 
-pub starts-length : (p s : List ℕ) → startsWith p s ≡ true → length p ≤ length s
+starts-length : (p s : List ℕ) → startsWith p s ≡ true → length p ≤ length s
 unfolding startsWith
 starts-length [] s e = omega arith
 starts-length (a ∷ p) [] e = never e
@@ -123,51 +140,46 @@ starts-length (a ∷ p) (b ∷ s) e = omega (arith, starts-length p s (and-secon
 abbrev pub tabbed : List ℕ → List ℕ
 tabbed w = w ++ (9 ∷ [])
 
--- the places of the words
-open-place : placeOf openWord callWords ≡ 0
+-- a word behind words that begin with other bytes, which a test finds that computes
+abbrev beginOther : ℕ → List (List ℕ) → Bool
+beginOther a [] = true
+beginOther a (v ∷ vs) = cond (eqb a (getD v 0 0)) false (beginOther a vs)
+
+other-word : (w v : List ℕ) → eqb (getD w 0 0) (getD v 0 0) ≡ false → (b : Bool) → sameBytes w v ≡ b → b ≡ false
+other-word w v d true e = absurd (eqb-false _ _ d (ap (λ (l : List ℕ). getD l 0 0) (same-eq w v e)))
+other-word w v d false e = refl
+
+place-behind : (w : List ℕ) (vs us : List (List ℕ)) → beginOther (getD w 0 0) vs ≡ true → placeOf w (vs ++ w ∷ us) ≡ length vs
+place-behind w [] us e = place-hit w (w ∷ us) 0 (omega arith) (same-self w)
+place-behind w (v ∷ vs) us e = go (eqb (getD w 0 0) (getD v 0 0)) refl e (place-behind w vs us)
+  where
+    rest : List (List ℕ)
+    rest = v ∷ vs ++ w ∷ us
+
+    go : (t : Bool) → eqb (getD w 0 0) (getD v 0 0) ≡ t → cond t false (beginOther (getD w 0 0) vs) ≡ true → (beginOther (getD w 0 0) vs ≡ true → placeOf w (vs ++ w ∷ us) ≡ length vs) → placeOf w rest ≡ suc (length vs)
+    go true d q f = never q
+    go false d q f = place-on w rest 0 (omega arith) (other-word w v d (sameBytes w v) refl) ∙ ap suc (f q)
+
+-- the words of the log: no tab, and a place
+pub record WordAt (n : ℕ) (w : List ℕ) : Type 0 where
+  untabbed : lacks 9 w ≡ true
+  place : placeOf w callWords ≡ n
+
+pub open-word : WordAt 0 openWord
 unfolding callWords
-open-place = place-hit openWord callWords 0 (omega arith) (same-self openWord)
+open-word = record { untabbed = refl; place = place-behind openWord [] _ refl }
 
-event-place : placeOf eventWord callWords ≡ 1
+pub event-word : WordAt 1 eventWord
 unfolding callWords
-event-place = place-on eventWord callWords 0 (omega arith) (same-lengths eventWord openWord (λ e. omega (arith, e))) ∙ ap suc (place-hit eventWord callWords 1 (omega arith) (same-self eventWord))
+event-word = record { untabbed = refl; place = place-behind eventWord (openWord ∷ []) _ refl }
 
-clock-place : placeOf clockWord callWords ≡ 2
+pub clock-word : WordAt 2 clockWord
 unfolding callWords
-clock-place =
-    place-on clockWord callWords 0 (omega arith) (same-lengths clockWord openWord (λ e. omega (arith, e)))
-    ∙ ap suc (place-on clockWord callWords 1 (omega arith) (same-not clockWord eventWord 0 (omega arith) (omega arith) (λ e. omega (arith, e)))
-    ∙ ap suc (place-hit clockWord callWords 2 (omega arith) (same-self clockWord)))
+clock-word = record { untabbed = refl; place = place-behind clockWord (openWord ∷ eventWord ∷ []) _ refl }
 
-forget-place : placeOf forgetWord callWords ≡ 3
+pub forget-word : WordAt 3 forgetWord
 unfolding callWords
-forget-place =
-    place-on forgetWord callWords 0 (omega arith) (same-lengths forgetWord openWord (λ e. omega (arith, e)))
-    ∙ ap suc (place-on forgetWord callWords 1 (omega arith) (same-lengths forgetWord eventWord (λ e. omega (arith, e)))
-    ∙ ap suc (place-on forgetWord callWords 2 (omega arith) (same-lengths forgetWord clockWord (λ e. omega (arith, e)))
-    ∙ ap suc (place-hit forgetWord callWords 3 (omega arith) (same-self forgetWord))))
-
--- a line that begins with a word of place n, which has no tab
-word-line : (w t : List ℕ) (n : ℕ) → lacks 9 w ≡ true → placeOf w callWords ≡ n → callOf (w ++ 9 ∷ t) ≡ wordCall n t
-unfolding callOf
-word-line w t n h e = ap fieldsCall (split-word 9 w t (index-lacks 9 w h)) ∙ behind-word w t ∙ ap (λ k. wordCall k t) e
-
-module _ (s : List ℕ) where
-  pub opening-call : startsWith (tabbed openWord) s ≡ true → callOf s ≡ instantCall Call.Open (instantOf (drop 5 s))
-  unfolding wordCall
-  opening-call e = ap callOf (starts-cut (tabbed openWord) s e) ∙ word-line openWord (drop 5 s) 0 refl open-place
-
-  pub event-call : startsWith (tabbed eventWord) s ≡ true → callOf s ≡ eventCall (numberOf (drop 6 s))
-  unfolding wordCall
-  event-call e = ap callOf (starts-cut (tabbed eventWord) s e) ∙ word-line eventWord (drop 6 s) 1 refl event-place
-
-  pub clock-call : startsWith (tabbed clockWord) s ≡ true → callOf s ≡ instantCall Call.Clock (instantOf (drop 6 s))
-  unfolding wordCall
-  clock-call e = ap callOf (starts-cut (tabbed clockWord) s e) ∙ word-line clockWord (drop 6 s) 2 refl clock-place
-
-  pub forget-call : startsWith (tabbed forgetWord) s ≡ true → callOf s ≡ instantCall Call.Forget (instantOf (drop 7 s))
-  unfolding wordCall
-  forget-call e = ap callOf (starts-cut (tabbed forgetWord) s e) ∙ word-line forgetWord (drop 7 s) 3 refl forget-place
+forget-word = record { untabbed = refl; place = place-behind forgetWord (openWord ∷ eventWord ∷ clockWord ∷ []) _ refl }
 
 -- a text whose first field is w starts with w and its tab
 starts-self : (p t : List ℕ) → startsWith p (p ++ t) ≡ true
@@ -187,25 +199,6 @@ other-field s w h e = go (sameBytes (take (indexOf 9 s) s) w) refl
     go : (t : Bool) → sameBytes (take (indexOf 9 s) s) w ≡ t → t ≡ false
     go true q = never (sym e ∙ field-starts s w h q)
     go false q = refl
-
--- no word in front
-pub no-call : (s : List ℕ) → startsWith (tabbed openWord) s ≡ false → startsWith (tabbed eventWord) s ≡ false → startsWith (tabbed clockWord) s ≡ false → startsWith (tabbed forgetWord) s ≡ false → callOf s ≡ Call.Malformed
-unfolding callOf fieldsCall callWords wordCall
-no-call s o e c f = go (eqb (indexOf 9 s) (length s)) refl
-  where
-    go : (b : Bool) → eqb (indexOf 9 s) (length s) ≡ b → fieldsCall (fields s) ≡ Call.Malformed
-    go true q = rw (one-field s (eqb-true (indexOf 9 s) (length s) q))
-    go false q =
-        let d = eqb-false (indexOf 9 s) (length s) q in
-        let h : indexOf 9 s < length s = omega (arith, index-le 9 s) in
-        let w = take (indexOf 9 s) s in
-        rw (cut-field s d)
-        (behind-word w (drop (indexOf 9 s + 1) s)
-        ∙ ap (λ k. wordCall k (drop (indexOf 9 s + 1) s)) (place-on w callWords 0 (omega arith) (other-field s openWord h o)
-        ∙ ap suc (place-on w callWords 1 (omega arith) (other-field s eventWord h e)
-        ∙ ap suc (place-on w callWords 2 (omega arith) (other-field s clockWord h c)
-        ∙ ap suc (place-on w callWords 3 (omega arith) (other-field s forgetWord h f)
-        ∙ ap suc (place-none w callWords 4 (omega arith)))))))
 
 -- the enum's answer is that of the line
 code-answer : (n : Number) → answerOf (eventCall n) ≡ codeAnswer n
@@ -238,6 +231,38 @@ fields-answer (w ∷ []) = refl
 fields-answer (w ∷ x ∷ []) = word-answer (placeOf w callWords) x (place-le w callWords)
 fields-answer (w ∷ x ∷ y ∷ ys) = refl
 
-pub answered : (r : Call) (s : List ℕ) → r ≡ callOf s → (r ≡ callOf s) × (answerOf r ≡ lineAnswer s)
+answered : (r : Call) (s : List ℕ) → r ≡ callOf s → (r ≡ callOf s) × (answerOf r ≡ lineAnswer s)
 unfolding callOf lineAnswer
 answered r s e = (e, ap answerOf e ∙ fields-answer (fields s))
+
+-- a line with a word and its tab in front, found by a comparison b: behind them is the call's field
+module _ {n : ℕ} {w : List ℕ} (p : WordAt n w) (s : List ℕ) {b : Bool} (e : b ≡ startsWith (tabbed w) s) (yes : b ≡ true) where
+  pub word-room : length (tabbed w) ≤ length s
+  word-room = starts-length (tabbed w) s (sym e ∙ yes)
+
+  pub word-read : {r : Call} → r ≡ wordCall n (take (length s - length (tabbed w)) (drop (length (tabbed w)) s)) → (r ≡ callOf s) × (answerOf r ≡ lineAnswer s)
+  unfolding callOf
+  word-read {r} d =
+      let t = drop (length (tabbed w)) s in
+      let cut : s ≡ w ++ 9 ∷ t = starts-cut (tabbed w) s (sym e ∙ yes) ∙ append-assoc w (9 ∷ []) t in
+      let call : callOf s ≡ wordCall n t = ap callOf cut ∙ ap fieldsCall (split-word 9 w t (index-lacks 9 w (p .untabbed))) ∙ behind-word w t ∙ ap (λ k. wordCall k t) (p .place) in
+      answered r s (rw part-from at d ∙ sym call)
+
+-- a line with no word and tab in front
+pub no-call : (s : List ℕ) → startsWith (tabbed openWord) s ≡ false → startsWith (tabbed eventWord) s ≡ false → startsWith (tabbed clockWord) s ≡ false → startsWith (tabbed forgetWord) s ≡ false → (Call.Malformed ≡ callOf s) × (answerOf Call.Malformed ≡ lineAnswer s)
+unfolding callOf fieldsCall callWords wordCall
+no-call s o e c f = answered Call.Malformed s (sym (go (eqb (indexOf 9 s) (length s)) refl))
+  where
+    go : (b : Bool) → eqb (indexOf 9 s) (length s) ≡ b → fieldsCall (fields s) ≡ Call.Malformed
+    go true q = rw (one-field s (eqb-true (indexOf 9 s) (length s) q))
+    go false q =
+        let d = eqb-false (indexOf 9 s) (length s) q in
+        let h : indexOf 9 s < length s = omega (arith, index-le 9 s) in
+        let w = take (indexOf 9 s) s in
+        let place : placeOf w callWords ≡ 4 =
+        place-on w callWords 0 (omega arith) (other-field s openWord h o)
+        ∙ ap suc (place-on w callWords 1 (omega arith) (other-field s eventWord h e)
+        ∙ ap suc (place-on w callWords 2 (omega arith) (other-field s clockWord h c)
+        ∙ ap suc (place-on w callWords 3 (omega arith) (other-field s forgetWord h f)
+        ∙ ap suc (place-none w callWords 4 (omega arith))))) in
+        rw (cut-field s d) (behind-word w (drop (indexOf 9 s + 1) s) ∙ ap (λ k. wordCall k (drop (indexOf 9 s + 1) s)) place)

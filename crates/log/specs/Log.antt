@@ -13,6 +13,7 @@ use Rattle.decimal.specs.declared.Number.{Number}
 use Rattle.decimal.specs.declared.Instant.{Instant}
 use Rattle.chart.specs.Operators.{placeOf}
 use Rattle.log.specs.declared.Call.{Call}
+use Rattle.log.specs.declared.Word.{Word}
 
 abbrev pub openWord : List ℕ
 openWord = 111 ∷ 112 ∷ 101 ∷ 110 ∷ []
@@ -46,6 +47,12 @@ wordCall w x =
     (cond (eqb w 1) (eventCall (numberOf x))
     (cond (eqb w 2) (instantCall Call.Clock (instantOf x))
     (cond (eqb w 3) (instantCall Call.Forget (instantOf x)) Call.Malformed)))
+
+-- the place among the words of one that an instant follows
+abbrev pub placeAmongWords : Word → ℕ
+placeAmongWords Word.Open = 0
+placeAmongWords Word.Clock = 2
+placeAmongWords Word.Forget = 3
 
 -- a word and one field behind it
 unfoldable pub fieldsCall : List (List ℕ) → Call

@@ -1,7 +1,6 @@
 // The log on paper: one line, read as the call that it asks for. The definitions are in `specs/Log.antt`.
 ghost use mathlib.Core.Path.{_≡_};
-ghost use Rattle.decimal.specs.Spelling.{numberOf, instantOf};
-ghost use Rattle.log.specs.Log.{callOf, eventCall, instantCall, answerOf, lineAnswer, startsWith};
+ghost use Rattle.log.specs.Log.{callOf, wordCall, placeAmongWords, answerOf, lineAnswer, startsWith};
 use decimal::Instant;
 use decimal::Number;
 
@@ -12,6 +11,13 @@ pub enum Call {
     Event(u8),
     Clock(i64),
     Forget(i64),
+}
+
+// The words that an instant follows.
+enum Word {
+    Open,
+    Clock,
+    Forget,
 }
 
 // The words, each with its tab.
@@ -34,15 +40,15 @@ pub fn read_call(s: &[u8]) -> Call
     }
     let clock = CLOCK;
     if starts_with(s, &clock) {
-        return read_clock(&s[6..]);
+        return read_at(Word::Clock, &s[6..]);
     }
     let forget = FORGET;
     if starts_with(s, &forget) {
-        return read_forget(&s[7..]);
+        return read_at(Word::Forget, &s[7..]);
     }
     let opening = OPEN;
     if starts_with(s, &opening) {
-        return read_opening(&s[5..]);
+        return read_at(Word::Open, &s[5..]);
     }
     Call::Malformed
 }
@@ -66,7 +72,7 @@ fn starts_with(s: &[u8], p: &[u8]) -> bool
 
 // The event whose code s is. One pass over at most 10 bytes.
 fn read_event(s: &[u8]) -> Call
-    ensures { λ r. ⌜ r ≡ eventCall (numberOf (now (s .entry))) ⌝ }
+    ensures { λ r. ⌜ r ≡ wordCall 1 (now (s .entry)) ⌝ }
 {
     let n = decimal::read_number(s);
     let Number::Value(code) = n else {
@@ -78,35 +84,17 @@ fn read_event(s: &[u8]) -> Call
     Call::Event(code as u8)
 }
 
-// The clock mark at the instant s. One pass over at most 11 bytes, as in the two below.
-fn read_clock(s: &[u8]) -> Call
-    ensures { λ r. ⌜ r ≡ instantCall Call.Clock (instantOf (now (s .entry))) ⌝ }
+// The call that a word asks for at the instant s. One pass over at most 11 bytes.
+fn read_at(word: Word, s: &[u8]) -> Call
+    ensures { λ r. ⌜ r ≡ wordCall (placeAmongWords word) (now (s .entry)) ⌝ }
 {
     let i = decimal::read_instant(s);
     let Instant::Value(t) = i else {
         return Call::Malformed;
     };
-    Call::Clock(t)
-}
-
-// The forget up to the instant s.
-fn read_forget(s: &[u8]) -> Call
-    ensures { λ r. ⌜ r ≡ instantCall Call.Forget (instantOf (now (s .entry))) ⌝ }
-{
-    let i = decimal::read_instant(s);
-    let Instant::Value(t) = i else {
-        return Call::Malformed;
-    };
-    Call::Forget(t)
-}
-
-// The opening at the instant s.
-fn read_opening(s: &[u8]) -> Call
-    ensures { λ r. ⌜ r ≡ instantCall Call.Open (instantOf (now (s .entry))) ⌝ }
-{
-    let i = decimal::read_instant(s);
-    let Instant::Value(t) = i else {
-        return Call::Malformed;
-    };
-    Call::Open(t)
+    match word {
+        Word::Open => Call::Open(t),
+        Word::Clock => Call::Clock(t),
+        Word::Forget => Call::Forget(t),
+    }
 }

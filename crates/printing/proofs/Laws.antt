@@ -3,14 +3,15 @@
 use Prim.Native.Nat.{ℕ, suc, _+_, _*_, _-_, _≤_, _<_}
 use native.Mathlib.Omega.{arith}
 use native.Mathlib.Numerals.{add-one}
-use mathlib.Core.Path.{_≡_, refl, ap, _∙_}
+use mathlib.Core.Path.{_≡_, refl, sym, ap, _∙_}
 use mathlib.Core.Bool.{Bool, true, false}
 use mathlib.Core.List.{List, [], _∷_, _++_}
 use lib.IntN.{ℤ, pos}
 use lib.ListN.{length, getD, take, drop, length-append, drop-of-length-le}
-use lib.Seq.{drop-cons, drop-drop, take-append-seam}
+use lib.Seq.{sets, drop-cons, drop-drop, take-append-seam}
 use borrow.Author.Tests.{le-leb, lt-leb}
 use Rattle.decimal.specs.Spelling.{spelled}
+use Rattle.decimal.proofs.Written.{front-written}
 use Rattle.model.specs.Order.{Row}
 use Rattle.table.specs.Table.{cellsOf, flat}
 use Rattle.table.proofs.Rows.{flat-on}
@@ -45,6 +46,13 @@ module _ (room : Bool) (s out : List ℕ) where
   pub output-no-room : room ≡ false → outputWhere room s out ≡ out
   unfolding outputWhere
   output-no-room e = rw e
+
+-- The same as the code answers it: nothing written, and the text written at the front.
+pub none-where : {room : Bool} (s out : List ℕ) → room ≡ false → (0 ≡ lengthWhere room s) × (out ≡ outputWhere room s out)
+none-where {room} s out e = (sym (length-no-room room s out e), sym (output-no-room room s out e))
+
+pub text-where : {room : Bool} (s out : List ℕ) {r : ℕ} {l : List ℕ} → room ≡ true → length s ≤ length out → (r ≡ 0 + length s) × (l ≡ sets out 0 s) → (r ≡ lengthWhere room s) × (l ≡ outputWhere room s out)
+text-where {room} s out e h w = (omega (arith, w .0, length-room room s out e), w .1 ∙ front-written out s h ∙ sym (output-room room s out e))
 
 -- An output that keeps its length has room for what is answered.
 pub front-within : (room : Bool) (s out : List ℕ) → length (outputWhere room s out) ≡ length out → lengthWhere room s ≤ length out

@@ -5,12 +5,20 @@ use native.Mathlib.Nat.{le-of-eq}
 use native.Mathlib.Numerals.{add-one}
 use mathlib.Core.Path.{_≡_, refl, sym, ap, ap₂, _∙_}
 use mathlib.Core.Bool.{Bool, true, false, cond}
+use mathlib.Core.Logic.{_⊎_, inl, inr, ⊎-elim}
 use mathlib.Core.List.{List, [], _∷_, _++_, append-nil}
-use borrow.Author.Tests.{eq-eqb, ne-eqb, eqb-true, lt-ltb, le-ltb, ltb-true, ltb-false, leb-true, leb-false}
-use lib.Dec.{eqb, leb, ltb}
+use borrow.Author.Tests.{eq-eqb, ne-eqb, eqb-true, lt-ltb, le-ltb, ltb-true, ltb-false}
+use lib.Dec.{eqb, ltb}
 use lib.ListN.{length, take, drop, getD, drop-of-length-le, length-take, length-drop}
 use lib.Seq.{drop-cons, take-all, length-take-le}
 use Rattle.text.specs.Text.{indexOf, split, inFront, Line, whole, broken, ended, lines, isRecord, lineSize}
+
+pub lt-or-le : (a b : ℕ) → (a < b) ⊎ (b ≤ a)
+lt-or-le a b = go (ltb a b) refl
+  where
+    go : (t : Bool) → ltb a b ≡ t → (a < b) ⊎ (b ≤ a)
+    go true e = inl (ltb-true a b e)
+    go false e = inr (ltb-false a b e)
 
 -- the search goes on from place i
 pub index-hit : (x : ℕ) (s : List ℕ) (i : ℕ) → i < length s → getD s i 0 ≡ x → indexOf x (drop i s) ≡ 0
@@ -200,20 +208,17 @@ first-whole s h = rw (← index-front 10 64 s h) (lines-cut s (omega (arith, ind
 
 pub first-broken : (s : List ℕ) → 0 < length s → indexOf 10 (take 64 s) ≡ length (take 64 s) → (l : Line) × (ls : List Line) × (lines s ≡ l ∷ ls) × (isRecord l ≡ false)
 first-broken [] h e = absurd (omega arith)
-first-broken (b ∷ s) h e = go (ltb m (suc (length s))) refl
+first-broken (b ∷ s) h e = go (lt-or-le m (suc (length s)))
   where
     m : ℕ
     m = indexOf 10 (b ∷ s)
 
-    past : min 64 (suc (length s)) ≤ m
-    past = rw (← length-take 64 (b ∷ s)) (index-past 10 64 (b ∷ s) e)
-
-    go : (t : Bool) → ltb m (suc (length s)) ≡ t → (l : Line) × (ls : List Line) × (lines (b ∷ s) ≡ l ∷ ls) × (isRecord l ≡ false)
-    go true p =
-        let q : m < suc (length s) = ltb-true m (suc (length s)) p in
+    go : (m < suc (length s)) ⊎ (suc (length s) ≤ m) → (l : Line) × (ls : List Line) × (lines (b ∷ s) ≡ l ∷ ls) × (isRecord l ≡ false)
+    go (inl q) =
         let w : length (take m (b ∷ s)) ≡ m = length-take-le m (b ∷ s) (omega arith) in
-        (whole (take m (b ∷ s)), lines (drop (suc m) (b ∷ s)), lines-cut (b ∷ s) q, rw (w, le-ltb m 64 (omega (arith, past))))
-    go false p = (broken (b ∷ s), [], lines-last b s (omega (arith, ltb-false m (suc (length s)) p, index-le 10 (b ∷ s))), refl)
+        let past : 64 ≤ m = omega (arith, index-past 10 64 (b ∷ s) e, length-take 64 (b ∷ s)) in
+        (whole (take m (b ∷ s)), lines (drop (suc m) (b ∷ s)), lines-cut (b ∷ s) q, rw (w, le-ltb m 64 past))
+    go (inr q) = (broken (b ∷ s), [], lines-last b s (omega (arith, index-le 10 (b ∷ s))), refl)
 
 -- the part of a slice from k on, as code lends it
 pub part-from : (k : ℕ) (s : List ℕ) → take (length s - k) (drop k s) ≡ drop k s
@@ -230,25 +235,18 @@ size-none s h = simp (le-ltb _ _ h)
 
 -- the window of at most 64 bytes
 pub window-is : (s : List ℕ) → take (min 64 (length s)) s ≡ take 64 s
-window-is s = go (leb 64 (length s)) refl
-  where
-    go : (t : Bool) → leb 64 (length s) ≡ t → take (min 64 (length s)) s ≡ take 64 s
-    go true e =
-        let h = leb-true 64 (length s) e in
-        let m : min 64 (length s) ≡ 64 = omega arith in
-        ap (λ n. take n s) m
-    go false e =
-        let h = leb-false 64 (length s) e in
-        take-all (min 64 (length s)) s (omega arith) ∙ sym (take-all 64 s (omega arith))
+window-is s =
+    ⊎-elim
+    (λ h. take-all (min 64 (length s)) s (omega arith) ∙ sym (take-all 64 s (omega arith)))
+    (λ h. let m : min 64 (length s) ≡ 64 = omega arith in ap (λ n. take n s) m)
+    (lt-or-le (length s) 64)
+
+-- byte 10 is among the first 64 bytes or not
+early : (s : List ℕ) → (indexOf 10 (take 64 s) < length (take 64 s)) ⊎ (length (take 64 s) ≤ indexOf 10 (take 64 s))
+early s = lt-or-le (indexOf 10 (take 64 s)) (length (take 64 s))
 
 pub size-le : (s : List ℕ) → lineSize s ≤ length s
-size-le s = go (ltb (indexOf 10 (take 64 s)) (length (take 64 s))) refl
-  where
-    go : (t : Bool) → ltb (indexOf 10 (take 64 s)) (length (take 64 s)) ≡ t → lineSize s ≤ length s
-    go true e =
-        let h = ltb-true (indexOf 10 (take 64 s)) (length (take 64 s)) e in
-        omega (arith, size-found s h, length-take 64 s)
-    go false e = omega (arith, size-none s (ltb-false (indexOf 10 (take 64 s)) (length (take 64 s)) e))
+size-le s = ⊎-elim (λ h. omega (arith, size-found s h, length-take 64 s)) (λ h. omega (arith, size-none s h)) (early s)
 
 -- a first line of at most 64 bytes cuts off the first part
 pub record FirstPart (s : List ℕ) : Type 0 where
@@ -257,14 +255,13 @@ pub record FirstPart (s : List ℕ) : Type 0 where
   pub parts : split 10 s ≡ take (lineSize s - 1) s ∷ split 10 (drop (lineSize s) s)
 
 pub first-part : (s : List ℕ) → (lineSize s ≡ 0 → ⊥) → FirstPart s
-first-part s h = go (ltb (indexOf 10 (take 64 s)) (length (take 64 s))) refl
+first-part s h = ⊎-elim found (λ n. absurd (h (size-none s n))) (early s)
   where
     i : ℕ
     i = indexOf 10 (take 64 s)
 
-    go : (b : Bool) → ltb i (length (take 64 s)) ≡ b → FirstPart s
-    go true e =
-        let small : i < length (take 64 s) = ltb-true i (length (take 64 s)) e in
+    found : i < length (take 64 s) → FirstPart s
+    found small =
         let k : lineSize s ≡ i + 1 = size-found s small in
         let f : indexOf 10 s ≡ i = index-front 10 64 s small in
         let x : indexOf 10 s ≡ lineSize s - 1 = omega (arith, f, k) in
@@ -274,12 +271,8 @@ first-part s h = go (ltb (indexOf 10 (take 64 s)) (length (take 64 s))) refl
           short = omega (arith, k, small, length-take 64 s);
           parts = split-cut 10 s (omega (arith, f, small, length-take 64 s)) ∙ ap₂ (λ m n. take m s ∷ split 10 (drop n s)) x y;
         }
-    go false e = absurd (h (size-none s (ltb-false i (length (take 64 s)) e)))
 
 -- without one the first byte 10, if there is any, comes after the first 64 bytes
 pub none-early : (s : List ℕ) → lineSize s ≡ 0 → length (take 64 s) ≤ indexOf 10 s
-none-early s z = go (ltb (indexOf 10 (take 64 s)) (length (take 64 s))) refl
-  where
-    go : (b : Bool) → ltb (indexOf 10 (take 64 s)) (length (take 64 s)) ≡ b → length (take 64 s) ≤ indexOf 10 s
-    go true e = absurd (omega (arith, size-found s (ltb-true (indexOf 10 (take 64 s)) (length (take 64 s)) e), z))
-    go false e = index-past 10 64 s (omega (arith, ltb-false (indexOf 10 (take 64 s)) (length (take 64 s)) e, index-le 10 (take 64 s)))
+none-early s z =
+    ⊎-elim (λ h. absurd (omega (arith, size-found s h, z))) (λ h. index-past 10 64 s (omega (arith, h, index-le 10 (take 64 s)))) (early s)

@@ -32,14 +32,8 @@ abbrev μ-loop : tie.MeasureT-loop
 loop-holds : tie.Need-loop-holds Inv-loop μ-loop
 loop-holds c = (refl, spelled-nonempty (c .args .m))
 
-mul-power : tie.Need-mul-power Inv-loop μ-loop
-mul-power c = omega arith
-
 add-k : tie.Need-add-k Inv-loop μ-loop
 add-k c = let s = c .before .before in omega (arith, few (s .args .m) (c .before .loop .k) (s .fits .m .fits) (c .before .loop .inv .1))
-
-loop-less : tie.Need-loop-less Inv-loop μ-loop
-loop-less c = omega arith
 
 loop-again : tie.Need-loop-again Inv-loop μ-loop
 loop-again c =
@@ -57,4 +51,4 @@ returns c =
 pub digit-count-spec : {M : Type 1} → statement M
 digit-count-spec =
     tie.close
-    (tie.spec Inv-loop μ-loop loop-holds mul-power add-k loop-less loop-again add-result returns)
+    (tie.spec Inv-loop μ-loop loop-holds (λ c. omega arith) add-k (λ c. omega arith) loop-again add-result returns)

@@ -9,12 +9,9 @@ returns : tie.Need-returns
 unfolding hasLeadingZero
 returns c = simp (le-ltb _ _ (c .if1 .taken))
 
-shared-slice-read-result : tie.Need-shared-slice-read-result
-shared-slice-read-result c = search needs
-
 returns-2 : tie.Need-returns-2
 unfolding hasLeadingZero
 returns-2 c = simp (lt-ltb _ _ (c .before .if1 .left))
 
 pub has-leading-zero-spec : {M : Type 1} → statement M
-has-leading-zero-spec = tie.close (tie.spec returns shared-slice-read-result returns-2)
+has-leading-zero-spec = tie.close (tie.spec returns (λ c. search needs) returns-2)

@@ -5,17 +5,11 @@ use native.Mathlib.Omega.{arith}
 use lib.IntN.{natAbs}
 use lib.ListN.{length}
 use Rattle.decimal.specs.Spelling.{spelledNumber}
-use Rattle.decimal.proofs.Laws.{spelled-plain, spelled-minus, wide-digits-most}
-use Rattle.decimal.proofs.Signs.{same32, abs-fits}
+use Rattle.interval.proofs.Machine.{same32}
+use Rattle.decimal.proofs.Laws.{spelled-plain, spelled-minus, number-digits-most, fits-below}
 use borrow.Author.Needs.{needs}
 use Rattle.decimal.proofs.integer_length.Statement.{statement}
 use Rattle.decimal.proofs.integer_length.Tie as tie
-
-magnitude-requires : tie.Need-magnitude-requires
-magnitude-requires c κs = search needs
-
-digit-count-requires : tie.Need-digit-count-requires
-digit-count-requires c κs = search needs
 
 -- the digits are those of the absolute value
 digits : (c : tie.After-digit-count) → c .digit-count .result ≡ length (spelledNumber (natAbs (c .before .before .args .x)))
@@ -29,7 +23,7 @@ returns c =
 add-result : tie.Need-add-result
 add-result c =
     let s = c .before .before .before in
-    omega (arith, digits (c .before), wide-digits-most (natAbs (s .args .x)) (omega (arith, abs-fits (s .args .x) (s .fits .x))))
+    omega (arith, digits (c .before), number-digits-most 9 (natAbs (s .args .x)) (fits-below (s .args .x) (s .fits .x)))
 
 returns-2 : tie.Need-returns-2
 returns-2 c =
@@ -37,6 +31,4 @@ returns-2 c =
     omega (arith, digits (c .before), ap length (spelled-minus (s .args .x) (simp (same32, s .fits .x) at (c .if1 .left))))
 
 pub integer-length-spec : {M : Type 1} → statement M
-integer-length-spec =
-    tie.close
-    (tie.spec magnitude-requires digit-count-requires returns add-result returns-2)
+integer-length-spec = tie.close (tie.spec (λ c κs. search needs) (λ c κs. search needs) returns add-result returns-2)

@@ -55,9 +55,6 @@ abbrev μ-loop : tie.MeasureT-loop
 loop-holds : tie.Need-loop-holds Inv-loop μ-loop
 loop-holds c = (omega arith, omega arith, refl)
 
-shared-slice-read-b : tie.Need-shared-slice-read-b Inv-loop μ-loop
-shared-slice-read-b c = omega arith
-
 -- the value has at most nine digits where one more is read
 nine-digits : (c : tie.In-loop Inv-loop μ-loop) → c .before .loop .value < 1000000000
 nine-digits c =
@@ -80,17 +77,8 @@ returns-2 c =
 mul-value : tie.Need-mul-value Inv-loop μ-loop
 mul-value c = let h = nine-digits (c .before .before .before) in omega arith
 
-wide-requires : tie.Need-wide-requires Inv-loop μ-loop
-wide-requires c κs = search needs
-
 add-value : tie.Need-add-value Inv-loop μ-loop
 add-value c = let h = nine-digits (c .before .before .before .before) in omega arith
-
-add-i : tie.Need-add-i Inv-loop μ-loop
-add-i c = omega arith
-
-loop-less : tie.Need-loop-less Inv-loop μ-loop
-loop-less c = omega arith
 
 loop-again : tie.Need-loop-again Inv-loop μ-loop
 loop-again c =
@@ -113,17 +101,5 @@ returns-3 c =
 pub read-digits-spec : {M : Type 1} → statement M
 read-digits-spec =
     tie.close
-    (tie.spec
-    Inv-loop
-    μ-loop
-    loop-holds
-    shared-slice-read-b
-    returns
-    returns-2
-    mul-value
-    wide-requires
-    add-value
-    add-i
-    loop-less
-    loop-again
-    returns-3)
+    (tie.spec Inv-loop μ-loop loop-holds (λ c. omega arith) returns returns-2 mul-value (λ c κs. search needs) add-value
+    (λ c. omega arith) (λ c. omega arith) loop-again returns-3)

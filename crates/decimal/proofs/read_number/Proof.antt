@@ -20,9 +20,6 @@ returns-2 c =
     let some : 0 < n = omega arith in
     simp (lt-ltb 0 n some, lt-leb n 10 (c .if2 .taken))
 
-has-leading-zero-requires : tie.Need-has-leading-zero-requires
-has-leading-zero-requires c κs = search needs
-
 returns-3 : tie.Need-returns-3
 unfolding numberOf isNumber
 returns-3 c =
@@ -30,9 +27,6 @@ returns-3 c =
     let n = length (d .before .before .before .args .s .now) in
     let some : 0 < n = omega arith in
     simp (lt-ltb 0 n some, le-leb n 10 (d .if2 .left), sym (c .before .has-leading-zero .ensures) ∙ c .if3 .taken)
-
-read-digits-requires : tie.Need-read-digits-requires
-read-digits-requires c κs = search needs
 
 returns-4 : tie.Need-returns-4
 unfolding numberOf isNumber
@@ -44,6 +38,4 @@ returns-4 c =
     (c .read-digits .ensures)
 
 pub read-number-spec : {M : Type 1} → statement M
-read-number-spec =
-    tie.close
-    (tie.spec returns returns-2 has-leading-zero-requires returns-3 read-digits-requires returns-4)
+read-number-spec = tie.close (tie.spec returns returns-2 (λ c κs. search needs) returns-3 (λ c κs. search needs) returns-4)

@@ -9,7 +9,7 @@ use lib.Seq.{append-snoc, set-split, drop-at, length-take-le}
 use borrow.Author.Needs.{needs}
 use Rattle.decimal.specs.Spelling.{digit, spelledNumber}
 use Rattle.decimal.proofs.Digits.{spelled-small, spelled-large, spelled-nonempty, length-large}
-use Rattle.decimal.proofs.Laws.{written-length-all, written-output-all, written-length-none, written-output-none}
+use Rattle.decimal.proofs.Laws.{written-length-all, written-output-all, written-none}
 use Rattle.decimal.proofs.write_number.Statement.{statement}
 use Rattle.decimal.proofs.write_number.Tie as tie
 
@@ -42,16 +42,11 @@ Inv-loop m out₀ n rest₀ k₀ out rest k =
 abbrev μ-loop : tie.MeasureT-loop
 μ-loop m out₀ n rest₀ k₀ out rest k = rest
 
-digit-count-requires : tie.Need-digit-count-requires Inv-loop μ-loop
-digit-count-requires c κs = search needs
-
 returns : tie.Need-returns Inv-loop μ-loop
 returns c =
     let d = c .before in
     let g = d .before .before .args in
-    let s = spelledNumber (g .m) in
-    let short : length (g .out .now) < length s = omega (arith, d .digit-count .ensures) in
-    (sym (written-length-none s (g .out .now) short), sym (written-output-none s (g .out .now) short))
+    written-none (spelledNumber (g .m)) (g .out .now) (omega (arith, d .digit-count .ensures))
 
 loop-holds : tie.Need-loop-holds Inv-loop μ-loop
 loop-holds c = (c .before .digit-count .ensures, omega arith, refl, refl)
@@ -59,17 +54,8 @@ loop-holds c = (c .before .digit-count .ensures, omega arith, refl, refl)
 sub-k : tie.Need-sub-k Inv-loop μ-loop
 sub-k c = omega (arith, spelled-nonempty (c .before .loop .rest))
 
-cast-out : tie.Need-cast-out Inv-loop μ-loop
-cast-out c = omega arith
-
-add-out : tie.Need-add-out Inv-loop μ-loop
-add-out c = omega arith
-
 slice-write-out : tie.Need-slice-write-out Inv-loop μ-loop
 slice-write-out c = omega (arith, spelled-nonempty (c .before .loop .rest))
-
-loop-less : tie.Need-loop-less Inv-loop μ-loop
-loop-less c = omega arith
 
 loop-again : tie.Need-loop-again Inv-loop μ-loop
 loop-again c =
@@ -83,12 +69,6 @@ loop-again c =
       kept ∙ s .inv .2,
       more (s .out) n (s .k) (c .loop-test .taken) some (s .inv .1) ∙ s .inv .3,
     )
-
-cast-out-2 : tie.Need-cast-out-2 Inv-loop μ-loop
-cast-out-2 c = omega arith
-
-add-out-2 : tie.Need-add-out-2 Inv-loop μ-loop
-add-out-2 c = omega arith
 
 slice-write-out-2 : tie.Need-slice-write-out-2 Inv-loop μ-loop
 slice-write-out-2 c = omega (arith, spelled-nonempty (c .before .loop .rest))
@@ -112,20 +92,5 @@ returns-2 c =
 pub write-number-spec : {M : Type 1} → statement M
 write-number-spec =
     tie.close
-    (tie.spec
-    Inv-loop
-    μ-loop
-    digit-count-requires
-    returns
-    loop-holds
-    sub-k
-    cast-out
-    add-out
-    slice-write-out
-    loop-less
-    loop-again
-    cast-out-2
-    add-out-2
-    slice-write-out-2
-    same-length
-    returns-2)
+    (tie.spec Inv-loop μ-loop (λ c κs. search needs) returns loop-holds sub-k (λ c. omega arith) (λ c. omega arith)
+    slice-write-out (λ c. omega arith) loop-again (λ c. omega arith) (λ c. omega arith) slice-write-out-2 same-length returns-2)

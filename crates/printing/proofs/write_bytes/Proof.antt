@@ -23,53 +23,20 @@ Inv-loop s out₀ at i₀ out i = (i ≤ length s) × Remaining out₀ at s out 
 abbrev μ-loop : tie.MeasureT-loop
 μ-loop s out₀ at i₀ out i = length s - i
 
-loop-holds : tie.Need-loop-holds Inv-loop μ-loop
-loop-holds c = (omega arith, first (c .args .out .now) (c .args .at) (c .args .s .now))
-
-shared-slice-read-out : tie.Need-shared-slice-read-out Inv-loop μ-loop
-shared-slice-read-out c = omega arith
-
-add-out : tie.Need-add-out Inv-loop μ-loop
-add-out c = let s = c .before .before .before in omega (arith, s .pre, s .good .1 .0 .0)
-
-slice-write-out : tie.Need-slice-write-out Inv-loop μ-loop
-slice-write-out c = let l = c .before .before in omega (arith, l .before .pre, l .loop .inv .1 .same)
-
-add-i : tie.Need-add-i Inv-loop μ-loop
-add-i c = omega arith
-
-loop-less : tie.Need-loop-less Inv-loop μ-loop
-loop-less c = omega arith
-
-loop-again : tie.Need-loop-again Inv-loop μ-loop
-loop-again c =
-    let l = c .before .before in
-    let s = l .before .args .s .now in
-    let i = l .loop .i in
-    (omega arith, remaining-less (l .loop .inv .1) (getD s i 0 ∷ []) (drop (i + 1) s) _ _ (next s i (c .before .loop-test .taken)) refl (omega arith))
-
-add-result : tie.Need-add-result Inv-loop μ-loop
-add-result c = let s = c .before .before in omega (arith, s .pre, s .good .1 .0 .0)
-
-same-length : tie.Need-same-length Inv-loop μ-loop
-same-length c = c .before .loop .inv .1 .same
-
-returns : tie.Need-returns Inv-loop μ-loop
-returns c = remaining-none (c .before .loop .inv .1) (drop-of-length-le (c .before .before .args .s .now) (c .loop-test .left))
-
 pub write-bytes-spec : {M : Type 1} → statement M
 write-bytes-spec =
     tie.close
-    (tie.spec
-    Inv-loop
-    μ-loop
-    loop-holds
-    shared-slice-read-out
-    add-out
-    slice-write-out
-    add-i
-    loop-less
-    loop-again
-    add-result
-    same-length
-    returns)
+    (tie.spec Inv-loop μ-loop
+    (λ c. (omega arith, first (c .args .out .now) (c .args .at) (c .args .s .now)))
+    (λ c. omega arith)
+    (λ c. let s = c .before .before .before in omega (arith, s .pre, s .good .1 .0 .0))
+    (λ c. let l = c .before .before in omega (arith, l .before .pre, l .loop .inv .1 .same))
+    (λ c. omega arith) (λ c. omega arith)
+    (λ c.
+    let l = c .before .before in
+    let s = l .before .args .s .now in
+    let i = l .loop .i in
+    (omega arith, remaining-less (l .loop .inv .1) (getD s i 0 ∷ []) (drop (i + 1) s) (next s i (c .before .loop-test .taken)) (omega arith) refl))
+    (λ c. let s = c .before .before in omega (arith, s .pre, s .good .1 .0 .0))
+    (λ c. c .before .loop .inv .1 .same)
+    (λ c. remaining-none (c .before .loop .inv .1) (drop-of-length-le (c .before .before .args .s .now) (c .loop-test .left))))

@@ -22,34 +22,24 @@ Inv-loop xs out₀ at place₀ i₀ out place i =
 abbrev μ-loop : tie.MeasureT-loop
 μ-loop xs out₀ at place₀ i₀ out place i = length xs - i
 
-loop-holds : tie.Need-loop-holds Inv-loop μ-loop
-loop-holds c =
-    let g = c .before .args in
-    (omega arith, omega arith, remaining-all (g .out .now) (g .at) (numbersText (g .xs .now)))
-
-mul-x : tie.Need-mul-x Inv-loop μ-loop
-mul-x c = let s = c .before .before .before in omega (arith, s .good .0 .1)
-
-shared-slice-copy-out-x : tie.Need-shared-slice-copy-out-x Inv-loop μ-loop
-shared-slice-copy-out-x c = omega arith
-
-write-integer-field-requires : tie.Need-write-integer-field-requires Inv-loop μ-loop
-write-integer-field-requires c κs =
-    let l = c .before .before .before in
-    omega (arith, l .before .before .pre, l .loop .inv .2 .same)
-
-add-i : tie.Need-add-i Inv-loop μ-loop
-add-i c = let s = c .before .before .before .before .before .before .before .before in omega (arith, s .good .0 .0)
-
-loop-less : tie.Need-loop-less Inv-loop μ-loop
-loop-less c = omega arith
-
 -- the number that is read
 fit : (c : tie.After-x Inv-loop μ-loop) → SFits w32 (getD (c .before .before .before .before .args .xs .now) (c .before .before .loop .i) (pos 0))
 fit c = record { sfits = c .x .given }
 
-loop-again : tie.Need-loop-again Inv-loop μ-loop
-loop-again c =
+pub write-numbers-spec : {M : Type 1} → statement M
+write-numbers-spec =
+    tie.close
+    (tie.spec Inv-loop μ-loop
+    (λ c.
+    let g = c .before .args in
+    (omega arith, omega arith, remaining-all (g .out .now) (g .at) (numbersText (g .xs .now))))
+    (λ c. omega (arith, c .before .before .before .good .0 .1)) (λ c. omega arith)
+    (λ c κs.
+    let l = c .before .before .before in
+    omega (arith, l .before .before .pre, l .loop .inv .2 .same))
+    (λ c. omega (arith, c .before .before .before .before .before .before .before .before .good .0 .0))
+    (λ c. omega arith)
+    (λ c.
     let w = c .before .before in
     let x = w .before .before in
     let l = x .before .before in
@@ -58,39 +48,13 @@ loop-again c =
     let e = simp (same32, fit x) at (w .write-integer-field .ensures) in (
       omega arith,
       omega (arith, e .2),
-      remaining-less (l .loop .inv .2) (9 ∷ spelled (getD xs i (pos 0))) (numbersText (drop (i + 1) xs)) _ _ (numbers-more xs i (x .before .loop-test .taken)) (e .1) (e .0),
-    )
-
-slice-write-out : tie.Need-slice-write-out Inv-loop μ-loop
-slice-write-out c = let l = c .before in omega (arith, l .before .before .pre, l .loop .inv .2 .same)
-
-add-result : tie.Need-add-result Inv-loop μ-loop
-add-result c = let l = c .before in omega (arith, l .before .before .pre, l .before .before .good .1 .0)
-
-same-length : tie.Need-same-length Inv-loop μ-loop
-same-length c = simp length-set (c .before .loop .inv .2 .same)
-
-returns : tie.Need-returns Inv-loop μ-loop
-returns c =
+      remaining-less (l .loop .inv .2) (9 ∷ spelled (getD xs i (pos 0))) (numbersText (drop (i + 1) xs)) (numbers-more xs i (x .before .loop-test .taken)) (e .0) (e .1),
+    ))
+    (λ c. let l = c .before in omega (arith, l .before .before .pre, l .loop .inv .2 .same))
+    (λ c. let l = c .before in omega (arith, l .before .before .pre, l .before .before .good .1 .0))
+    (λ c. simp length-set (c .before .loop .inv .2 .same))
+    (λ c.
     let l = c .before in
-    let xs = l .before .before .args .xs .now in
-    let done = remaining-none (remaining-less (l .loop .inv .2) (10 ∷ []) [] _ (l .loop .place + 1) (numbers-done xs (l .loop .i) (c .loop-test .left)) refl (omega arith)) refl in
-    (done .0, done .1, omega arith)
-
-pub write-numbers-spec : {M : Type 1} → statement M
-write-numbers-spec =
-    tie.close
-    (tie.spec
-    Inv-loop
-    μ-loop
-    loop-holds
-    mul-x
-    shared-slice-copy-out-x
-    write-integer-field-requires
-    add-i
-    loop-less
-    loop-again
-    slice-write-out
-    add-result
-    same-length
-    returns)
+    let end = remaining-less (l .loop .inv .2) (10 ∷ []) [] (numbers-done (l .before .before .args .xs .now) (l .loop .i) (c .loop-test .left)) (omega arith) refl in
+    let done = remaining-none end refl in
+    (done .0, done .1, omega arith)))

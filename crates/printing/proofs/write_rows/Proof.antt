@@ -22,56 +22,33 @@ Inv-loop table rows out₀ at place₀ i₀ out place i =
 abbrev μ-loop : tie.MeasureT-loop
 μ-loop table rows out₀ at place₀ i₀ out place i = rows - i
 
-loop-holds : tie.Need-loop-holds Inv-loop μ-loop
-loop-holds c =
+pub write-rows-spec : {M : Type 1} → statement M
+write-rows-spec =
+    tie.close
+    (tie.spec Inv-loop μ-loop
+    (λ c.
     let g = c .before .args in
-    (omega arith, omega arith, all-rows (g .out .now) (g .at) (g .rows) (g .table .now))
-
-write-row-requires : tie.Need-write-row-requires Inv-loop μ-loop
-write-row-requires c κs =
+    (omega arith, omega arith, all-rows (g .out .now) (g .at) (g .rows) (g .table .now)))
+    (λ c κs.
     let l = c .before .before in
     let s = l .before .before in
-    (omega (arith, s .pre .0), omega (arith, s .pre .1, l .loop .inv .2 .same))
-
-add-i : tie.Need-add-i Inv-loop μ-loop
-add-i c = let s = c .before .before .before .before .before .before .before in omega (arith, s .fits .rows .fits)
-
-loop-less : tie.Need-loop-less Inv-loop μ-loop
-loop-less c = omega arith
-
-loop-again : tie.Need-loop-again Inv-loop μ-loop
-loop-again c =
+    (omega (arith, s .pre .0), omega (arith, s .pre .1, l .loop .inv .2 .same)))
+    (λ c. omega (arith, c .before .before .before .before .before .before .before .fits .rows .fits))
+    (λ c. omega arith)
+    (λ c.
     let w = c .before .before in
     let t = w .before .before in
     let l = t .before in
     let g = l .before .before .args in
     let i = l .loop .i in
-    let text = rowText i (take 5 (drop (i * 5) (g .table .now))) in (
+    let e = w .write-row .ensures in (
       omega arith,
-      omega (arith, w .write-row .ensures .2),
-      remaining-less (l .loop .inv .2) text (rowsFrom (g .rows) (g .table .now) (i + 1)) _ _ (rows-more (g .rows) (g .table .now) i (t .loop-test .taken)) (w .write-row .ensures .1) (w .write-row .ensures .0),
-    )
-
-same-length : tie.Need-same-length Inv-loop μ-loop
-same-length c = c .before .loop .inv .2 .same
-
-returns : tie.Need-returns Inv-loop μ-loop
-returns c =
+      omega (arith, e .2),
+      remaining-less (l .loop .inv .2) (rowText i (take 5 (drop (i * 5) (g .table .now)))) (rowsFrom (g .rows) (g .table .now) (i + 1)) (rows-more (g .rows) (g .table .now) i (t .loop-test .taken)) (e .0) (e .1),
+    ))
+    (λ c. c .before .loop .inv .2 .same)
+    (λ c.
     let l = c .before in
     let g = l .before .before .args in
     let done = remaining-none (l .loop .inv .2) (rows-done (g .rows) (g .table .now) (l .loop .i) (c .loop-test .left)) in
-    (done .0, done .1, omega arith)
-
-pub write-rows-spec : {M : Type 1} → statement M
-write-rows-spec =
-    tie.close
-    (tie.spec
-    Inv-loop
-    μ-loop
-    loop-holds
-    write-row-requires
-    add-i
-    loop-less
-    loop-again
-    same-length
-    returns)
+    (done .0, done .1, omega arith)))

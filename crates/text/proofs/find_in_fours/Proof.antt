@@ -30,89 +30,15 @@ two c = index-step _ _ _ _ (one (c .before .before)) (omega arith) (omega arith)
 three : (c : tie.Else3 Inv-loop μ-loop) → Passed (c .before .before .before .before .before .before) 3
 three c = index-step _ _ _ _ (two (c .before .before)) (omega arith) (omega arith) (c .if3 .left)
 
-loop-holds : tie.Need-loop-holds Inv-loop μ-loop
-loop-holds c = (omega arith, omega arith)
-
-sub-loop : tie.Need-sub-loop Inv-loop μ-loop
-sub-loop c = c .loop .inv .0
-
-shared-slice-read-if1 : tie.Need-shared-slice-read-if1 Inv-loop μ-loop
-shared-slice-read-if1 c = omega arith
-
-returns : tie.Need-returns Inv-loop μ-loop
-returns c = c .before .before .before .loop .inv
-
-add-if2 : tie.Need-add-if2 Inv-loop μ-loop
-add-if2 c = omega arith
-
-shared-slice-read-if2 : tie.Need-shared-slice-read-if2 Inv-loop μ-loop
-shared-slice-read-if2 c = omega arith
-
-add-result : tie.Need-add-result Inv-loop μ-loop
-add-result c = omega arith
-
-returns-2 : tie.Need-returns-2 Inv-loop μ-loop
-returns-2 c = (omega arith, one (c .before .before))
-
-add-if3 : tie.Need-add-if3 Inv-loop μ-loop
-add-if3 c = omega arith
-
-shared-slice-read-if3 : tie.Need-shared-slice-read-if3 Inv-loop μ-loop
-shared-slice-read-if3 c = omega arith
-
-add-result-2 : tie.Need-add-result-2 Inv-loop μ-loop
-add-result-2 c = omega arith
-
-returns-3 : tie.Need-returns-3 Inv-loop μ-loop
-returns-3 c = (omega arith, two (c .before .before))
-
-add-if4 : tie.Need-add-if4 Inv-loop μ-loop
-add-if4 c = omega arith
-
-shared-slice-read-if4 : tie.Need-shared-slice-read-if4 Inv-loop μ-loop
-shared-slice-read-if4 c = omega arith
-
-add-result-3 : tie.Need-add-result-3 Inv-loop μ-loop
-add-result-3 c = omega arith
-
-returns-4 : tie.Need-returns-4 Inv-loop μ-loop
-returns-4 c = (omega arith, three (c .before .before))
-
-add-i : tie.Need-add-i Inv-loop μ-loop
-add-i c = omega arith
-
-loop-less : tie.Need-loop-less Inv-loop μ-loop
-loop-less c = omega arith
-
-loop-again : tie.Need-loop-again Inv-loop μ-loop
-loop-again c = (omega arith, index-step _ _ _ _ (three (c .before .before)) (omega arith) (omega arith) (c .if4 .left))
-
-returns-5 : tie.Need-returns-5 Inv-loop μ-loop
-returns-5 c = c .before .loop .inv
-
 pub find-in-fours-spec : {M : Type 1} → statement M
 find-in-fours-spec =
     tie.close
-    (tie.spec
-    Inv-loop
-    μ-loop
-    loop-holds
-    sub-loop
-    shared-slice-read-if1
-    returns
-    add-if2
-    shared-slice-read-if2
-    add-result
-    returns-2
-    add-if3
-    shared-slice-read-if3
-    add-result-2
-    returns-3
-    add-if4
-    shared-slice-read-if4
-    add-result-3
-    returns-4
-    add-i
-    loop-less
-    loop-again
-    returns-5)
+    (tie.spec Inv-loop μ-loop
+    (λ c. (omega arith, omega arith)) (λ c. c .loop .inv .0)
+    (λ c. omega arith) (λ c. c .before .before .before .loop .inv)
+    (λ c. omega arith) (λ c. omega arith) (λ c. omega arith) (λ c. (omega arith, one (c .before .before)))
+    (λ c. omega arith) (λ c. omega arith) (λ c. omega arith) (λ c. (omega arith, two (c .before .before)))
+    (λ c. omega arith) (λ c. omega arith) (λ c. omega arith) (λ c. (omega arith, three (c .before .before)))
+    (λ c. omega arith) (λ c. omega arith)
+    (λ c. (omega arith, index-step _ _ _ _ (three (c .before .before)) (omega arith) (omega arith) (c .if4 .left)))
+    (λ c. c .before .loop .inv))

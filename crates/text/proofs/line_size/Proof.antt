@@ -18,19 +18,10 @@ found c =
 seen : (c : tie.After-find) → c .before .before .window .result ≡ length (take 64 (c .before .before .before .before .args .s .now))
 seen c = c .before .before .window .ensures ∙ sym (length-take 64 (c .before .before .before .before .args .s .now))
 
-window-requires : tie.Need-window-requires
-window-requires c κs = search needs
-
 slice-aggregate-find : tie.Need-slice-aggregate-find
 slice-aggregate-find c =
     let w = c .before in
     sym (length-take-le _ _ (omega (arith, w .window .ensures)))
-
-find-requires : tie.Need-find-requires
-find-requires c κs = search needs
-
-add-result : tie.Need-add-result
-add-result c = search needs
 
 returns : tie.Need-returns
 returns c =
@@ -47,4 +38,4 @@ returns-2 c =
 pub line-size-spec : {M : Type 1} → statement M
 line-size-spec =
     tie.close
-    (tie.spec window-requires slice-aggregate-find find-requires add-result returns returns-2)
+    (tie.spec (λ c κs. search needs) slice-aggregate-find (λ c κs. search needs) (λ c. search needs) returns returns-2)

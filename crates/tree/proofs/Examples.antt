@@ -12,7 +12,8 @@ use Rattle.interval.specs.declared.LengthTest.{LengthTest}
 use Rattle.model.specs.Lists.{numbers}
 use Rattle.model.specs.Order.{none}
 use Rattle.model.specs.Recognitions.{Operator, event, related, or, absence, lasting}
-use Rattle.tree.specs.Tree.{arityOf, rowBytes, referenceBytes, treeWithin, treeBytes}
+use Rattle.table.specs.Operators.{arityOf}
+use Rattle.tree.specs.Tree.{rowBytes, referenceBytes, treeWithin, treeBytes}
 
 ops : List Operator
 ops = event 1 ∷ related Relation.Seq 0 0 ∷ absence Edges.ClosedOpen 1 0 ∷ lasting LengthTest.Lasts 1 5 ∷ or 2 0 ∷ []

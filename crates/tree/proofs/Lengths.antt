@@ -14,7 +14,8 @@ use Rattle.decimal.specs.Spelling.{spelled}
 use Rattle.decimal.proofs.Laws.{spelled-length-least}
 use Rattle.model.specs.Recognitions.{Operator}
 use Rattle.table.specs.Table.{cell}
-use Rattle.tree.specs.Tree.{arityOf, arityAt, rowBytes, referenceBytes, treeWithin, treeOver, treeBytes, lengthWithin}
+use Rattle.table.specs.Operators.{arityOf}
+use Rattle.tree.specs.Tree.{arityAt, rowBytes, referenceBytes, treeWithin, treeOver, treeBytes, lengthWithin}
 use Rattle.tree.specs.Following.{delimitersOf}
 
 -- an event's row, one of one reference, and one of two

@@ -1,13 +1,12 @@
 -- References and the rows they name: they are lower, and a row's bytes are made of those of its references.
-use Prim.Native.Nat.{ℕ, zero, suc, _*_, _≤_, _<_}
+use Prim.Native.Nat.{ℕ, zero, suc, _≤_, _<_}
 use native.Mathlib.Omega.{arith}
-use native.Mathlib.Nat.{add-zero}
-use mathlib.Core.Path.{_≡_, refl, sym, ap, _∙_}
+use mathlib.Core.Path.{_≡_, refl, ap, _∙_}
 use mathlib.Core.Bool.{true, false}
 use mathlib.Core.Logic.{inl, inr}
 use mathlib.Core.List.{List, map}
 use lib.IntN.{ℤ, pos, negsuc, natAbs}
-use lib.ListN.{length, getD}
+use lib.ListN.{length}
 use lib.Signed.{leZ, ltZ}
 use mir.Syntax.{w32}
 use mir.Val.{SFits, toZ, ofZ}
@@ -17,15 +16,12 @@ use Rattle.chart.specs.declared.Chart.{Chart}
 use Rattle.chart.proofs.Usable.{usable-few}
 use Rattle.model.proofs.Capacity.{capacity-most, capacity-fits}
 use Rattle.table.specs.Table.{cell}
-use Rattle.table.specs.Operators.{operatorsOf}
+use Rattle.table.specs.Operators.{operatorsOf, arityOf, aritiesOf}
 use Rattle.table.specs.Ready.{Ready, Refers}
+use Rattle.table.proofs.Arities.{same-arity, no-event}
 use Rattle.tree.specs.declared.Node.{Node}
-use Rattle.tree.specs.Tree.{arityOf, arityAt, rowBytes, referenceBytes, treeWithin, treeOver, treeBytes}
-use Rattle.tree.specs.Following.{aritiesOf, nodeAt, rowsTo, Followable}
-use Rattle.tree.proofs.Arities.{same-arity, no-event}
-
-pub first-cell : (t : List ℤ) (i : ℕ) → getD t (i * 5) (pos 0) ≡ cell t i 0
-first-cell t i = ap (λ k. getD t k (pos 0)) (sym (add-zero (i * 5)))
+use Rattle.tree.specs.Tree.{arityAt, rowBytes, referenceBytes, treeWithin, treeOver, treeBytes}
+use Rattle.tree.specs.Following.{nodeAt, rowsTo, Followable}
 
 -- references
 refers-lower : (i : ℕ) (z : ℤ) → Refers i z → rowsTo z ≤ i

@@ -9,8 +9,7 @@ use lib.ListN.{length, take, drop, set, length-set}
 use borrow.Author.Needs.{needs}
 use Rattle.interval.proofs.Machine.{same32}
 use Rattle.decimal.specs.Spelling.{spelled}
-use Rattle.decimal.proofs.Laws.{written-length-all}
-use Rattle.tree.proofs.Written.{part-room, part-written}
+use Rattle.decimal.proofs.Written.{part-length, part-written}
 use Rattle.tree.proofs.write_event.Statement.{statement}
 use Rattle.tree.proofs.write_event.Tie as tie
 
@@ -42,7 +41,7 @@ found : (c : tie.After-write-integer) → c .write-integer .result ≡ length (s
 found c =
     let g = c .before .before .before .args in
     let f = c .before .before .before .fits .serial in
-    simp (same32, f) at (c .write-integer .ensures .0) ∙ written-length-all _ _ (part-room (spelled (g .serial)) (set (g .out .now) (g .at) 101) (g .at + 1) (room c))
+    simp (same32, f) at (c .write-integer .ensures .0) ∙ part-length (spelled (g .serial)) (set (g .out .now) (g .at) 101) (g .at + 1) (room c)
 
 written : (c : tie.After-write-integer) →
     let g = c .before .before .before .args in

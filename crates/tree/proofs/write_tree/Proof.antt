@@ -6,10 +6,10 @@ use mir.Syntax.{w32}
 use mir.Val.{toZ}
 use borrow.Author.Needs.{needs}
 use Rattle.interval.proofs.Machine.{same32}
+use Rattle.decimal.proofs.Written.{front-written}
 use Rattle.table.specs.Operators.{operatorsOf}
 use Rattle.tree.specs.Tree.{referenceBytes, treeBytes}
 use Rattle.tree.proofs.References.{row-fits, row-followable, row-tree}
-use Rattle.tree.proofs.Written.{front-written}
 use Rattle.tree.proofs.write_tree.Statement.{statement}
 use Rattle.tree.proofs.write_tree.Tie as tie
 

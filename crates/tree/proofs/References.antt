@@ -78,8 +78,8 @@ module _ (chart : Chart) (rows : ℕ) (t : List ℤ) (ready : Ready chart rows t
   pub row-fits : SFits w32 (pos i)
   row-fits = record { sfits = omega (arith, ready .fit, capacity-most (length t)) }
 
-  pub row-followable : Followable (aritiesOf chart) t (pos i)
-  row-followable = record {
+  followable : Followable (aritiesOf chart) t (pos i)
+  followable = record {
     fit = omega (arith, ready .fit, capacity-fits (length t));
     entryAbove = λ j h. ready .entryAbove j (omega arith);
     entryBelow = λ j h. entry-low j (omega arith);
@@ -87,9 +87,11 @@ module _ (chart : Chart) (rows : ℕ) (t : List ℤ) (ready : Ready chart rows t
     right = λ j h. refers-lower j (cell t j 2) (ready .right j (omega arith));
   }
 
-  pub row-tree : treeOver (aritiesOf chart) t i ≡ treeBytes (operatorsOf chart) t i
-  unfolding treeBytes
-  row-tree = same-trees (aritiesOf chart) (map arityOf (operatorsOf chart)) t (pos i) row-followable (λ j h. arity-same j (omega arith)) (suc i) (suc i) i (omega arith) (omega arith) (omega arith)
+  -- by the arities of the chart's entries, and its number held as a 32-bit number
+  pub row-reference : (arities : List ℕ) → arities ≡ aritiesOf chart → Followable arities t (toZ w32 i) × (referenceBytes (treeOver arities t) (toZ w32 i) ≡ treeBytes (operatorsOf chart) t i)
+  unfolding referenceBytes treeBytes
+  row-reference arities e =
+      rw (e, same32 (pos i) row-fits) (followable, same-trees (aritiesOf chart) (map arityOf (operatorsOf chart)) t (pos i) followable (λ j h. arity-same j (omega arith)) (suc i) (suc i) i (omega arith) (omega arith) (omega arith))
 
 -- l is lower than z, and may be followed
 abbrev pub Follows : List ℕ → List ℤ → ℤ → ℤ → Type 0

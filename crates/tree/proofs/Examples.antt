@@ -1,6 +1,4 @@
 -- Trees as text, computed from the rows of a table: each form of document 01's "Reading".
-use Prim.Native.Nat.{ℕ}
-use Prim.Native.String.{String}
 use mathlib.Core.Path.{_≡_, refl}
 use mathlib.Core.List.{List, [], _∷_, _++_, map}
 use lib.IntN.{ℤ, pos}

@@ -2,7 +2,7 @@
 -- written one behind another.
 use Prim.Native.Nat.{ℕ, _+_, _≤_, _<_, _^_}
 use native.Mathlib.Omega.{arith}
-use mathlib.Core.Path.{_≡_, refl, ap, _∙_}
+use mathlib.Core.Path.{refl, ap, _∙_}
 use mathlib.Core.List.{List, [], _∷_, _++_}
 use lib.IntN.{ℤ}
 use lib.ListN.{length, set, length-append}
@@ -115,14 +115,6 @@ module _ (t : ℕ) where
       let f = fit-right (e (a d) .before) in
       remaining-less (comma d) (R (g (e (a d))) (node (e (a d) .before) .right)) _ _ _ refl (simp (same32, f) at (c .write-reference2 .ensures .1)) (simp (same32, f) at (c .write-reference2 .ensures .0))
 
-  returns : lts.Need-returns claims At reads.Post
-  returns c = none-written _ _ _ _ _ (simp (same32, c .before .before .fits .z) at (c .if1 .taken))
-
-  node-at-requires : lts.Need-node-at-requires claims At reads.Post
-  node-at-requires c κs =
-      let s = c .before .before in
-      is-row _ _ _ (s .pre .1 .0) (s .fits .z) (c .if1 .left)
-
   write-event-requires : lts.Need-write-event-requires claims At reads.Post
   write-event-requires c κs =
       let s = c .before .before in
@@ -154,8 +146,8 @@ pub +write-reference-spec : {M : Type 1} → statement M
     (λ c. index t (c .before .before))
     (λ c. omega (arith, index t (c .before .before), c .before .before .good .1 .1 .1 .0))
     (λ c. search needs)
-    (returns t)
-    (node-at-requires t)
+    (λ c. none-written _ _ _ _ _ (simp (same32, c .before .before .fits .z) at (c .if1 .taken)))
+    (λ c κs. let s = c .before .before in is-row _ _ _ (s .pre .1 .0) (s .fits .z) (c .if1 .left))
     (write-event-requires t)
     (λ c. search needs)
     (returns-2 t)

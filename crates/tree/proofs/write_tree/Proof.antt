@@ -1,6 +1,6 @@
 -- `write_tree` meets its contract: a row number is a reference to the row, which is written at the front.
 use native.Mathlib.Omega.{arith}
-use mathlib.Core.Path.{_≡_, _∙_}
+use mathlib.Core.Path.{_∙_}
 use borrow.Author.Needs.{needs}
 use Rattle.decimal.proofs.Written.{front-written}
 use Rattle.table.specs.Operators.{operatorsOf}

@@ -4,5 +4,5 @@ pub mod Marks
 pub mod OneRow
 pub mod Walk
 pub mod Restored
-pub mod Flags
+pub mod Events
 pub mod Forgetting

@@ -31,12 +31,6 @@ returns c =
     let l = c .before .before .before in
     (omega arith, simp (same32, l .before .fits .floor) at (l .loop .inv .1))
 
-add-i : tie.Need-add-i Inv-loop μ-loop
-add-i c = omega arith
-
-loop-less : tie.Need-loop-less Inv-loop μ-loop
-loop-less c = omega arith
-
 loop-again : tie.Need-loop-again Inv-loop μ-loop
 loop-again c =
     let l = c .before .before .before in
@@ -61,7 +55,7 @@ first-early-spec =
     loop-holds
     is-early-requires
     returns
-    add-i
-    loop-less
+    (λ c. omega arith)
+    (λ c. omega arith)
     loop-again
     returns-2)

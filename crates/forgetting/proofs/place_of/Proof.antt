@@ -34,13 +34,13 @@ sub-result : tie.Need-sub-result
 sub-result c = let s = c .before .before in rw (same32 _ (s .fits .z)) (omega (arith, told c, s .pre (sign (c .before)) .lower))
 
 cast-result : tie.Need-cast-result
-cast-result c = let s = c .before .before in rw (same32 _ (s .fits .z)) (omega (arith, s .pre (sign (c .before)) .few))
+cast-result c = let s = c .before .before in rw (same32 _ (s .fits .z)) (omega (arith, s .pre (sign (c .before)) .entry .few))
 
 returns-2 : tie.Need-returns-2
 returns-2 c =
     let s = c .before .before in
     let z = s .args .z in
-    let few = s .pre (sign (c .before)) .few in
+    let few = s .pre (sign (c .before)) .entry .few in
     rw (same32 _ (s .fits .z)) (toZ-pos w32 (natAbs z - c .shift-at .result) (omega arith) ∙ ap (λ k. pos (natAbs z - k)) (told c) ∙ renumber-some _ z (sign (c .before)))
 
 pub place-of-spec : {M : Type 1} → statement M

@@ -1,7 +1,6 @@
 pub mod References
 pub mod Places
 pub mod Marks
-pub mod OneRow
 pub mod Walk
 pub mod Restored
 pub mod Events

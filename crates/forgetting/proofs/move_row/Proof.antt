@@ -15,9 +15,8 @@ use Rattle.table.specs.declared.Row.{Row}
 use Rattle.table.specs.Table.{putRow}
 use Rattle.table.specs.Ready.{Refers}
 use Rattle.forgetting.specs.Walk.{shiftAt, HasMark}
-use Rattle.forgetting.proofs.References.{refers-below}
+use Rattle.forgetting.proofs.References.{refers-below, moved-event, moved-other}
 use Rattle.forgetting.proofs.Marks.{pos-above}
-use Rattle.forgetting.proofs.OneRow.{moved-event, moved-other}
 use Rattle.forgetting.proofs.move_row.Statement.{statement}
 use Rattle.forgetting.proofs.move_row.Tie as tie
 

@@ -33,9 +33,6 @@ pub rows-to : (z : ℤ) → leZ (pos 0) z ≡ true → rowsTo z ≡ suc (natAbs 
 rows-to (pos i) e = refl
 rows-to (negsuc n) e = never e
 
-pub not-negative : (z : ℤ) → ltZ z (pos 0) ≡ false → leZ (pos 0) z ≡ true
-not-negative z e = omega (arith, signed)
-
 same-reference : (S T : ℕ → List ℕ) (i : ℕ) (z : ℤ) → rowsTo z ≤ i → ((j : ℕ) → j < i → S j ≡ T j) → referenceBytes S z ≡ referenceBytes T z
 unfolding referenceBytes
 same-reference S T i (pos j) h same = same j (omega arith)
@@ -105,7 +102,7 @@ pub record Known (arities : List ℕ) (t : List ℤ) (z : ℤ) (node : Node) : T
 
 module _ (arities : List ℕ) (t : List ℤ) (z : ℤ) (w : Followable arities t z) (fits : SFits w32 z) (test : ltZ (toZ w32 (ofZ w32 z)) (pos 0) ≡ false) where
   up : leZ (pos 0) z ≡ true
-  up = not-negative z (rw (same32 z fits) at test)
+  up = let e = rw (same32 z fits) at test in omega (arith, signed)
 
   low : natAbs z < rowsTo z
   low = omega (arith, rows-to z up)

@@ -1,8 +1,7 @@
 pub mod References
 pub mod Places
 pub mod Marks
-pub mod OneRow
 pub mod Walk
 pub mod Restored
-pub mod Flags
+pub mod Events
 pub mod Forgetting

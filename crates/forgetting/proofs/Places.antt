@@ -1,9 +1,9 @@
 -- Where a row goes: as many rows are kept before it. One row more, and a row that keeps its number. No code here.
-use Prim.Native.Nat.{ℕ, suc, _+_, _-_, _≤_, _<_}
+use Prim.Native.Nat.{ℕ, _+_, _-_, _≤_, _<_}
 use native.Mathlib.Omega.{arith}
 use native.Mathlib.Numerals.{add-one}
-use mathlib.Core.Path.{_≡_, sym, ap, _∙_}
-use mathlib.Core.Bool.{Bool, true, false, cond}
+use mathlib.Core.Path.{_≡_, ap, _∙_}
+use mathlib.Core.Bool.{Bool, true, false}
 use mathlib.Core.List.{List, [], _∷_, _++_, append-nil}
 use lib.ListN.{length, take, drop, length-append, length-take}
 use lib.Seq.{take-suc, take-add}
@@ -11,14 +11,7 @@ use Rattle.model.specs.Lists.{keep}
 use Rattle.model.specs.Order.{Row}
 use Rattle.model.specs.RowSteps.{rowAt, placed}
 use Rattle.model.proofs.Sorted.{keep-append}
-
-keep-le : {A : Type 0} (p : A → Bool) (xs : List A) → length (keep p xs) ≤ length xs
-keep-le p [] = omega arith
-keep-le p (x ∷ xs) = go (p x) (keep-le p xs)
-  where
-    go : (b : Bool) → length (keep p xs) ≤ length xs → length (cond b (x ∷ keep p xs) (keep p xs)) ≤ suc (length xs)
-    go true h = omega arith
-    go false h = omega arith
+use Rattle.model.proofs.History.{keep-length}
 
 -- where a row goes
 module _ (test : Row → Bool) (rs : List Row) where
@@ -40,7 +33,7 @@ module _ (test : Row → Bool) (rs : List Row) where
   placed-fail i h e = ap length (keep-fail i h e)
 
   pub placed-le : (i : ℕ) → placed test rs i ≤ i
-  placed-le i = omega (arith, keep-le test (take i rs), length-take i rs)
+  placed-le i = omega (arith, keep-length test (take i rs), length-take i rs)
 
   placed-add : (j k : ℕ) → placed test rs (j + k) ≡ placed test rs j + length (keep test (take k (drop j rs)))
   placed-add j k = ap (λ l. length (keep test l)) (take-add j k rs) ∙ ap length (keep-append test (take j rs) (take k (drop j rs))) ∙ length-append (keep test (take j rs)) (keep test (take k (drop j rs)))
@@ -55,4 +48,4 @@ module _ (test : Row → Bool) (rs : List Row) where
   pub placed-still : (i j : ℕ) → j ≤ i → placed test rs i ≡ i → placed test rs j ≡ j
   placed-still i j h e =
       let s : i ≡ j + (i - j) = omega arith in
-      omega (arith, placed-add j (i - j), keep-le test (take (i - j) (drop j rs)), length-take (i - j) (drop j rs), placed-le j, ap (placed test rs) s)
+      omega (arith, placed-add j (i - j), keep-length test (take (i - j) (drop j rs)), length-take (i - j) (drop j rs), placed-le j, ap (placed test rs) s)

@@ -4,31 +4,23 @@ use Prim.Native.Nat.{ℕ, _*_, _+_, _-_, _/_, _%_, _≤_, _<_}
 use mathlib.Core.Path.{_≡_}
 use mathlib.Core.Bool.{Bool, true, false, cond}
 use mathlib.Core.List.{List, map}
+use lib.Dec.{eqb}
 use lib.IntN.{ℤ, pos, natAbs}
 use lib.ListN.{length, getD, set, drop}
 use lib.Signed.{leZ}
-use Rattle.chart.specs.declared.Chart.{Chart}
 use Rattle.model.specs.Lists.{keep}
 use Rattle.model.specs.Order.{Row, row}
-use Rattle.model.specs.RowSteps.{isLate, moved, renumber, isEventAt}
+use Rattle.model.specs.RowSteps.{isLate, moved, renumber}
 use Rattle.table.specs.Table.{cell, rowsIn}
-use Rattle.table.specs.Operators.{operatorsOf}
 use Rattle.table.specs.Ready.{Refers}
 
--- whether entry n is an event's, as the walk has it in an array
-abbrev pub eventIn : List Bool → ℕ → Bool
-eventIn events n = getD events n false
+-- whether entry n is an event's: its rows are written with no reference
+abbrev pub eventIn : List ℕ → ℕ → Bool
+eventIn arities n = eqb (getD arities n 0) 0
 
--- the flags of a chart's entries
-abbrev pub FlagsOf : Chart → List Bool → Type 0
-FlagsOf chart events = (n : ℕ) → eventIn events n ≡ isEventAt (operatorsOf chart) n
-
--- the entry column of row j, and how far the row moves that stood there at first, and where to
-abbrev pub entryCell : List ℤ → ℕ → ℤ
-entryCell t j = getD t (j * 5) (pos 0)
-
+-- how far the row moves that stood at place j at first, and where to
 abbrev pub shiftAt : List ℤ → ℕ → ℕ
-shiftAt t j = natAbs (entryCell t j) / 32
+shiftAt t j = natAbs (cell t j 0) / 32
 
 abbrev pub placeAt : List ℤ → ℕ → ℕ
 placeAt t j = j - shiftAt t j
@@ -42,7 +34,7 @@ plainRows n t = map plain (rowsIn n t)
 
 -- the table with this mark at row i, beside its entry
 abbrev pub marked : ℕ → ℕ → List ℤ → List ℤ
-marked i m t = set t (i * 5) (pos (natAbs (entryCell t i) + m))
+marked i m t = set t (i * 5) (pos (natAbs (cell t i 0) + m))
 
 -- a row with its references renumbered by g; the left number of an event's row is a serial
 abbrev pub withReferences : Bool → (ℕ → ℕ) → Row → Row
@@ -73,19 +65,21 @@ pub record RowsReady (event : ℕ → Bool) (rows : ℕ) (t : List ℤ) : Type 0
 abbrev pub AllLate : ℤ → ℕ → List ℤ → Type 0
 AllLate floor n t = (j : ℕ) → j < n → leZ floor (cell t j 3) ≡ true
 
+-- row j is in the table, and its entry column holds no negative number
+pub record HasEntry (t : List ℤ) (j : ℕ) : Type 0 where
+  pub few : j < 65535
+  pub fit : j * 5 + 5 ≤ length t
+  pub above : leZ (pos 0) (cell t j 0) ≡ true
+
 -- what marking row i asks
 pub record Markable (i m : ℕ) (t : List ℤ) : Type 0 where
-  pub few : i < 65535
-  pub fit : i * 5 + 5 ≤ length t
+  pub entry : HasEntry t i
   pub most : m ≤ i * 32
-  pub above : leZ (pos 0) (entryCell t i) ≡ true
-  pub below : natAbs (entryCell t i) < 32
+  pub below : natAbs (cell t i 0) < 32
 
 -- row j has its mark
 pub record HasMark (t : List ℤ) (j : ℕ) : Type 0 where
-  pub few : j < 65535
-  pub fit : j * 5 + 5 ≤ length t
-  pub above : leZ (pos 0) (entryCell t j) ≡ true
+  pub entry : HasEntry t j
   pub lower : shiftAt t j ≤ j
 
 -- what moving row i, of entry e, to place p asks
@@ -103,8 +97,8 @@ pub record Restorable (first n : ℕ) (t : List ℤ) : Type 0 where
   pub low : first ≤ n
   pub few : n ≤ 65535
   pub fit : n * 5 ≤ length t
-  pub above : (j : ℕ) → j < n → leZ (pos 0) (entryCell t j) ≡ true
-  pub plain : (j : ℕ) → j < first → natAbs (entryCell t j) < 32
+  pub above : (j : ℕ) → j < n → leZ (pos 0) (cell t j 0) ≡ true
+  pub plain : (j : ℕ) → j < first → natAbs (cell t j 0) < 32
 
 -- n rows are kept of the first rows of the table t, and u is the table with them, still marked
 pub record Sifted (event : ℕ → Bool) (floor : ℤ) (first rows : ℕ) (t : List ℤ) (n : ℕ) (u : List ℤ) : Type 0 where

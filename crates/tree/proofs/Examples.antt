@@ -1,6 +1,4 @@
 -- Trees as text, computed from the rows of a table: each form of document 01's "Reading".
-use Prim.Native.Nat.{ℕ}
-use Prim.Native.String.{String}
 use mathlib.Core.Path.{_≡_, refl}
 use mathlib.Core.List.{List, [], _∷_, _++_, map}
 use lib.IntN.{ℤ, pos}
@@ -12,7 +10,8 @@ use Rattle.interval.specs.declared.LengthTest.{LengthTest}
 use Rattle.model.specs.Lists.{numbers}
 use Rattle.model.specs.Order.{none}
 use Rattle.model.specs.Recognitions.{Operator, event, related, or, absence, lasting}
-use Rattle.tree.specs.Tree.{arityOf, rowBytes, referenceBytes, treeWithin, treeBytes}
+use Rattle.table.specs.Operators.{arityOf}
+use Rattle.tree.specs.Tree.{rowBytes, referenceBytes, treeWithin, treeBytes}
 
 ops : List Operator
 ops = event 1 ∷ related Relation.Seq 0 0 ∷ absence Edges.ClosedOpen 1 0 ∷ lasting LengthTest.Lasts 1 5 ∷ or 2 0 ∷ []

@@ -1,5 +1,5 @@
 -- How many bytes a row has, from those of its references, and what a length within a limit says.
-use Prim.Native.Nat.{ℕ, zero, suc, _+_, _-_, _≤_, _<_}
+use Prim.Native.Nat.{ℕ, zero, suc, _+_, _≤_, _<_}
 use native.Mathlib.Omega.{arith}
 use native.Mathlib.Decide.{ℕ-discrete}
 use mathlib.Core.Path.{_≡_, refl, sym, _∙_}
@@ -14,23 +14,24 @@ use Rattle.decimal.specs.Spelling.{spelled}
 use Rattle.decimal.proofs.Laws.{spelled-length-least}
 use Rattle.model.specs.Recognitions.{Operator}
 use Rattle.table.specs.Table.{cell}
-use Rattle.tree.specs.Tree.{arityOf, arityAt, rowBytes, referenceBytes, treeWithin, treeOver, treeBytes, lengthWithin}
+use Rattle.table.specs.Operators.{arityOf}
+use Rattle.tree.specs.Tree.{arityAt, rowBytes, referenceBytes, treeWithin, treeOver, treeBytes, lengthWithin}
 use Rattle.tree.specs.Following.{delimitersOf}
 
--- an event's row, one of one reference, and one of two
+-- an event's row
 pub event-bytes : (a : ℕ) (s : ℤ) (l r : List ℕ) → a ≡ 0 → rowBytes a s l r ≡ 101 ∷ spelled s
 unfolding rowBytes
 event-bytes a s l r e = rw e
 
-pub one-bytes : (a : ℕ) (s : ℤ) (l r : List ℕ) → a ≡ 1 → rowBytes a s l r ≡ 60 ∷ l ++ 62 ∷ []
-unfolding rowBytes
-one-bytes a s l r e = rw e
+-- what follows the first reference of a row of one or two: r are the bytes of the second
+abbrev pub restOf : ℕ → List ℕ → List ℕ
+restOf a r = cond (eqb a 1) (62 ∷ []) (44 ∷ r ++ 62 ∷ [])
 
-pub two-bytes : (a : ℕ) (s : ℤ) (l r : List ℕ) → (a ≡ 0 → ⊥) → (a ≡ 1 → ⊥) → rowBytes a s l r ≡ 60 ∷ l ++ (44 ∷ r ++ 62 ∷ [])
+pub row-pieces : (a : ℕ) (s : ℤ) (l r : List ℕ) → (a ≡ 0 → ⊥) → rowBytes a s l r ≡ 60 ∷ l ++ restOf a r
 unfolding rowBytes
-two-bytes zero s l r d h = absurd (d refl)
-two-bytes (suc zero) s l r d h = absurd (h refl)
-two-bytes (suc (suc a)) s l r d h = refl
+row-pieces zero s l r d = absurd (d refl)
+row-pieces (suc zero) s l r d = refl
+row-pieces (suc (suc a)) s l r d = rw (ne-eqb (suc (suc a)) 1 (λ e. omega arith))
 
 row-some : (a : ℕ) (s : ℤ) (l r : List ℕ) → 2 ≤ length (rowBytes a s l r)
 unfolding rowBytes
@@ -84,49 +85,17 @@ unfolding referenceBytes
 none-within arities t limit (pos n) e h = absurd (omega (arith, ltb-true n 0 e))
 none-within arities t limit (negsuc n) e h = is-within limit (95 ∷ []) 1 refl (omega arith)
 
-pub delimiters-least : (a : ℕ) → 2 ≤ delimitersOf a
-delimiters-least a = by (eqb a 1)
-  where
-    by : (x : Bool) → 2 ≤ cond x 2 3
-    by true = omega arith
-    by false = omega arith
+-- the bytes b of a row with references: l and r are those of its references, and n is how many there are besides
+module _ (a : ℕ) (s : ℤ) (l r b : List ℕ) (is : b ≡ rowBytes a s l r) (d : a ≡ 0 → ⊥) (n : ℕ) (count : n ≡ delimitersOf a) where
+  pub one-length : a ≡ 1 → length b ≡ n + length l
+  one-length e = rw (is, count, row-pieces a s l r d, eq-eqb a 1 e) (omega (arith, length-append l (62 ∷ [])))
 
--- the bytes b of a row with references: l and r are those of its references
-module _ (a : ℕ) (s : ℤ) (l r b : List ℕ) (is : b ≡ rowBytes a s l r) (d : a ≡ 0 → ⊥) where
-  pub one-length : a ≡ 1 → length b ≡ delimitersOf a + length l
-  one-length e = rw (is, one-bytes a s l r e, eq-eqb a 1 e) (simp length-append (omega arith))
+  pub two-length : (a ≡ 1 → ⊥) → length b ≡ n + length l + length r
+  two-length h = rw (is, count, row-pieces a s l r d, ne-eqb a 1 h) (omega (arith, length-append l (44 ∷ r ++ 62 ∷ []), length-append r (62 ∷ [])))
 
-  pub two-length : (a ≡ 1 → ⊥) → length b ≡ delimitersOf a + length l + length r
-  two-length h = rw (is, two-bytes a s l r d h, ne-eqb a 1 h) (simp length-append (omega arith))
-
-  pub least-length : delimitersOf a + length l ≤ length b
+  pub least-length : n + length l ≤ length b
   least-length = by-arity (ℕ-discrete a 1)
     where
-      by-arity : Dec (a ≡ 1) → delimitersOf a + length l ≤ length b
+      by-arity : Dec (a ≡ 1) → n + length l ≤ length b
       by-arity (yes e) = omega (arith, one-length e)
       by-arity (no h) = omega (arith, two-length h)
-
-  -- n bytes of the first reference and m of the second were found within the limit
-  module _ (limit delimiters : ℕ) (count : delimiters ≡ delimitersOf a) where
-    pub row-short : limit < delimiters → 0 ≡ lengthWithin limit b
-    row-short h = is-over limit b (omega (arith, least-length))
-
-    module _ (n : ℕ) (found : n ≡ lengthWithin (limit - delimiters) l) (room : delimiters ≤ limit) where
-      pub left-over : 1 ≤ length l → n ≡ 0 → 0 ≡ lengthWithin limit b
-      left-over some h = is-over limit b (omega (arith, least-length, over-told (limit - delimiters) l n found some h))
-
-      module _ (h : n ≡ 0 → ⊥) where
-        pub left-within : (n ≡ length l) × (delimiters + n ≤ limit)
-        left-within = let w = within-told (limit - delimiters) l n found h in (w .0, omega arith)
-
-        pub one-within : a ≡ 1 → delimiters + n ≡ lengthWithin limit b
-        one-within e = is-within limit b (delimiters + n) (omega (arith, one-length e, left-within)) (omega (arith, one-length e, left-within))
-
-        module _ (m : ℕ) (found′ : m ≡ lengthWithin (limit - (delimiters + n)) r) (d′ : a ≡ 1 → ⊥) where
-          pub right-over : 1 ≤ length r → m ≡ 0 → 0 ≡ lengthWithin limit b
-          right-over some k = is-over limit b (omega (arith, two-length d′, left-within, over-told (limit - (delimiters + n)) r m found′ some k))
-
-          pub right-within : (m ≡ 0 → ⊥) → (delimiters + n + m ≡ lengthWithin limit b) × (delimiters + n + m ≤ limit)
-          right-within k =
-              let w = within-told (limit - (delimiters + n)) r m found′ k in
-              (is-within limit b (delimiters + n + m) (omega (arith, two-length d′, left-within)) (omega (arith, two-length d′, left-within)), omega (arith, left-within))

@@ -12,8 +12,9 @@ use Rattle.model.specs.RowSteps.{rowAt}
 use Rattle.model.specs.Statements.{OperatorAt, Asks, IsWithin, Reads}
 use Rattle.model.proofs.RowStepLaws.{reads-event, reads-one, reads-two}
 use Rattle.table.specs.Table.{cell, tableRow, rowsIn}
+use Rattle.table.specs.Operators.{arityOf}
 use Rattle.table.proofs.Rows.{row-at}
-use Rattle.tree.specs.Tree.{recognitionBytes, arityOf, rowBytes, referenceBytes, treeWithin, treeBytes, TreeHolds}
+use Rattle.tree.specs.Tree.{recognitionBytes, rowBytes, referenceBytes, treeWithin, treeBytes, TreeHolds}
 
 arity-told : (ops : List Operator) (n : ℕ) (op : Operator) → OperatorAt ops n op → getD (map arityOf ops) n 0 ≡ arityOf op
 arity-told [] n op h = absurd h

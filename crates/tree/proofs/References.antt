@@ -1,13 +1,12 @@
 -- References and the rows they name: they are lower, and a row's bytes are made of those of its references.
-use Prim.Native.Nat.{ℕ, zero, suc, _*_, _≤_, _<_}
+use Prim.Native.Nat.{ℕ, zero, suc, _≤_, _<_}
 use native.Mathlib.Omega.{arith}
-use native.Mathlib.Nat.{add-zero}
-use mathlib.Core.Path.{_≡_, refl, sym, ap, _∙_}
+use mathlib.Core.Path.{_≡_, refl, ap, _∙_}
 use mathlib.Core.Bool.{true, false}
 use mathlib.Core.Logic.{inl, inr}
 use mathlib.Core.List.{List, map}
 use lib.IntN.{ℤ, pos, negsuc, natAbs}
-use lib.ListN.{length, getD}
+use lib.ListN.{length}
 use lib.Signed.{leZ, ltZ}
 use mir.Syntax.{w32}
 use mir.Val.{SFits, toZ, ofZ}
@@ -17,15 +16,12 @@ use Rattle.chart.specs.declared.Chart.{Chart}
 use Rattle.chart.proofs.Usable.{usable-few}
 use Rattle.model.proofs.Capacity.{capacity-most, capacity-fits}
 use Rattle.table.specs.Table.{cell}
-use Rattle.table.specs.Operators.{operatorsOf}
+use Rattle.table.specs.Operators.{operatorsOf, arityOf, aritiesOf}
 use Rattle.table.specs.Ready.{Ready, Refers}
+use Rattle.table.proofs.Arities.{same-arity, no-event}
 use Rattle.tree.specs.declared.Node.{Node}
-use Rattle.tree.specs.Tree.{arityOf, arityAt, rowBytes, referenceBytes, treeWithin, treeOver, treeBytes}
-use Rattle.tree.specs.Following.{aritiesOf, nodeAt, rowsTo, Followable}
-use Rattle.tree.proofs.Arities.{same-arity, no-event}
-
-pub first-cell : (t : List ℤ) (i : ℕ) → getD t (i * 5) (pos 0) ≡ cell t i 0
-first-cell t i = ap (λ k. getD t k (pos 0)) (sym (add-zero (i * 5)))
+use Rattle.tree.specs.Tree.{arityAt, rowBytes, referenceBytes, treeWithin, treeOver, treeBytes}
+use Rattle.tree.specs.Following.{nodeAt, rowsTo, Followable}
 
 -- references
 refers-lower : (i : ℕ) (z : ℤ) → Refers i z → rowsTo z ≤ i
@@ -36,9 +32,6 @@ refers-lower i (negsuc n) h = omega arith
 pub rows-to : (z : ℤ) → leZ (pos 0) z ≡ true → rowsTo z ≡ suc (natAbs z)
 rows-to (pos i) e = refl
 rows-to (negsuc n) e = never e
-
-pub not-negative : (z : ℤ) → ltZ z (pos 0) ≡ false → leZ (pos 0) z ≡ true
-not-negative z e = omega (arith, signed)
 
 same-reference : (S T : ℕ → List ℕ) (i : ℕ) (z : ℤ) → rowsTo z ≤ i → ((j : ℕ) → j < i → S j ≡ T j) → referenceBytes S z ≡ referenceBytes T z
 unfolding referenceBytes
@@ -82,8 +75,8 @@ module _ (chart : Chart) (rows : ℕ) (t : List ℤ) (ready : Ready chart rows t
   pub row-fits : SFits w32 (pos i)
   row-fits = record { sfits = omega (arith, ready .fit, capacity-most (length t)) }
 
-  pub row-followable : Followable (aritiesOf chart) t (pos i)
-  row-followable = record {
+  followable : Followable (aritiesOf chart) t (pos i)
+  followable = record {
     fit = omega (arith, ready .fit, capacity-fits (length t));
     entryAbove = λ j h. ready .entryAbove j (omega arith);
     entryBelow = λ j h. entry-low j (omega arith);
@@ -91,9 +84,11 @@ module _ (chart : Chart) (rows : ℕ) (t : List ℤ) (ready : Ready chart rows t
     right = λ j h. refers-lower j (cell t j 2) (ready .right j (omega arith));
   }
 
-  pub row-tree : treeOver (aritiesOf chart) t i ≡ treeBytes (operatorsOf chart) t i
-  unfolding treeBytes
-  row-tree = same-trees (aritiesOf chart) (map arityOf (operatorsOf chart)) t (pos i) row-followable (λ j h. arity-same j (omega arith)) (suc i) (suc i) i (omega arith) (omega arith) (omega arith)
+  -- by the arities of the chart's entries, and its number held as a 32-bit number
+  pub row-reference : (arities : List ℕ) → arities ≡ aritiesOf chart → Followable arities t (toZ w32 i) × (referenceBytes (treeOver arities t) (toZ w32 i) ≡ treeBytes (operatorsOf chart) t i)
+  unfolding referenceBytes treeBytes
+  row-reference arities e =
+      rw (e, same32 (pos i) row-fits) (followable, same-trees (aritiesOf chart) (map arityOf (operatorsOf chart)) t (pos i) followable (λ j h. arity-same j (omega arith)) (suc i) (suc i) i (omega arith) (omega arith) (omega arith))
 
 -- l is lower than z, and may be followed
 abbrev pub Follows : List ℕ → List ℤ → ℤ → ℤ → Type 0
@@ -107,7 +102,7 @@ pub record Known (arities : List ℕ) (t : List ℤ) (z : ℤ) (node : Node) : T
 
 module _ (arities : List ℕ) (t : List ℤ) (z : ℤ) (w : Followable arities t z) (fits : SFits w32 z) (test : ltZ (toZ w32 (ofZ w32 z)) (pos 0) ≡ false) where
   up : leZ (pos 0) z ≡ true
-  up = not-negative z (rw (same32 z fits) at test)
+  up = let e = rw (same32 z fits) at test in omega (arith, signed)
 
   low : natAbs z < rowsTo z
   low = omega (arith, rows-to z up)

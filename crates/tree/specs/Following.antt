@@ -2,17 +2,13 @@
 use Prim.Native.Nat.{ℕ, suc, _*_, _≤_, _<_}
 use mathlib.Core.Path.{_≡_}
 use mathlib.Core.Bool.{true, cond}
-use mathlib.Core.List.{List, map}
+use mathlib.Core.List.{List}
 use lib.Dec.{eqb}
 use lib.IntN.{ℤ, pos, negsuc, natAbs}
 use lib.ListN.{length}
 use lib.Signed.{leZ}
-use Rattle.chart.specs.Charts.{entryAt}
-use Rattle.chart.specs.declared.Chart.{Chart}
-use Rattle.model.specs.Lists.{numbers}
 use Rattle.table.specs.Table.{cell}
-use Rattle.table.specs.Operators.{entryOperator}
-use Rattle.tree.specs.Tree.{arityOf, arityAt}
+use Rattle.tree.specs.Tree.{arityAt}
 use Rattle.tree.specs.declared.Node.{Node}
 
 -- what row i's tree is made of

@@ -132,12 +132,11 @@ fn node_at(arities: &[u8; 32], table: &[i32], z: i32) -> Node
     requires { ⌜ Followable (now arities) (now table) z × (leZ (pos 0) z ≡ true) ⌝ }
     ensures { λ r. ⌜ r ≡ nodeAt (now (arities .entry)) (now (table .entry)) (natAbs z) ⌝ }
 {
-    let at = (z as usize) * 5;
-    let entry = table[at];
-    let n = entry as usize;
-    let arity = arities[n];
-    let left = table[at + 1];
-    let right = table[at + 2];
+    let row = table::row_at(table, z as usize);
+    let entry = row.entry as usize;
+    let arity = arities[entry];
+    let left = row.left;
+    let right = row.right;
     Node { arity, left, right }
 }
 

@@ -20,22 +20,8 @@ Inv-loop table rows floor i₀ i = (i ≤ rows) × AllLate (toZ w32 floor) i tab
 abbrev μ-loop : tie.MeasureT-loop
 μ-loop table rows floor i₀ i = rows - i
 
-loop-holds : tie.Need-loop-holds Inv-loop μ-loop
-loop-holds c = (omega arith, λ j h. absurd (omega arith))
-
-is-early-requires : tie.Need-is-early-requires Inv-loop μ-loop
-is-early-requires c κs = (omega arith, omega arith)
-
-returns : tie.Need-returns Inv-loop μ-loop
-returns c =
-    let l = c .before .before .before in
-    (omega arith, simp (same32, l .before .fits .floor) at (l .loop .inv .1))
-
-add-i : tie.Need-add-i Inv-loop μ-loop
-add-i c = omega arith
-
-loop-less : tie.Need-loop-less Inv-loop μ-loop
-loop-less c = omega arith
+passed : (c : tie.At-loop Inv-loop μ-loop) → AllLate (c .before .args .floor) (c .loop .i) (c .before .args .table .now)
+passed c = simp (same32, c .before .fits .floor) at (c .loop .inv .1)
 
 loop-again : tie.Need-loop-again Inv-loop μ-loop
 loop-again c =
@@ -47,21 +33,16 @@ loop-again c =
     let late : leZ floor start ≡ true = omega (arith, signed) in
     (omega arith, below-more _ _ (l .loop .inv .1) late)
 
-returns-2 : tie.Need-returns-2 Inv-loop μ-loop
-returns-2 c =
-    let l = c .before in
-    (omega arith, simp (same32, l .before .fits .floor) at (l .loop .inv .1))
-
 pub first-early-spec : {M : Type 1} → statement M
 first-early-spec =
     tie.close
     (tie.spec
     Inv-loop
     μ-loop
-    loop-holds
-    is-early-requires
-    returns
-    add-i
-    loop-less
+    (λ c. (omega arith, λ j h. absurd (omega arith)))
+    (λ c κs. (omega arith, omega arith))
+    (λ c. (omega arith, passed (c .before .before .before)))
+    (λ c. omega arith)
+    (λ c. omega arith)
     loop-again
-    returns-2)
+    (λ c. (omega arith, passed (c .before))))

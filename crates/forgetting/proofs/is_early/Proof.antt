@@ -7,21 +7,6 @@ use Rattle.table.specs.Table.{cell}
 use Rattle.forgetting.proofs.is_early.Statement.{statement}
 use Rattle.forgetting.proofs.is_early.Tie as tie
 
-mul-start : tie.Need-mul-start
-mul-start c = search needs
-
-add-start : tie.Need-add-start
-add-start c = search needs
-
-mul-start-2 : tie.Need-mul-start-2
-mul-start-2 c = search needs
-
-shared-slice-copy-out-start : tie.Need-shared-slice-copy-out-start
-shared-slice-copy-out-start c = search needs
-
-is-before-requires : tie.Need-is-before-requires
-is-before-requires c κs = search needs
-
 returns : tie.Need-returns
 returns c =
     let s = c .before .before in
@@ -32,9 +17,9 @@ pub is-early-spec : {M : Type 1} → statement M
 is-early-spec =
     tie.close
     (tie.spec
-    mul-start
-    add-start
-    mul-start-2
-    shared-slice-copy-out-start
-    is-before-requires
+    (λ c. search needs)
+    (λ c. search needs)
+    (λ c. search needs)
+    (λ c. search needs)
+    (λ c κs. search needs)
     returns)

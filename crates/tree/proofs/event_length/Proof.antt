@@ -9,21 +9,15 @@ use Rattle.tree.proofs.Lengths.{is-over, is-within}
 use Rattle.tree.proofs.event_length.Statement.{statement}
 use Rattle.tree.proofs.event_length.Tie as tie
 
-integer-length-requires : tie.Need-integer-length-requires
-integer-length-requires c κs = search needs
-
-add-result : tie.Need-add-result
-add-result c = search needs
-
 -- the length of the spelling
 found : (c : tie.After-integer-length) → c .integer-length .result ≡ length (spelled (c .before .args .serial))
 found c = simp (same32, c .before .fits .serial) at (c .integer-length .ensures)
 
-returns : tie.Need-returns
-returns c = is-within _ _ _ (omega (arith, found (c .before))) (omega (arith, found (c .before)))
-
-returns-2 : tie.Need-returns-2
-returns-2 c = is-over _ _ (omega (arith, found (c .before)))
-
 pub event-length-spec : {M : Type 1} → statement M
-event-length-spec = tie.close (tie.spec integer-length-requires add-result returns returns-2)
+event-length-spec =
+    tie.close
+    (tie.spec
+    (λ c κs. search needs)
+    (λ c. search needs)
+    (λ c. is-within _ _ _ (omega (arith, found (c .before))) (omega (arith, found (c .before))))
+    (λ c. is-over _ _ (omega (arith, found (c .before)))))

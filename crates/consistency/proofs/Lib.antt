@@ -1,2 +1,5 @@
 pub mod Tests
 pub mod Rows
+pub mod Ready
+pub mod Theorems
+pub mod Examples

@@ -43,7 +43,7 @@ and-swap : (a b : Bool) → (a && b) ≡ (b && a)
 and-swap true b = and-same b
 and-swap false b = sym (and-false b)
 
-and-group : (a b c : Bool) → ((a && b) && c) ≡ (a && (b && c))
+pub and-group : (a b c : Bool) → ((a && b) && c) ≡ (a && (b && c))
 and-group true b c = refl
 and-group false b c = refl
 

@@ -1,0 +1,162 @@
+-- Watches and tables, each cause of document 01's paragraph "Out of joint" beside its nearest neighbour that is none. One list of cases, one
+-- theorem that the checker computes. What must come out was found by hand from document 01. No contract says as much, since the code and its
+-- contract share the definitions. Crate `watch` has the same list answered with 13 and 0.
+use Prim.Native.Nat.{ℕ}
+use Prim.Native.String.{String}
+use mathlib.Core.Path.{_≡_, refl}
+use mathlib.Core.Bool.{Bool, true, false}
+use mathlib.Core.List.{List, [], _∷_, _++_, map}
+use lib.IntN.{ℤ, pos, negℤ}
+use lib.ListN.{length, replicate}
+use Rattle.interval.specs.Instants.{isInstant, isLength}
+use Rattle.interval.specs.Conditions.{isRelated, hasLength}
+use Rattle.text.specs.Text.{split, lines}
+use Rattle.text.specs.Quoted.{bytes, tabbed, unended, text}
+use Rattle.decimal.specs.Spelling.{isDigit, allDigits, valueFrom, hasLeadingZero, isNumber, numberOf, withoutMinus, withMinus, instantOf}
+use Rattle.decimal.specs.declared.Instant.{Instant}
+use Rattle.chart.specs.Operators.{words, sameBytes, placeOf, operatorOf, edgesOf, relationOf, lengthTestOf, kindOf, inRange, areLower}
+use Rattle.chart.specs.Records.{withCode, eventLine, withOperands, secondOperand, operandsLine, byOperator, operatorLine, numbered, parsedLine, checkedEntry, checkedLine, answerTo}
+use Rattle.chart.specs.Charts.{noEntries, withEntry, refusedChart, readLines, orNoLine, readChart, allBelow}
+use Rattle.chart.specs.declared.Chart.{Chart}
+use Rattle.state.specs.declared.WatchState.{WatchState}
+use Rattle.model.specs.Lists.{each}
+use Rattle.model.specs.Capacity.{capacity}
+use Rattle.table.specs.Table.{rowsIn, areZeros}
+use Rattle.table.specs.Operators.{operatorBy, operatorsOf}
+use Rattle.consistency.specs.Consistency.{isWatchInRange, isTableRowConsistent, areConsistent}
+
+-- a chart, from its lines
+abbrev pub chartOf : List String → Chart
+chartOf ls = (readChart (text ls)) .chart
+
+-- a table, from its rows as document 01 shows them
+abbrev pub numberIn : Instant → ℤ
+numberIn (Instant.Value z) = z
+numberIn Instant.Malformed = pos 0
+
+abbrev pub table : List String → List ℤ
+table rs = each (λ (r : String). map (λ (f : List ℕ). numberIn (instantOf f)) (split 9 (unended r))) rs
+
+abbrev pub minus : ℕ → ℤ
+minus n = negℤ (pos n)
+
+-- open instant, floor, counts of events, rows and pending events, whose codes are not looked at
+abbrev stateOf : ℤ → ℤ → ℕ → ℕ → ℕ → WatchState
+stateOf o f events rows pending = record { instant = o; floor = f; events = events; rows = rows; pending = pending; codes = replicate 64 0 }
+
+-- chart, watch and table, and whether they are consistent
+pub record Case : Type 0 where
+  pub chart : Chart
+  pub state : WatchState
+  pub table : List ℤ
+  pub consistent : Bool
+
+-- "open instant or floor out of range; floor above open; over 64 pending events, more pending than counted, or a count above 1,000,000". An open
+-- instant below the range has its floor below the range or above it.
+abbrev watches : List Case
+watches =
+    -- open instant, floor, events, pending events
+    watch (pos 1000000000) (pos 0) 0 0 true ∷
+    watch (pos 1000000001) (pos 0) 0 0 false ∷
+    watch (minus 1000000000) (minus 1000000000) 0 0 true ∷
+    watch (minus 1000000001) (minus 1000000000) 0 0 false ∷
+    watch (minus 1000000001) (minus 1000000001) 0 0 false ∷
+    watch (pos 0) (minus 1000000000) 0 0 true ∷
+    watch (pos 0) (minus 1000000001) 0 0 false ∷
+    watch (pos 1000000001) (pos 1000000001) 0 0 false ∷
+    watch (pos 3) (pos 3) 0 0 true ∷
+    watch (pos 3) (pos 4) 0 0 false ∷
+    watch (pos 0) (pos 0) 65 64 true ∷
+    watch (pos 0) (pos 0) 65 65 false ∷
+    watch (pos 0) (pos 0) 2 2 true ∷
+    watch (pos 0) (pos 0) 1 2 false ∷
+    watch (pos 0) (pos 0) 1000000 0 true ∷
+    watch (pos 0) (pos 0) 1000001 0 false ∷ []
+  where
+    watch : ℤ → ℤ → ℕ → ℕ → Bool → Case
+    watch o f events pending b = record { chart = chartOf ("0 event 1" ∷ []); state = stateOf o f events 0 pending; table = table ("0 0 0 0 0" ∷ []); consistent = b }
+
+-- "more rows than fit; an unused row that is not all zeros". One row is in use. The numbers after the last row that the table can hold are not looked at.
+abbrev sizes : List Case
+sizes =
+    size ("0 1 -1 0 0" ∷ []) true ∷
+    size ("0 1 -1 0" ∷ []) false ∷
+    size ("0 1 -1 0 0" ∷ "0 0 0 0 0" ∷ "0 0 0 0 0" ∷ []) true ∷
+    size ("0 1 -1 0 0" ∷ "1 0 0 0 0" ∷ "0 0 0 0 0" ∷ []) false ∷
+    size ("0 1 -1 0 0" ∷ "0 0 0 0 -1" ∷ "0 0 0 0 0" ∷ []) false ∷
+    size ("0 1 -1 0 0" ∷ "0 0 0 0 0" ∷ "1 0 0 0 0" ∷ []) false ∷
+    size ("0 1 -1 0 0" ∷ "0 0 0 0 0" ∷ "0 0 0 0 1" ∷ []) false ∷
+    size ("0 1 -1 0 0" ∷ "0 0 0 0 0" ∷ "1 2 3 4" ∷ []) true ∷ []
+  where
+    size : List String → Bool → Case
+    size rs b = record { chart = chartOf ("0 event 1" ∷ []); state = stateOf (pos 1) (pos 0) 1 1 0; table = table rs; consistent = b }
+
+-- Rows. There are four events, of codes 1 and 2 at 0 and again at 5; the floor is -1 and the open instant 7. Five rows stand in front of the one that is
+-- looked at: four of events, and one of `seq`, from 0 to 5. Behind it is an unused one.
+abbrev chart7 : Chart
+chart7 = chartOf (
+    "0 event 1" ∷
+    "1 event 2" ∷
+    "2 seq 0 1" ∷
+    "3 or 0 1" ∷
+    "4 -[] 2 1" ∷
+    "5 atmost 2 6" ∷
+    "6 atmost 2 5" ∷ [])
+
+abbrev rows5 : List String
+rows5 =
+    "0 1 -1 0 0" ∷
+    "1 2 -1 0 0" ∷
+    "0 3 -1 5 5" ∷
+    "1 4 -1 5 5" ∷
+    "2 0 3 0 5" ∷ []
+
+abbrev tableOf : List String → Bool → Case
+tableOf rs b = record { chart = chart7; state = stateOf (pos 7) (minus 1) 4 (length rs) 0; table = table (rs ++ "0 0 0 0 0" ∷ []); consistent = b }
+
+abbrev good : String → Case
+good r = tableOf (rows5 ++ r ∷ []) true
+
+abbrev bad : String → Case
+bad r = tableOf (rows5 ++ r ∷ []) false
+
+abbrev rows : List Case
+rows =
+    -- "a row whose entry is not in the chart"; 5 without the minus would do
+    good "5 4 -1 0 5" ∷ bad "7 4 -1 0 5" ∷ bad "-5 4 -1 0 5" ∷
+    -- "start is below the floor": the first row of a table
+    tableOf ("0 1 -1 -1 -1" ∷ []) true ∷ tableOf ("0 1 -1 -2 -2" ∷ []) false ∷
+    -- "end is not before the open instant or is before its predecessor's end"
+    good "0 4 -1 6 6" ∷ bad "0 4 -1 7 7" ∷ good "0 4 -1 5 5" ∷ bad "0 4 -1 4 4" ∷
+    -- "references aren't lower rows": row 5 refers to itself, to row 6 behind it, which is of the right entry, and to an unused row, all of whose
+    -- numbers would do
+    tableOf (rows5 ++ "2 0 3 0 5" ∷ "1 4 -1 5 5" ∷ []) true ∷ tableOf (rows5 ++ "2 0 6 0 5" ∷ "1 4 -1 5 5" ∷ []) false ∷ bad "2 0 5 0 5" ∷ bad "2 6 3 0 5" ∷
+    -- "of the operand entries": all else would do
+    good "2 0 3 0 5" ∷ bad "2 1 3 0 5" ∷ bad "2 0 2 0 5" ∷
+    good "3 2 -1 5 5" ∷ bad "3 3 -1 5 5" ∷
+    good "3 -1 3 5 5" ∷ bad "3 -1 2 5 5" ∷
+    good "4 4 -1 0 5" ∷ bad "4 2 -1 5 5" ∷
+    good "5 4 -1 0 5" ∷ bad "5 2 -1 5 5" ∷
+    -- "with -1 just where the operator table has it": event, two parts, or with both arms and with none, absence, length test; and no other number
+    -- below 0
+    bad "0 4 0 5 5" ∷ bad "0 4 -2 5 5" ∷
+    bad "2 -1 3 0 5" ∷ bad "2 0 -1 0 5" ∷
+    bad "3 2 3 5 5" ∷ bad "3 -1 -1 5 5" ∷ bad "3 2 -2 5 5" ∷ bad "3 -2 3 5 5" ∷
+    bad "4 4 3 0 5" ∷ bad "4 -1 4 0 5" ∷ bad "4 4 -2 0 5" ∷
+    bad "5 4 3 0 5" ∷ bad "5 -1 4 0 5" ∷ bad "5 4 -2 0 5" ∷
+    -- "whose start, end ... disagrees with them"; an end before that of a part is before its predecessor's
+    bad "2 0 3 1 5" ∷ bad "2 0 3 -1 5" ∷ bad "2 0 3 0 6" ∷
+    bad "3 2 -1 4 5" ∷ bad "3 2 -1 5 6" ∷ bad "3 -1 3 4 5" ∷ bad "3 -1 3 5 6" ∷
+    bad "4 4 -1 1 5" ∷ bad "4 4 -1 0 6" ∷
+    bad "5 4 -1 1 5" ∷ bad "5 4 -1 0 6" ∷
+    -- "or non-absence condition disagrees with them": of a relation, 5 < 5; of a length test, 5 < 5. In "4 4 -1 0 5", taken above, rows 1 and 3 forbid row 4.
+    bad "2 2 3 5 5" ∷ bad "6 4 -1 0 5" ∷
+    -- "An event row's serial is 1 to the count, start and end equal."
+    good "0 1 -1 5 5" ∷ bad "0 0 -1 5 5" ∷ bad "0 -1 -1 5 5" ∷ good "0 4 -1 5 5" ∷ bad "0 5 -1 5 5" ∷ bad "0 4 -1 4 5" ∷ bad "0 4 -1 5 6" ∷ []
+
+unfoldable pub cases : List Case
+cases = watches ++ sizes ++ rows
+
+pub examples : map (λ (c : Case). areConsistent (c .chart) (c .state) (c .table)) cases ≡ map (λ (c : Case). c .consistent) cases
+unfolding cases isInstant isLength isRelated hasLength split lines bytes tabbed unended text isDigit allDigits valueFrom hasLeadingZero isNumber numberOf withoutMinus withMinus instantOf words sameBytes placeOf operatorOf edgesOf relationOf lengthTestOf kindOf inRange areLower withCode eventLine withOperands secondOperand operandsLine byOperator operatorLine numbered parsedLine checkedEntry checkedLine answerTo noEntries withEntry refusedChart readLines orNoLine readChart allBelow capacity rowsIn areZeros operatorBy operatorsOf isWatchInRange isTableRowConsistent areConsistent
+examples = refl

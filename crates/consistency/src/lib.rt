@@ -125,7 +125,8 @@ fn is_row_of(e: Entry, limits: Limits, t: &[i32], i: usize, row: Row) -> bool
 fn is_within(limits: Limits, row: Row) -> bool
     ensures { λ r. ⌜ r ≡ isWithin limits row ⌝ }
 {
-    interval::is_no_later(limits.floor, row.start) && interval::is_before(row.end, limits.instant)
+    let end = row.end;
+    interval::is_no_later(limits.floor, row.start) && interval::is_before(end, limits.instant)
 }
 
 // Whether the row before row i, where there is one, ends no later than row i.

@@ -10,7 +10,8 @@ use lib.IntN.{ℤ, pos, negsuc, natAbs}
 use lib.Signed.{ltZ, leZ}
 use Rattle.interval.specs.Instants.{eqZ, least, greatest}
 use Rattle.interval.specs.Conditions.{hasLength}
-use Rattle.interval.proofs.Signed.{never, and-first, least-most, greatest-most}
+use Rattle.interval.specs.declared.LengthTest.{LengthTest}
+use Rattle.interval.proofs.Signed.{never, and-first, eq-true, least-most, greatest-most}
 use Rattle.chart.specs.Operators.{kindOf, shapeOf, inRange}
 use Rattle.chart.specs.Charts.{isUsable, entryAt}
 use Rattle.chart.specs.declared.Chart.{Chart}
@@ -47,6 +48,20 @@ pub and-group : (a b c : Bool) → ((a && b) && c) ≡ (a && (b && c))
 and-group true b c = refl
 and-group false b c = refl
 
+and-turn : (a b c d : Bool) → ((a && (b && c)) && d) ≡ (c && (d && (a && b)))
+and-turn true true c d = ap (λ x. c && x) (and-same d)
+and-turn true false c d = sym (simp and-false)
+and-turn false b c d = sym (simp and-false)
+
+-- a length test of a part is one of the row, where they start and end alike
+same-length : (c : LengthTest) (d : ℕ) (s e s' e' : ℤ) → ((eqZ s s' && eqZ e e') && hasLength c d s' e') ≡ ((eqZ s s' && eqZ e e') && hasLength c d s e)
+same-length c d s e s' e' = go (eqZ s s') refl (eqZ e e') refl
+  where
+    go : (a : Bool) → eqZ s s' ≡ a → (b : Bool) → eqZ e e' ≡ b → ((a && b) && hasLength c d s' e') ≡ ((a && b) && hasLength c d s e)
+    go true p true q = ap₂ (hasLength c d) (sym (eq-true s s' p)) (sym (eq-true e e' q))
+    go true p false q = refl
+    go false p b q = refl
+
 -- row i, which is r; rs are rows of which those before row i are the table's
 module _ (count : ℕ) (rs : List Row) (t : List ℤ) (i : ℕ) (same : (j : ℕ) → j < i → rowAt rs j ≡ tableRow t j) (r : stored.Row) where
   refers-is : (z : ℤ) (a : ℕ) (p : Row → Bool) → refers count rs i (modelRow r) z a p ≡ (ltb (partAt t i z a) i && p (tableRow t (partAt t i z a)))
@@ -64,19 +79,18 @@ module _ (count : ℕ) (rs : List Row) (t : List ℤ) (i : ℕ) (same : (j : ℕ
   event-is (negsuc k) x = refl
 
   -- the least and the greatest of one number is that number
-  one-part : (k : Kind) (b : ℕ) (q : stored.Row) → (spansOne count rs i (modelRow r) (modelRow q) && meetsCondition k b q q) ≡ spansParts k b r q q
+  one-part : (q : stored.Row) → spansParts r q q ≡ spansOne count rs i (modelRow r) (modelRow q)
   unfolding spansParts
-  one-part k b q =
+  one-part q =
       let s : least (q .start) (q .start) ≡ q .start = least-most (λ m. m ≡ q .start) (q .start) (q .start) refl refl in
       let e : greatest (q .end) (q .end) ≡ q .end = greatest-most (λ m. m ≡ q .end) (q .end) (q .end) refl refl in
-      rw (s, e) (and-group (eqZ (r .start) (q .start)) (eqZ (r .end) (q .end)) (meetsCondition k b q q))
+      rw (s, e)
 
-  single-is : (k : Kind) (a b : ℕ) (p : Row → Bool) → ((q : stored.Row) → p (modelRow q) ≡ (spansOne count rs i (modelRow r) (modelRow q) && meetsCondition k b q q)) → (refers count rs i (modelRow r) (r .left) a p && isNone (r .right)) ≡ isSingleRow k a b t i r
+  single-is : (k : Kind) (a b : ℕ) (p : Row → Bool) → ((q : stored.Row) → p (modelRow q) ≡ (spansOne count rs i (modelRow r) (modelRow q) && meetsCondition k b r r)) → (refers count rs i (modelRow r) (r .left) a p && isNone (r .right)) ≡ isSingleRow k a b t i r
   unfolding isSingleRow
   single-is k a b p h =
       let n = partAt t i (r .left) a in
-      and-swap (refers count rs i (modelRow r) (r .left) a p) (isNone (r .right))
-      ∙ ap (λ x. isNone (r .right) && x) (refers-is (r .left) a p ∙ ap (λ x. ltb n i && x) (h (storedRow t n) ∙ one-part k b (storedRow t n)))
+      simp (refers-is (r .left) a p, h (storedRow t n), one-part (storedRow t n)) (and-turn (ltb n i) (spansOne count rs i (modelRow r) (tableRow t n)) (meetsCondition k b r r) (isNone (r .right)))
 
 module _ (count : ℕ) (rs : List Row) (t : List ℤ) (i : ℕ) (same : (j : ℕ) → j < i → rowAt rs j ≡ tableRow t j) (r : stored.Row) where
   -- a part of which nothing but start and end is asked
@@ -95,9 +109,9 @@ module _ (count : ℕ) (rs : List Row) (t : List ℤ) (i : ℕ) (same : (j : ℕ
       let n = partAt t i (r .left) a in
       ap (agrees count rs i (modelRow r)) (operator-is (Pair c) a b)
       ∙ refers-is count rs t i same r (r .left) a (λ p. refers count rs i (modelRow r) (r .right) b (spansTwo count rs i (modelRow r) c p))
-      ∙ ap (λ x. ltb n i && x) (refers-is count rs t i same r (r .right) b (spansTwo count rs i (modelRow r) c (tableRow t n)))
+      ∙ ap (λ x. ltb n i && x) (refers-is count rs t i same r (r .right) b (spansTwo count rs i (modelRow r) c (tableRow t n)) ∙ simp and-group)
   agrees-is (Absence c) a b h = ap (agrees count rs i (modelRow r)) (operator-is (Absence c) a b) ∙ single-is count rs t i same r (Absence c) a b alike (λ q. and-same (alike (modelRow q)))
-  agrees-is (Length c) a b h = ap (agrees count rs i (modelRow r)) (operator-is (Length c) a b) ∙ single-is count rs t i same r (Length c) a b (λ q. alike q && hasLength c b (q .start) (q .end)) (λ q. refl)
+  agrees-is (Length c) a b h = ap (agrees count rs i (modelRow r)) (operator-is (Length c) a b) ∙ single-is count rs t i same r (Length c) a b (λ q. alike q && hasLength c b (q .start) (q .end)) (λ q. same-length c b (r .start) (r .end) (q .start) (q .end))
   agrees-is Unknown a b h = never (sym (range-unknown a b) ∙ h)
 
 -- the operator of an entry, in a list of as many as there are entries

@@ -58,20 +58,20 @@ meetsCondition (Absence e) b p q = true
 meetsCondition (Length c) b p q = hasLength c b (p .start) (p .end)
 meetsCondition Unknown b p q = true
 
--- start and end are those of p and q together, which meet the condition
-unfoldable pub spansParts : Kind → ℕ → Row → Row → Row → Bool
-spansParts k b r p q = eqZ (r .start) (least (p .start) (q .start)) && (eqZ (r .end) (greatest (p .end) (q .end)) && meetsCondition k b p q)
+-- start and end are those of p and q together
+unfoldable pub spansParts : Row → Row → Row → Bool
+spansParts r p q = eqZ (r .start) (least (p .start) (q .start)) && eqZ (r .end) (greatest (p .end) (q .end))
 
 unfoldable pub isSingleRow : Kind → ℕ → ℕ → List ℤ → ℕ → Row → Bool
 isSingleRow k a b t i r =
     let p = partAt t i (r .left) a in
-    eqZ (r .right) none && (ltb p i && spansParts k b r (storedRow t p) (storedRow t p))
+    meetsCondition k b r r && (eqZ (r .right) none && (ltb p i && spansParts r (storedRow t p) (storedRow t p)))
 
 unfoldable pub isPairRow : Kind → ℕ → ℕ → List ℤ → ℕ → Row → Bool
 isPairRow k a b t i r =
     let p = partAt t i (r .left) a in
     let q = partAt t i (r .right) b in
-    ltb p i && (ltb q i && spansParts k b r (storedRow t p) (storedRow t q))
+    ltb p i && (ltb q i && (spansParts r (storedRow t p) (storedRow t q) && meetsCondition k b (storedRow t p) (storedRow t q)))
 
 unfoldable pub agreesBy : Shape → Kind → ℕ → ℕ → ℕ → List ℤ → ℕ → Row → Bool
 agreesBy Leaf k a b events t i r = isEventRow events r

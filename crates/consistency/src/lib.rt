@@ -170,11 +170,15 @@ fn is_event_row(events: usize, row: Row) -> bool
     has_no_right(row) && interval::is_same(row.start, row.end)
 }
 
-// A row of one operand, on the left and of entry a; b is the length of a length test.
+// A row of one operand, on the left and of entry a. It starts and ends as the operand does, so that the condition is asked of the row itself,
+// before anything is read.
 fn is_single_row(kind: Kind, a: u32, b: u32, t: &[i32], i: usize, row: Row) -> bool
     requires { ⌜ Reached i (now t) ⌝ }
     ensures { λ r. ⌜ r ≡ isSingleRow kind a b (now (t .entry)) i row ⌝ }
 {
+    if !meets_condition(kind, b, row, row) {
+        return false;
+    }
     if !has_no_right(row) {
         return false;
     }
@@ -183,7 +187,7 @@ fn is_single_row(kind: Kind, a: u32, b: u32, t: &[i32], i: usize, row: Row) -> b
         return false;
     }
     let p = table::row_at(t, at);
-    spans_parts(kind, b, row, p, p)
+    spans_parts(row, p, p)
 }
 
 // A row of one operand, which is the left or the right one.
@@ -206,29 +210,25 @@ fn is_pair_row(kind: Kind, a: u32, b: u32, t: &[i32], i: usize, row: Row) -> boo
     if i <= left {
         return false;
     }
+    let p = table::row_at(t, left);
     let right = part_at(t, i, exchanged(row), b);
     if i <= right {
         return false;
     }
-    let p = table::row_at(t, left);
     let q = table::row_at(t, right);
-    spans_parts(kind, b, row, p, q)
+    spans_parts(row, p, q) && meets_condition(kind, b, p, q)
 }
 
-// Whether a row's start and end are those of the rows p and q together, and these meet the condition; a single part is both.
-fn spans_parts(kind: Kind, b: u32, row: Row, p: Row, q: Row) -> bool
-    ensures { λ r. ⌜ r ≡ spansParts kind b row p q ⌝ }
+// Whether a row's start and end are those of the rows p and q together; a single part is both.
+fn spans_parts(row: Row, p: Row, q: Row) -> bool
+    ensures { λ r. ⌜ r ≡ spansParts row p q ⌝ }
 {
-    if !interval::is_same(row.start, interval::least_start(p.start, q.start)) {
-        return false;
-    }
-    if !interval::is_same(row.end, interval::greatest_end(p.end, q.end)) {
-        return false;
-    }
-    meets_condition(kind, b, p, q)
+    let start = interval::least_start(p.start, q.start);
+    let end = interval::greatest_end(p.end, q.end);
+    interval::is_same(row.start, start) && interval::is_same(row.end, end)
 }
 
-// The condition of an operator on its parts: that of a relation or of a length test. No other is asked; an absence's is not.
+// The condition of an operator on its parts, b being the length of a length test. An absence's is not asked, and the others have none.
 fn meets_condition(kind: Kind, b: u32, p: Row, q: Row) -> bool
     ensures { λ r. ⌜ r ≡ meetsCondition kind b p q ⌝ }
 {

@@ -11,7 +11,7 @@ use lib.IntN.{ℤ, pos, natAbs}
 use lib.ListN.{length}
 use lib.Signed.{leZ, ltZ}
 use Rattle.interval.specs.Instants.{isInstant}
-use Rattle.interval.proofs.Signed.{_≤ᶻ_, signed, never, and-first, and-second, holds→, is-le}
+use Rattle.interval.proofs.Signed.{_≤ᶻ_, signed, never, and-second, holds→, is-le}
 use Rattle.interval.proofs.Laws.{le-trans}
 use Rattle.chart.specs.Charts.{isUsable, allBelow}
 use Rattle.chart.specs.declared.Chart.{Chart}
@@ -20,7 +20,7 @@ use Rattle.state.specs.declared.WatchState.{WatchState}
 use Rattle.model.specs.Order.{Row}
 use Rattle.model.specs.Capacity.{capacity}
 use Rattle.model.specs.RowSteps.{isEventAt, Watch}
-use Rattle.model.specs.Consistency.{agreesAt, isRowConsistent, isConsistent}
+use Rattle.model.specs.Consistency.{agreesAt, isConsistent}
 use Rattle.model.proofs.Steps.{all4, all6, consistent-told}
 use Rattle.table.specs.Table.{cell, storedRow, tableRow, rowsIn, areZeros}
 use Rattle.table.specs.Operators.{operatorsOf}

@@ -1,6 +1,4 @@
 -- `is_single_row` meets its contract: only a lower row is read.
-use mathlib.Core.Path.{_≡_}
-use mathlib.Core.Bool.{_&&_}
 use borrow.Author.Needs.{needs}
 use borrow.Author.Tests.{lt-ltb, le-ltb}
 use Rattle.consistency.specs.Rows.{isSingleRow}

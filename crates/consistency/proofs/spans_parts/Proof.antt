@@ -3,7 +3,7 @@ use mathlib.Core.Path.{_≡_, sym, _∙_}
 use borrow.Author.Needs.{needs}
 use mir.Syntax.{w32}
 use mir.Val.{SFits}
-use Rattle.interval.specs.Instants.{eqZ, least, greatest}
+use Rattle.interval.specs.Instants.{eqZ, least}
 use Rattle.interval.proofs.Machine.{same32}
 use Rattle.consistency.specs.Rows.{spansParts}
 use Rattle.consistency.proofs.Tests.{numbers}

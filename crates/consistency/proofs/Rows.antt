@@ -28,7 +28,7 @@ use Rattle.table.specs.declared.Row as stored
 use Rattle.table.proofs.Rows.{row-at}
 use Rattle.table.proofs.Operators.{operator-is, Lookup, operator-at, operator-past}
 use Rattle.consistency.specs.Consistency.{isTableRowConsistent}
-use Rattle.consistency.specs.Rows.{limitsOf, exchanged, partAt, isWithin, isAfterLast, isEventRow, meetsCondition, spansParts, isSingleRow, isPairRow, agreesBy, isRowOf}
+use Rattle.consistency.specs.Rows.{limitsOf, exchanged, partAt, isWithin, isAfterLast, isEventRow, meetsCondition, spansParts, isSingleRow, isArmRow, isPairRow, agreesBy, isRowOf}
 use Rattle.consistency.proofs.Tests.{not-least}
 
 -- Booleans
@@ -98,7 +98,7 @@ module _ (count : ℕ) (rs : List Row) (t : List ℤ) (i : ℕ) (same : (j : ℕ
   alike = spansOne count rs i (modelRow r)
 
   agrees-is : (k : Kind) (a b : ℕ) → inRange k a b ≡ true → agrees count rs i (modelRow r) (operatorBy k a b) ≡ agreesBy (shapeOf k) k a b count t i r
-  unfolding agreesBy isEventRow isPairRow spansParts meetsCondition
+  unfolding agreesBy isEventRow isArmRow isPairRow spansParts meetsCondition
   agrees-is Event a b h = ap (agrees count rs i (modelRow r)) (operator-is Event a b) ∙ event-is count rs t i same r (r .left) (isNone (r .right) && eqZ (r .start) (r .end))
   agrees-is Or a b h =
       ap (agrees count rs i (modelRow r)) (operator-is Or a b)

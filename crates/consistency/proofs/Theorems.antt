@@ -123,13 +123,13 @@ consistent-ready chart w t u e =
     }
 
 -- a watch of the model with these codes of pending events
-abbrev pub stateOf : Watch → List ℕ → WatchState
-stateOf m codes = record { instant = m .openInstant; floor = m .floor; events = m .count; rows = length (m .rows); pending = length (m .pending); codes = codes }
+abbrev pub stateWith : Watch → List ℕ → WatchState
+stateWith m codes = record { instant = m .openInstant; floor = m .floor; events = m .count; rows = length (m .rows); pending = length (m .pending); codes = codes }
 
 -- a watch that the model has consistent, its rows being those of the table
-pub model-consistent : (chart : Chart) (m : Watch) (codes : List ℕ) (t : List ℤ) → T (isConsistent (operatorsOf chart) (capacity (length t)) m) → rowsIn (length (m .rows)) t ≡ m .rows → ((i : ℕ) → i < length (m .rows) → leZ (pos 0) (cell t i 0) ≡ true) → areZeros (length (m .rows) * 5) (capacity (length t) * 5) t ≡ true → areConsistent chart (stateOf m codes) t ≡ true
+pub model-consistent : (chart : Chart) (m : Watch) (codes : List ℕ) (t : List ℤ) → T (isConsistent (operatorsOf chart) (capacity (length t)) m) → rowsIn (length (m .rows)) t ≡ m .rows → ((i : ℕ) → i < length (m .rows) → leZ (pos 0) (cell t i 0) ≡ true) → areZeros (length (m .rows) * 5) (capacity (length t) * 5) t ≡ true → areConsistent chart (stateWith m codes) t ≡ true
 unfolding areConsistent isWatchInRange isTableRowConsistent
 model-consistent chart m codes t j same above zeros =
     let p = consistent-told (operatorsOf chart) (capacity (length t)) m (holds→ _ j) in
-    let rows : allBelow (length (m .rows)) (isTableRowConsistent chart (stateOf m codes) t) ≡ true = all-below (length (m .rows)) _ (λ i h. rw (above i h, same) (p .each i h)) in
+    let rows : allBelow (length (m .rows)) (isTableRowConsistent chart (stateWith m codes) t) ≡ true = all-below (length (m .rows)) _ (λ i h. rw (above i h, same) (p .each i h)) in
     simp (p .openRange, p .floorRange, p .floorLow, p .short, p .counted, p .most, p .fit, rows, zeros)

@@ -67,6 +67,9 @@ isSingleRow k a b t i r =
     let p = partAt t i (r .left) a in
     meetsCondition k b r r && (eqZ (r .right) none && (ltb p i && spansParts r (storedRow t p) (storedRow t p)))
 
+unfoldable pub isArmRow : Kind → ℕ → ℕ → List ℤ → ℕ → Row → Bool
+isArmRow k a b t i r = isSingleRow k a b t i r || isSingleRow k b b t i (exchanged r)
+
 unfoldable pub isPairRow : Kind → ℕ → ℕ → List ℤ → ℕ → Row → Bool
 isPairRow k a b t i r =
     let p = partAt t i (r .left) a in
@@ -76,7 +79,7 @@ isPairRow k a b t i r =
 unfoldable pub agreesBy : Shape → Kind → ℕ → ℕ → ℕ → List ℤ → ℕ → Row → Bool
 agreesBy Leaf k a b events t i r = isEventRow events r
 agreesBy Single k a b events t i r = isSingleRow k a b t i r
-agreesBy Arms k a b events t i r = isSingleRow k a b t i r || isSingleRow k b b t i (exchanged r)
+agreesBy Arms k a b events t i r = isArmRow k a b t i r
 agreesBy Double k a b events t i r = isPairRow k a b t i r
 
 unfoldable pub isRowOf : Entry → Limits → List ℤ → ℕ → Row → Bool

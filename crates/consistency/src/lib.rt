@@ -1,9 +1,9 @@
 // The check behind refusal 13: whether watch and table are consistent with the chart; where not, document 01 calls them out of joint. Inner functions of the watch: each asks what its
-// callers have shown. Those on one row take constant time. They are handed rows and limits by value, and no watch and no chart: those hold arrays, which would
-// be copied for each row.
+// callers have shown. Those on one row take constant time; they are handed rows and limits, but no watch and no chart, whose arrays would be copied for
+// each row.
 ghost use mathlib.Core.Path.{_≡_};
 ghost use mathlib.Core.Bool.{true};
-ghost use Prim.Native.Nat.{_+_, _*_, _≤_};
+ghost use Prim.Native.Nat.{_≤_};
 ghost use lib.ListN.{length};
 ghost use Rattle.interval.specs.Instants.{eqZ};
 ghost use Rattle.chart.specs.Charts.{allBelow, isUsable};
@@ -11,7 +11,7 @@ ghost use Rattle.chart.specs.Operators.{kindOf, shapeOf};
 ghost use Rattle.model.specs.Capacity.{capacity};
 ghost use Rattle.model.specs.Order.{none};
 ghost use Rattle.consistency.specs.Consistency.{areInstantsInRange, areCountsInRange, isWatchInRange, isTableRowConsistent, areConsistent};
-ghost use Rattle.consistency.specs.Rows.{limitsOf, Reached, exchanged, partAt, isWithin, isAfterLast, isEventRow, meetsCondition, spansParts, isSingleRow, isPairRow, agreesBy, isRowOf};
+ghost use Rattle.consistency.specs.Rows.{limitsOf, Reached, exchanged, partAt, isWithin, isAfterLast, isEventRow, meetsCondition, spansParts, isSingleRow, isArmRow, isPairRow, agreesBy, isRowOf};
 use chart::Chart;
 use chart::Entry;
 use chart::operator::Kind;
@@ -19,7 +19,7 @@ use chart::operator::Shape;
 use state::WatchState;
 use table::Row;
 
-// What of a watch its rows are held against.
+// The numbers of a watch that its rows are held against.
 struct Limits {
     instant: i32,
     floor: i32,
@@ -141,7 +141,8 @@ fn is_after_last(t: &[i32], i: usize, row: Row) -> bool
     interval::is_no_later(last.end, row.end)
 }
 
-// Whether a row's references, start, end and condition are as its entry's operator has them.
+// Whether a row's references, start, end and condition are as its entry's operator has them. By the shape, so that a new operator adds a case to
+// `meets_condition` alone. An unknown code stands in no chart that a watch may use.
 fn agrees(e: Entry, events: usize, t: &[i32], i: usize, row: Row) -> bool
     requires { ⌜ Reached i (now t) ⌝ }
     ensures { λ r. ⌜ r ≡ agreesBy (shapeOf (kindOf (e .op))) (kindOf (e .op)) (e .a) (e .b) events (now (t .entry)) i row ⌝ }
@@ -193,7 +194,7 @@ fn is_single_row(kind: Kind, a: u32, b: u32, t: &[i32], i: usize, row: Row) -> b
 // A row of one operand, which is the left or the right one.
 fn is_arm_row(kind: Kind, a: u32, b: u32, t: &[i32], i: usize, row: Row) -> bool
     requires { ⌜ Reached i (now t) ⌝ }
-    ensures { λ r. ⌜ r ≡ agreesBy Shape.Arms kind a b 0 (now (t .entry)) i row ⌝ }
+    ensures { λ r. ⌜ r ≡ isArmRow kind a b (now (t .entry)) i row ⌝ }
 {
     if is_single_row(kind, a, b, t, i, row) {
         return true;

@@ -7,7 +7,7 @@ use mathlib.Core.Path.{_≡_, refl}
 use mathlib.Core.Bool.{Bool, true, false}
 use mathlib.Core.List.{List, [], _∷_, _++_, map}
 use lib.IntN.{ℤ, pos, negℤ}
-use lib.ListN.{length}
+use lib.ListN.{length, replicate}
 use Rattle.interval.specs.Instants.{isInstant, isLength}
 use Rattle.interval.specs.Conditions.{isRelated, hasLength}
 use Rattle.text.specs.Text.{split, lines}
@@ -18,6 +18,7 @@ use Rattle.chart.specs.Operators.{words, sameBytes, placeOf, operatorOf, edgesO
 use Rattle.chart.specs.Records.{withCode, eventLine, withOperands, secondOperand, operandsLine, byOperator, operatorLine, numbered, parsedLine, checkedEntry, checkedLine, answerTo}
 use Rattle.chart.specs.Charts.{noEntries, withEntry, refusedChart, readLines, orNoLine, readChart, allBelow}
 use Rattle.chart.specs.declared.Chart.{Chart}
+use Rattle.state.specs.declared.WatchState.{WatchState}
 use Rattle.model.specs.Lists.{each}
 use Rattle.model.specs.Capacity.{capacity}
 use Rattle.table.specs.Table.{rowsIn, areZeros}
@@ -39,14 +40,14 @@ table rs = each (λ (r : String). map (λ (f : List ℕ). numberIn (instantOf f)
 abbrev pub minus : ℕ → ℤ
 minus n = negℤ (pos n)
 
--- chart, open instant, floor, counts of events, rows and pending events, and table; and whether they are consistent
+-- open instant, floor, counts of events, rows and pending events, whose codes are not looked at
+abbrev stateOf : ℤ → ℤ → ℕ → ℕ → ℕ → WatchState
+stateOf o f events rows pending = record { instant = o; floor = f; events = events; rows = rows; pending = pending; codes = replicate 64 0 }
+
+-- chart, watch and table, and whether they are consistent
 pub record Case : Type 0 where
   pub chart : Chart
-  pub instant : ℤ
-  pub floor : ℤ
-  pub events : ℕ
-  pub rows : ℕ
-  pub pending : ℕ
+  pub state : WatchState
   pub table : List ℤ
   pub consistent : Bool
 
@@ -73,7 +74,7 @@ watches =
     watch (pos 0) (pos 0) 1000001 0 false ∷ []
   where
     watch : ℤ → ℤ → ℕ → ℕ → Bool → Case
-    watch o f events pending b = record { chart = chartOf ("0 event 1" ∷ []); instant = o; floor = f; events = events; rows = 0; pending = pending; table = table ("0 0 0 0 0" ∷ []); consistent = b }
+    watch o f events pending b = record { chart = chartOf ("0 event 1" ∷ []); state = stateOf o f events 0 pending; table = table ("0 0 0 0 0" ∷ []); consistent = b }
 
 -- "more rows than fit; an unused row that is not all zeros". One row is in use. The numbers after the last row that the table can hold are not looked at.
 abbrev sizes : List Case
@@ -88,7 +89,7 @@ sizes =
     size ("0 1 -1 0 0" ∷ "0 0 0 0 0" ∷ "1 2 3 4" ∷ []) true ∷ []
   where
     size : List String → Bool → Case
-    size rs b = record { chart = chartOf ("0 event 1" ∷ []); instant = pos 1; floor = pos 0; events = 1; rows = 1; pending = 0; table = table rs; consistent = b }
+    size rs b = record { chart = chartOf ("0 event 1" ∷ []); state = stateOf (pos 1) (pos 0) 1 1 0; table = table rs; consistent = b }
 
 -- Rows. There are four events, of codes 1 and 2 at 0 and again at 5; the floor is -1 and the open instant 7. Five rows stand in front of the one that is
 -- looked at: four of events, and one of `seq`, from 0 to 5. Behind it is an unused one.
@@ -111,7 +112,7 @@ rows5 =
     "2 0 3 0 5" ∷ []
 
 abbrev tableOf : List String → Bool → Case
-tableOf rs b = record { chart = chart7; instant = pos 7; floor = minus 1; events = 4; rows = length rs; pending = 0; table = table (rs ++ "0 0 0 0 0" ∷ []); consistent = b }
+tableOf rs b = record { chart = chart7; state = stateOf (pos 7) (minus 1) 4 (length rs) 0; table = table (rs ++ "0 0 0 0 0" ∷ []); consistent = b }
 
 abbrev good : String → Case
 good r = tableOf (rows5 ++ r ∷ []) true
@@ -156,6 +157,6 @@ rows =
 unfoldable pub cases : List Case
 cases = watches ++ sizes ++ rows
 
-pub examples : map (λ (c : Case). areConsistent (c .chart) (c .instant) (c .floor) (c .events) (c .rows) (c .pending) (c .table)) cases ≡ map (λ (c : Case). c .consistent) cases
+pub examples : map (λ (c : Case). areConsistent (c .chart) (c .state) (c .table)) cases ≡ map (λ (c : Case). c .consistent) cases
 unfolding cases isInstant isLength isRelated hasLength split lines bytes tabbed unended text isDigit allDigits valueFrom hasLeadingZero isNumber numberOf withoutMinus withMinus instantOf words sameBytes placeOf operatorOf edgesOf relationOf lengthTestOf kindOf inRange areLower withCode eventLine withOperands secondOperand operandsLine byOperator operatorLine numbered parsedLine checkedEntry checkedLine answerTo noEntries withEntry refusedChart readLines orNoLine readChart allBelow capacity rowsIn areZeros operatorBy operatorsOf isWatchInRange isTableRowConsistent areConsistent
 examples = refl

@@ -1,24 +1,26 @@
 -- The tests of one row, by the ways the code goes through them.
-use Prim.Native.Nat.{ℕ, zero, suc, _*_, _-_, _<_, _≤_}
-use native.Mathlib.Omega.{arith}
-use native.Mathlib.Nat.{add-zero}
-use mathlib.Core.Path.{_≡_, refl, sym, ap}
-use mathlib.Core.Bool.{true, false}
+use Prim.Native.Nat.{ℕ, zero, suc, _-_, _<_, _^_}
+use mathlib.Core.Path.{_≡_, refl, sym, _∙_}
+use mathlib.Core.Bool.{Bool, true, false, not}
 use mathlib.Core.List.{List}
-use borrow.Author.Tests.{ltb-true, lt-ltb, le-ltb}
-use lib.Dec.{eqb, ltb}
-use lib.IntN.{ℤ, pos, negsuc, natAbs}
-use lib.ListN.{getD}
-use lib.Signed.{ltZ, leZ}
+use native.Mathlib.Omega.{arith}
+use borrow.Author.Tests.{not-true, not-false}
+use lib.IntN.{ℤ}
+use lib.Signed.{ltZ, leZ, mag}
 use mir.Syntax.{w32}
 use mir.Val.{SFits}
-use Rattle.interval.proofs.Signed.{never, and-first, signed}
+use Rattle.interval.proofs.Signed.{signed}
 use Rattle.model.specs.Order.{none}
 use Rattle.table.specs.Table.{cell}
-use Rattle.consistency.specs.Rows.{refersTo, isAfterLast}
+use Rattle.table.specs.declared.Row.{Row}
+use Rattle.consistency.specs.Rows.{isAfterLast}
 
-pub none-fits : SFits w32 none
-none-fits = record { sfits = omega arith }
+-- a test that a function made, whose result r is a
+pub failed : {a r : Bool} → r ≡ a → not r ≡ true → a ≡ false
+failed e h = sym e ∙ not-true _ h
+
+pub passed : {a r : Bool} → r ≡ a → not r ≡ false → a ≡ true
+passed e h = sym e ∙ not-false _ h
 
 -- the order the other way round
 pub not-below : (a b : ℤ) → ltZ a b ≡ false → leZ b a ≡ true
@@ -27,48 +29,26 @@ not-below a b e = omega (arith, signed)
 pub not-least : (a b : ℤ) → ltZ a b ≡ true → leZ b a ≡ false
 not-least a b e = omega (arith, signed)
 
-pub not-most : (a b : ℤ) → leZ a b ≡ false → ltZ b a ≡ true
-not-most a b e = omega (arith, signed)
-
-pub is-most : (a b : ℤ) → leZ a b ≡ true → ltZ b a ≡ false
-is-most a b e = omega (arith, signed)
-
-pub above-zero : (z : ℤ) → leZ (pos 1) z ≡ true → leZ (pos 0) z ≡ true
-above-zero z e = omega (arith, signed)
-
--- a row's first number
-pub entry-cell : (t : List ℤ) (j : ℕ) → getD t (j * 5) (pos 0) ≡ cell t j 0
-entry-cell t j = ap (λ k. getD t k (pos 0)) (sym (add-zero (j * 5)))
-
--- the number of a lower row
-module _ (t : List ℤ) (i : ℕ) where
-  pub refers-negative : (z : ℤ) (a : ℕ) → ltZ z (pos 0) ≡ true → refersTo t i z a ≡ false
-  unfolding refersTo
-  refers-negative (pos j) a e = absurd (omega (arith, ltb-true j 0 e))
-  refers-negative (negsuc j) a e = refl
-
-  pub refers-above : (z : ℤ) (a : ℕ) → i ≤ natAbs z → refersTo t i z a ≡ false
-  unfolding refersTo
-  refers-above (pos j) a h = rw (le-ltb j i h)
-  refers-above (negsuc j) a h = refl
-
-  pub refers-lower : (z : ℤ) (a : ℕ) → leZ (pos 0) z ≡ true → natAbs z < i → refersTo t i z a ≡ eqb (natAbs (cell t (natAbs z) 0)) a
-  unfolding refersTo
-  refers-lower (pos j) a e h = rw (lt-ltb j i h)
-  refers-lower (negsuc j) a e h = never e
-
-  pub refers-number : (z : ℤ) (a : ℕ) → refersTo t i z a ≡ true → leZ (pos 0) z ≡ true
-  unfolding refersTo
-  refers-number (pos j) a e = omega (arith, signed)
-  refers-number (negsuc j) a e = never e
-
-  pub refers-below : (z : ℤ) (a : ℕ) → refersTo t i z a ≡ true → natAbs z < i
-  unfolding refersTo
-  refers-below (pos j) a e = ltb-true j i (and-first (ltb j i) (eqb (natAbs (cell t j 0)) a) e)
-  refers-below (negsuc j) a e = never e
-
 -- the row before row i
-pub after-last : (t : List ℤ) (i : ℕ) (e : ℤ) → (i ≡ 0 → ⊥) → isAfterLast t i e ≡ leZ (cell t (i - 1) 4) e
+pub after-last : (t : List ℤ) (i : ℕ) (r : Row) → (i ≡ 0 → ⊥) → isAfterLast t i r ≡ leZ (cell t (i - 1) 4) (r .end)
 unfolding isAfterLast
-after-last t zero e h = absurd (h refl)
-after-last t (suc i) e h = let p : suc i - 1 ≡ i = omega arith in rw p
+after-last t zero r h = absurd (h refl)
+after-last t (suc i) r h = let p : suc i - 1 ≡ i = omega arith in rw p
+
+pub none-fits : SFits w32 none
+none-fits = record { sfits = omega arith }
+
+-- what is told of a row by value: its numbers are an i32 each
+pub record Numbers (r : Row) : Type 0 where
+  pub entry : SFits w32 (r .entry)
+  pub left : SFits w32 (r .left)
+  pub right : SFits w32 (r .right)
+  pub start : SFits w32 (r .start)
+  pub end : SFits w32 (r .end)
+
+pub numbers : {A B C D E F : Type 0} (r : Row) → ((A × (mag (r .entry) < 2 ^ 31)) × ((B × (mag (r .left) < 2 ^ 31)) × ((C × (mag (r .right) < 2 ^ 31)) × ((D × (mag (r .start) < 2 ^ 31)) × ((E × (mag (r .end) < 2 ^ 31)) × F))))) → Numbers r
+numbers r f = record { entry = record { sfits = f .0 .1 }; left = record { sfits = f .1 .0 .1 }; right = record { sfits = f .1 .1 .0 .1 }; start = record { sfits = f .1 .1 .1 .0 .1 }; end = record { sfits = f .1 .1 .1 .1 .0 .1 } }
+
+-- and of two numbers in front of others
+pub first-two : {A B C : Type 0} (x y : ℤ) → ((A × (mag x < 2 ^ 31)) × ((B × (mag y < 2 ^ 31)) × C)) → (SFits w32 x) × (SFits w32 y)
+first-two x y f = (record { sfits = f .0 .1 }, record { sfits = f .1 .0 .1 })

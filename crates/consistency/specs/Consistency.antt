@@ -9,25 +9,32 @@ use lib.Signed.{leZ}
 use Rattle.interval.specs.Instants.{isInstant}
 use Rattle.chart.specs.Charts.{allBelow}
 use Rattle.chart.specs.declared.Chart.{Chart}
+use Rattle.state.specs.declared.WatchState.{WatchState}
 use Rattle.model.specs.Capacity.{capacity}
 use Rattle.model.specs.Consistency.{isRowConsistent}
 use Rattle.table.specs.Table.{cell, rowsIn, areZeros}
 use Rattle.table.specs.Operators.{operatorsOf}
 
--- "open instant or floor out of range; floor above open; over 64 pending events, more pending than counted, or a count above 1,000,000"
-unfoldable pub isWatchInRange : ℤ → ℤ → ℕ → ℕ → Bool
-isWatchInRange instant floor events pending =
-    isInstant instant && (isInstant floor && (leZ floor instant && (leb pending 64 && (leb pending events && leb events 1000000))))
+-- "open instant or floor out of range; floor above open"
+abbrev pub areInstantsInRange : ℤ → ℤ → Bool
+areInstantsInRange instant floor = isInstant instant && (isInstant floor && leZ floor instant)
+
+-- "over 64 pending events, more pending than counted, or a count above 1,000,000"
+abbrev pub areCountsInRange : ℕ → ℕ → Bool
+areCountsInRange pending events = leb pending 64 && (leb pending events && leb events 1000000)
+
+unfoldable pub isWatchInRange : WatchState → Bool
+isWatchInRange w = areInstantsInRange (w .instant) (w .floor) && areCountsInRange (w .pending) (w .events)
 
 -- "or a row whose entry is not in the chart, ..." An entry number is never negative; the rest is said of the rows.
-unfoldable pub isTableRowConsistent : Chart → ℤ → ℤ → ℕ → ℕ → List ℤ → ℕ → Bool
-isTableRowConsistent chart instant floor events rows t i =
-    leZ (pos 0) (cell t i 0) && isRowConsistent (operatorsOf chart) floor instant events (rowsIn rows t) i
+unfoldable pub isTableRowConsistent : Chart → WatchState → List ℤ → ℕ → Bool
+isTableRowConsistent chart w t i =
+    leZ (pos 0) (cell t i 0) && isRowConsistent (operatorsOf chart) (w .floor) (w .instant) (w .events) (rowsIn (w .rows) t) i
 
 -- "more rows than fit; an unused row that is not all zeros; or a row ..."
-unfoldable pub areConsistent : Chart → ℤ → ℤ → ℕ → ℕ → ℕ → List ℤ → Bool
-areConsistent chart instant floor events rows pending t =
-    isWatchInRange instant floor events pending
-    && (leb rows (capacity (length t))
-    && (areZeros (rows * 5) (capacity (length t) * 5) t
-    && allBelow rows (isTableRowConsistent chart instant floor events rows t)))
+unfoldable pub areConsistent : Chart → WatchState → List ℤ → Bool
+areConsistent chart w t =
+    isWatchInRange w
+    && (leb (w .rows) (capacity (length t))
+    && (areZeros (w .rows * 5) (capacity (length t) * 5) t
+    && allBelow (w .rows) (isTableRowConsistent chart w t)))

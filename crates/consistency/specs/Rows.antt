@@ -1,71 +1,86 @@
 -- The tests of one row as the code makes them, over the numbers of the table. Nothing here has to be believed: proofs/Rows.antt shows
 -- that they are the model's tests of that row.
--- t is the table and i the row's number; l, r, s and e are its left, right, start and end; a and b are its entry's operands.
-use Prim.Native.Nat.{ℕ, zero, suc, _<_}
+-- t is the table, i the row's number and r the row; k is its entry's kind, a and b are the entry's operands.
+use Prim.Native.Nat.{ℕ, zero, suc, _+_, _*_, _<_, _≤_}
 use mathlib.Core.Path.{_≡_}
-use mathlib.Core.Bool.{Bool, true, false, cond, _&&_}
+use mathlib.Core.Bool.{Bool, true, cond, _&&_, _||_}
 use mathlib.Core.List.{List}
 use lib.Dec.{eqb, ltb, leb}
-use lib.IntN.{ℤ, pos, negsuc, natAbs}
+use lib.IntN.{ℤ, pos, natAbs}
+use lib.ListN.{length}
 use lib.Signed.{leZ, ltZ}
 use Rattle.interval.specs.Instants.{eqZ, least, greatest}
 use Rattle.interval.specs.Conditions.{isRelated, hasLength}
-use Rattle.interval.specs.declared.Relation.{Relation}
-use Rattle.chart.specs.Operators.{kindOf}
+use Rattle.chart.specs.Operators.{kindOf, shapeOf}
 use Rattle.chart.specs.declared.Entry.{Entry}
 use Rattle.chart.specs.declared.operator.Kind.{Kind}
 use Rattle.chart.specs.declared.operator.Kind.the-variants.{Event, Or, Pair, Absence, Length, Unknown}
+use Rattle.chart.specs.declared.operator.Shape.{Shape}
+use Rattle.chart.specs.declared.operator.Shape.the-variants.{Leaf, Single, Arms, Double}
+use Rattle.state.specs.declared.WatchState.{WatchState}
 use Rattle.model.specs.Order.{none}
-use Rattle.table.specs.Table.{cell}
+use Rattle.table.specs.Table.{cell, storedRow}
+use Rattle.table.specs.declared.Row.{Row}
+use Rattle.consistency.specs.declared.Limits.{Limits}
 
--- the entries of the rows before row i are no negative numbers
-abbrev pub EntriesAbove : ℕ → List ℤ → Type 0
-EntriesAbove i t = (j : ℕ) → j < i → leZ (pos 0) (cell t j 0) ≡ true
+abbrev pub limitsOf : WatchState → Limits
+limitsOf w = record { instant = w .instant; floor = w .floor; events = w .events }
 
--- z is the number of a lower row, whose entry is a
-unfoldable pub refersTo : List ℤ → ℕ → ℤ → ℕ → Bool
-refersTo t i (pos j) a = ltb j i && eqb (natAbs (cell t j 0)) a
-refersTo t i (negsuc j) a = false
+-- row i lies in the table, and the entries of the rows before it are no negative numbers
+pub record Reached (i : ℕ) (t : List ℤ) : Type 0 where
+  pub fits : i * 5 + 5 ≤ length t
+  pub above : (j : ℕ) → j < i → leZ (pos 0) (cell t j 0) ≡ true
 
--- so it is, and that row starts at s and ends at e
-unfoldable pub hasPart : List ℤ → ℕ → ℤ → ℕ → ℤ → ℤ → Bool
-hasPart t i z a s e = refersTo t i z a && (eqZ s (cell t (natAbs z) 3) && eqZ e (cell t (natAbs z) 4))
+abbrev pub exchanged : Row → Row
+exchanged r = record { entry = r .entry; left = r .right; right = r .left; start = r .start; end = r .end }
 
-unfoldable pub isEventRow : ℕ → ℤ → ℤ → ℤ → ℤ → Bool
-isEventRow events l r s e = (leZ (pos 1) l && leb (natAbs l) events) && (eqZ r none && eqZ s e)
+-- the row that z refers to, where that is a lower row of entry a; otherwise i
+unfoldable pub partAt : List ℤ → ℕ → ℤ → ℕ → ℕ
+partAt t i z a = cond (leZ (pos 0) z && (ltb (natAbs z) i && eqb (natAbs (cell t (natAbs z) 0)) a)) (natAbs z) i
 
--- s and e are those of the rows p and q together, which meet the condition of c
-unfoldable pub spansBoth : Relation → List ℤ → ℕ → ℕ → ℤ → ℤ → Bool
-spansBoth c t p q s e =
-    eqZ s (least (cell t p 3) (cell t q 3))
-    && (eqZ e (greatest (cell t p 4) (cell t q 4))
-    && isRelated c (cell t p 3) (cell t p 4) (cell t q 3) (cell t q 4))
-
-unfoldable pub isPairRow : Relation → List ℤ → ℕ → ℕ → ℕ → ℤ → ℤ → ℤ → ℤ → Bool
-isPairRow c t i a b l r s e = refersTo t i l a && (refersTo t i r b && spansBoth c t (natAbs l) (natAbs r) s e)
-
-unfoldable pub isArmRow : List ℤ → ℕ → ℕ → ℕ → ℤ → ℤ → ℤ → ℤ → Bool
-isArmRow t i a b l r s e = cond (eqZ r none) (hasPart t i l a s e) (eqZ l none && hasPart t i r b s e)
-
-unfoldable pub isSingleRow : List ℤ → ℕ → ℕ → ℤ → ℤ → ℤ → ℤ → Bool
-isSingleRow t i a l r s e = eqZ r none && hasPart t i l a s e
-
-unfoldable pub agreesBy : Kind → ℕ → ℕ → ℕ → List ℤ → ℕ → ℤ → ℤ → ℤ → ℤ → Bool
-agreesBy Event a b events t i l r s e = isEventRow events l r s e
-agreesBy Or a b events t i l r s e = isArmRow t i a b l r s e
-agreesBy (Pair c) a b events t i l r s e = isPairRow c t i a b l r s e
-agreesBy (Absence c) a b events t i l r s e = isSingleRow t i a l r s e
-agreesBy (Length c) a b events t i l r s e = isSingleRow t i a l r s e && hasLength c b s e
-agreesBy Unknown a b events t i l r s e = false
+unfoldable pub isWithin : Limits → Row → Bool
+isWithin l r = leZ (l .floor) (r .start) && ltZ (r .end) (l .instant)
 
 -- its end is not before that of the row before it
-unfoldable pub isAfterLast : List ℤ → ℕ → ℤ → Bool
-isAfterLast t zero e = true
-isAfterLast t (suc i) e = leZ (cell t i 4) e
+unfoldable pub isAfterLast : List ℤ → ℕ → Row → Bool
+isAfterLast t zero r = true
+isAfterLast t (suc i) r = leZ (cell t i 4) (r .end)
 
-unfoldable pub isRowOf : Entry → ℤ → ℤ → ℕ → List ℤ → ℕ → Bool
-isRowOf n instant floor events t i =
-    leZ floor (cell t i 3)
-    && (ltZ (cell t i 4) instant
-    && (isAfterLast t i (cell t i 4)
-    && agreesBy (kindOf (n .op)) (n .a) (n .b) events t i (cell t i 1) (cell t i 2) (cell t i 3) (cell t i 4)))
+unfoldable pub isEventRow : ℕ → Row → Bool
+isEventRow events r = leZ (pos 1) (r .left) && (leb (natAbs (r .left)) events && (eqZ (r .right) none && eqZ (r .start) (r .end)))
+
+-- the condition on the parts p and q
+unfoldable pub meetsCondition : Kind → ℕ → Row → Row → Bool
+meetsCondition Event b p q = true
+meetsCondition Or b p q = true
+meetsCondition (Pair c) b p q = isRelated c (p .start) (p .end) (q .start) (q .end)
+meetsCondition (Absence e) b p q = true
+meetsCondition (Length c) b p q = hasLength c b (p .start) (p .end)
+meetsCondition Unknown b p q = true
+
+-- start and end are those of p and q together
+unfoldable pub spansParts : Row → Row → Row → Bool
+spansParts r p q = eqZ (r .start) (least (p .start) (q .start)) && eqZ (r .end) (greatest (p .end) (q .end))
+
+unfoldable pub isSingleRow : Kind → ℕ → ℕ → List ℤ → ℕ → Row → Bool
+isSingleRow k a b t i r =
+    let p = partAt t i (r .left) a in
+    meetsCondition k b r r && (eqZ (r .right) none && (ltb p i && spansParts r (storedRow t p) (storedRow t p)))
+
+unfoldable pub isArmRow : Kind → ℕ → ℕ → List ℤ → ℕ → Row → Bool
+isArmRow k a b t i r = isSingleRow k a b t i r || isSingleRow k b b t i (exchanged r)
+
+unfoldable pub isPairRow : Kind → ℕ → ℕ → List ℤ → ℕ → Row → Bool
+isPairRow k a b t i r =
+    let p = partAt t i (r .left) a in
+    let q = partAt t i (r .right) b in
+    ltb p i && (ltb q i && (spansParts r (storedRow t p) (storedRow t q) && meetsCondition k b (storedRow t p) (storedRow t q)))
+
+unfoldable pub agreesBy : Shape → Kind → ℕ → ℕ → ℕ → List ℤ → ℕ → Row → Bool
+agreesBy Leaf k a b events t i r = isEventRow events r
+agreesBy Single k a b events t i r = isSingleRow k a b t i r
+agreesBy Arms k a b events t i r = isArmRow k a b t i r
+agreesBy Double k a b events t i r = isPairRow k a b t i r
+
+unfoldable pub isRowOf : Entry → Limits → List ℤ → ℕ → Row → Bool
+isRowOf e l t i r = isWithin l r && (isAfterLast t i r && agreesBy (shapeOf (kindOf (e .op))) (kindOf (e .op)) (e .a) (e .b) (l .events) t i r)

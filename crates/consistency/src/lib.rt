@@ -1,81 +1,86 @@
 // The check behind refusal 13: whether watch and table are consistent with the chart; where not, document 01 calls them out of joint. Inner functions of the watch: each asks what its
-// callers have shown. Those on one row take constant time.
+// callers have shown. Those on one row take constant time; they are handed rows and limits, but no watch and no chart, whose arrays would be copied for
+// each row.
 ghost use mathlib.Core.Path.{_≡_};
-ghost use mathlib.Core.Bool.{true, _&&_};
-ghost use Prim.Native.Nat.{_+_, _*_, _≤_};
+ghost use mathlib.Core.Bool.{true};
+ghost use Prim.Native.Nat.{_≤_};
 ghost use lib.ListN.{length};
-ghost use Rattle.interval.specs.Conditions.{hasLength};
+ghost use Rattle.interval.specs.Instants.{eqZ};
 ghost use Rattle.chart.specs.Charts.{allBelow, isUsable};
-ghost use Rattle.chart.specs.Operators.{kindOf};
+ghost use Rattle.chart.specs.Operators.{kindOf, shapeOf};
 ghost use Rattle.model.specs.Capacity.{capacity};
-ghost use Rattle.consistency.specs.Consistency.{isWatchInRange, isTableRowConsistent, areConsistent};
-ghost use Rattle.consistency.specs.Rows.{EntriesAbove, refersTo, hasPart, isEventRow, spansBoth, isPairRow, isArmRow, isSingleRow, agreesBy, isAfterLast, isRowOf};
+ghost use Rattle.model.specs.Order.{none};
+ghost use Rattle.consistency.specs.Consistency.{areInstantsInRange, areCountsInRange, isWatchInRange, isTableRowConsistent, areConsistent};
+ghost use Rattle.consistency.specs.Rows.{limitsOf, Reached, exchanged, partAt, isWithin, isAfterLast, isEventRow, meetsCondition, spansParts, isSingleRow, isArmRow, isPairRow, agreesBy, isRowOf};
 use chart::Chart;
 use chart::Entry;
 use chart::operator::Kind;
-use interval::LengthTest;
-use interval::Relation;
+use chart::operator::Shape;
+use state::WatchState;
+use table::Row;
 
-// Whether watch and table are consistent with a chart that a watch may use. One walk of the table, with constant work for each row in
-// use and one look at each number behind them; a watch that is out of range itself is refused before the walk.
-pub fn is_consistent(
-    chart: Chart,
+// The numbers of a watch that its rows are held against.
+struct Limits {
     instant: i32,
     floor: i32,
     events: usize,
-    rows: usize,
-    pending: usize,
-    table: &[i32],
-) -> bool
+}
+
+// Whether watch and table are consistent with a chart that a watch may use. One walk of the table, with constant work for each row in
+// use and one look at each number behind them; a watch that is out of range itself is refused before the walk.
+pub fn is_consistent(chart: Chart, state: WatchState, table: &[i32]) -> bool
     requires { ⌜ isUsable chart ≡ true ⌝ }
-    ensures { λ r. ⌜ r ≡ areConsistent chart instant floor events rows pending (now (table .entry)) ⌝ }
+    ensures { λ r. ⌜ r ≡ areConsistent chart state (now (table .entry)) ⌝ }
 {
-    if !is_watch_in_range(instant, floor, events, pending) {
+    if !is_watch_in_range(state) {
         return false;
     }
     let room = table::rows_that_fit(table.len());
+    let rows = state.rows;
     if room < rows {
         return false;
     }
-    table::are_zeros(table, rows * 5, room * 5)
-        && are_rows_consistent(chart, instant, floor, events, rows, table)
+    table::are_zeros(table, rows * 5, room * 5) && are_rows_consistent(chart, state, table)
 }
 
 // Whether the watch's own numbers are as they should be.
-fn is_watch_in_range(instant: i32, floor: i32, events: usize, pending: usize) -> bool
-    ensures { λ r. ⌜ r ≡ isWatchInRange instant floor events pending ⌝ }
+fn is_watch_in_range(state: WatchState) -> bool
+    ensures { λ r. ⌜ r ≡ isWatchInRange state ⌝ }
 {
-    if !interval::is_instant(instant) {
+    are_instants_in_range(limits_of(state)) && are_counts_in_range(state.pending, state.events)
+}
+
+// Open instant and floor: in range, and the floor not above the open instant.
+fn are_instants_in_range(limits: Limits) -> bool
+    ensures { λ r. ⌜ r ≡ areInstantsInRange (limits .instant) (limits .floor) ⌝ }
+{
+    if !interval::is_instant(limits.instant) {
         return false;
     }
-    if !interval::is_instant(floor) {
-        return false;
-    }
-    if interval::is_before(instant, floor) {
-        return false;
-    }
+    interval::is_instant(limits.floor) && interval::is_no_later(limits.floor, limits.instant)
+}
+
+// The counts of pending events and of all.
+fn are_counts_in_range(pending: usize, events: usize) -> bool
+    ensures { λ r. ⌜ r ≡ areCountsInRange pending events ⌝ }
+{
     if 64 < pending {
         return false;
     }
     pending <= events && events <= 1000000
 }
 
-// Whether every row in use is consistent: rows from the first, and the entry of each looked up once.
-fn are_rows_consistent(
-    chart: Chart,
-    instant: i32,
-    floor: i32,
-    events: usize,
-    rows: usize,
-    t: &[i32],
-) -> bool
-    requires { ⌜ (isUsable chart ≡ true) × (rows ≤ capacity (length (now t))) ⌝ }
-    ensures { λ r. ⌜ r ≡ allBelow rows (isTableRowConsistent chart instant floor events rows (now (t .entry))) ⌝ }
+// Whether every row in use is consistent: rows from the first, each read once and its entry looked up once.
+fn are_rows_consistent(chart: Chart, state: WatchState, t: &[i32]) -> bool
+    requires { ⌜ (isUsable chart ≡ true) × (state .rows ≤ capacity (length (now t))) ⌝ }
+    ensures { λ r. ⌜ r ≡ allBelow (state .rows) (isTableRowConsistent chart state (now (t .entry))) ⌝ }
 {
+    let limits = limits_of(state);
     let count = chart.count;
     let mut i: usize = 0;
-    while i < rows {
-        let z = t[i * 5];
+    while i < state.rows {
+        let row = table::row_at(t, i);
+        let z = row.entry;
         if z < 0 {
             return false;
         }
@@ -84,7 +89,7 @@ fn are_rows_consistent(
             return false;
         }
         let e = chart.entries[n];
-        if !is_row_of(e, instant, floor, events, t, i) {
+        if !is_row_of(e, limits, t, i, row) {
             return false;
         }
         i += 1;
@@ -92,194 +97,183 @@ fn are_rows_consistent(
     true
 }
 
-// Whether row i is consistent, e being its entry in the chart.
-fn is_row_of(e: Entry, instant: i32, floor: i32, events: usize, t: &[i32], i: usize) -> bool
-    requires { ⌜ (i * 5 + 5 ≤ length (now t)) × EntriesAbove i (now t) ⌝ }
-    ensures { λ r. ⌜ r ≡ isRowOf e instant floor events (now (t .entry)) i ⌝ }
+fn limits_of(state: WatchState) -> Limits
+    ensures { λ r. ⌜ r ≡ limitsOf state ⌝ }
 {
-    let at = i * 5;
-    let start = t[at + 3];
-    let end = t[at + 4];
-    if interval::is_before(start, floor) {
-        return false;
+    Limits {
+        instant: state.instant,
+        floor: state.floor,
+        events: state.events,
     }
-    if interval::is_no_later(instant, end) {
-        return false;
-    }
-    if !is_after_last(t, i, end) {
-        return false;
-    }
-    let left = t[at + 1];
-    let right = t[at + 2];
-    agrees(e, events, t, i, left, right, start, end)
 }
 
-// Whether the row before row i, where there is one, ends no later than `end`.
-fn is_after_last(t: &[i32], i: usize, end: i32) -> bool
-    requires { ⌜ i * 5 + 5 ≤ length (now t) ⌝ }
-    ensures { λ r. ⌜ r ≡ isAfterLast (now (t .entry)) i end ⌝ }
+// Whether row i is consistent, e being its entry in the chart.
+fn is_row_of(e: Entry, limits: Limits, t: &[i32], i: usize, row: Row) -> bool
+    requires { ⌜ Reached i (now t) ⌝ }
+    ensures { λ r. ⌜ r ≡ isRowOf e limits (now (t .entry)) i row ⌝ }
+{
+    if !is_within(limits, row) {
+        return false;
+    }
+    if !is_after_last(t, i, row) {
+        return false;
+    }
+    agrees(e, limits.events, t, i, row)
+}
+
+// Whether a row starts at the floor or later and ends before the open instant.
+fn is_within(limits: Limits, row: Row) -> bool
+    ensures { λ r. ⌜ r ≡ isWithin limits row ⌝ }
+{
+    let end = row.end;
+    interval::is_no_later(limits.floor, row.start) && interval::is_before(end, limits.instant)
+}
+
+// Whether the row before row i, where there is one, ends no later than row i.
+fn is_after_last(t: &[i32], i: usize, row: Row) -> bool
+    requires { ⌜ Reached i (now t) ⌝ }
+    ensures { λ r. ⌜ r ≡ isAfterLast (now (t .entry)) i row ⌝ }
 {
     if i == 0 {
         return true;
     }
-    let last = t[(i - 1) * 5 + 4];
-    interval::is_no_later(last, end)
+    let last = table::row_at(t, i - 1);
+    interval::is_no_later(last.end, row.end)
 }
 
-// Whether a row's references, start, end and condition are as its entry's operator has them.
-fn agrees(
-    e: Entry,
-    events: usize,
-    t: &[i32],
-    i: usize,
-    left: i32,
-    right: i32,
-    start: i32,
-    end: i32,
-) -> bool
-    requires { ⌜ (i * 5 + 5 ≤ length (now t)) × EntriesAbove i (now t) ⌝ }
-    ensures { λ r. ⌜ r ≡ agreesBy (kindOf (e .op)) (e .a) (e .b) events (now (t .entry)) i left right start end ⌝ }
+// Whether a row's references, start, end and condition are as its entry's operator has them. By the shape, so that a new operator adds a case to
+// `meets_condition` alone. An unknown code stands in no chart that a watch may use.
+fn agrees(e: Entry, events: usize, t: &[i32], i: usize, row: Row) -> bool
+    requires { ⌜ Reached i (now t) ⌝ }
+    ensures { λ r. ⌜ r ≡ agreesBy (shapeOf (kindOf (e .op))) (kindOf (e .op)) (e .a) (e .b) events (now (t .entry)) i row ⌝ }
 {
-    let a = e.a;
-    let b = e.b;
-    let k = chart::operator::kind_of(e.op);
-    match k {
-        Kind::Event => is_event_row(events, left, right, start, end),
-        Kind::Or => is_arm_row(t, i, a, b, left, right, start, end),
-        Kind::Pair(c) => is_pair_row(c, t, i, a, b, left, right, start, end),
-        Kind::Absence(_) => is_single_row(t, i, a, left, right, start, end),
-        Kind::Length(c) => is_lasting_row(c, t, i, a, b, left, right, start, end),
-        Kind::Unknown => false,
+    let kind = chart::operator::kind_of(e.op);
+    let shape = chart::operator::shape_of(kind);
+    match shape {
+        Shape::Leaf => is_event_row(events, row),
+        Shape::Single => is_single_row(kind, e.a, e.b, t, i, row),
+        Shape::Arms => is_arm_row(kind, e.a, e.b, t, i, row),
+        Shape::Double => is_pair_row(kind, e.a, e.b, t, i, row),
     }
 }
 
 // An event row: a serial 1 to the count, no second reference, start and end equal.
-fn is_event_row(events: usize, left: i32, right: i32, start: i32, end: i32) -> bool
-    ensures { λ r. ⌜ r ≡ isEventRow events left right start end ⌝ }
+fn is_event_row(events: usize, row: Row) -> bool
+    ensures { λ r. ⌜ r ≡ isEventRow events row ⌝ }
 {
+    let left = row.left;
     if left < 1 {
         return false;
     }
     if events < left as usize {
         return false;
     }
-    right == -1 && interval::is_same(start, end)
+    has_no_right(row) && interval::is_same(row.start, row.end)
 }
 
-// A row of one arm of an or.
-fn is_arm_row(
-    t: &[i32],
-    i: usize,
-    a: u32,
-    b: u32,
-    left: i32,
-    right: i32,
-    start: i32,
-    end: i32,
-) -> bool
-    requires { ⌜ (i * 5 + 5 ≤ length (now t)) × EntriesAbove i (now t) ⌝ }
-    ensures { λ r. ⌜ r ≡ isArmRow (now (t .entry)) i a b left right start end ⌝ }
+// A row of one operand, on the left and of entry a. It starts and ends as the operand does, so that the condition is asked of the row itself,
+// before anything is read.
+fn is_single_row(kind: Kind, a: u32, b: u32, t: &[i32], i: usize, row: Row) -> bool
+    requires { ⌜ Reached i (now t) ⌝ }
+    ensures { λ r. ⌜ r ≡ isSingleRow kind a b (now (t .entry)) i row ⌝ }
 {
-    if right == -1 {
-        return has_part(t, i, left, a, start, end);
+    if !meets_condition(kind, b, row, row) {
+        return false;
     }
-    left == -1 && has_part(t, i, right, b, start, end)
+    if !has_no_right(row) {
+        return false;
+    }
+    let at = part_at(t, i, row, a);
+    if i <= at {
+        return false;
+    }
+    let p = table::row_at(t, at);
+    spans_parts(row, p, p)
+}
+
+// A row of one operand, which is the left or the right one.
+fn is_arm_row(kind: Kind, a: u32, b: u32, t: &[i32], i: usize, row: Row) -> bool
+    requires { ⌜ Reached i (now t) ⌝ }
+    ensures { λ r. ⌜ r ≡ isArmRow kind a b (now (t .entry)) i row ⌝ }
+{
+    if is_single_row(kind, a, b, t, i, row) {
+        return true;
+    }
+    is_single_row(kind, b, b, t, i, exchanged(row))
 }
 
 // A row of two operands.
-fn is_pair_row(
-    c: Relation,
-    t: &[i32],
-    i: usize,
-    a: u32,
-    b: u32,
-    left: i32,
-    right: i32,
-    start: i32,
-    end: i32,
-) -> bool
-    requires { ⌜ (i * 5 + 5 ≤ length (now t)) × EntriesAbove i (now t) ⌝ }
-    ensures { λ r. ⌜ r ≡ isPairRow c (now (t .entry)) i a b left right start end ⌝ }
+fn is_pair_row(kind: Kind, a: u32, b: u32, t: &[i32], i: usize, row: Row) -> bool
+    requires { ⌜ Reached i (now t) ⌝ }
+    ensures { λ r. ⌜ r ≡ isPairRow kind a b (now (t .entry)) i row ⌝ }
 {
-    if !refers_to(t, i, left, a) {
+    let left = part_at(t, i, row, a);
+    if i <= left {
         return false;
     }
-    if !refers_to(t, i, right, b) {
+    let p = table::row_at(t, left);
+    let right = part_at(t, i, exchanged(row), b);
+    if i <= right {
         return false;
     }
-    spans_both(c, t, left as usize, right as usize, start, end)
+    let q = table::row_at(t, right);
+    spans_parts(row, p, q) && meets_condition(kind, b, p, q)
 }
 
-// Whether start and end are those of the rows p and q together, and these meet the condition of c.
-fn spans_both(c: Relation, t: &[i32], p: usize, q: usize, start: i32, end: i32) -> bool
-    requires { ⌜ (p * 5 + 5 ≤ length (now t)) × (q * 5 + 5 ≤ length (now t)) ⌝ }
-    ensures { λ r. ⌜ r ≡ spansBoth c (now (t .entry)) p q start end ⌝ }
+// Whether a row's start and end are those of the rows p and q together; a single part is both.
+fn spans_parts(row: Row, p: Row, q: Row) -> bool
+    ensures { λ r. ⌜ r ≡ spansParts row p q ⌝ }
 {
-    let ps = t[p * 5 + 3];
-    let pe = t[p * 5 + 4];
-    let qs = t[q * 5 + 3];
-    let qe = t[q * 5 + 4];
-    if !interval::is_same(start, interval::least_start(ps, qs)) {
-        return false;
-    }
-    if !interval::is_same(end, interval::greatest_end(pe, qe)) {
-        return false;
-    }
-    interval::is_related(c, ps, pe, qs, qe)
+    let start = interval::least_start(p.start, q.start);
+    let end = interval::greatest_end(p.end, q.end);
+    interval::is_same(row.start, start) && interval::is_same(row.end, end)
 }
 
-// A row of one operand, which is on the left.
-fn is_single_row(t: &[i32], i: usize, a: u32, left: i32, right: i32, start: i32, end: i32) -> bool
-    requires { ⌜ (i * 5 + 5 ≤ length (now t)) × EntriesAbove i (now t) ⌝ }
-    ensures { λ r. ⌜ r ≡ isSingleRow (now (t .entry)) i a left right start end ⌝ }
+// The condition of an operator on its parts, b being the length of a length test. An absence's is not asked, and the others have none.
+fn meets_condition(kind: Kind, b: u32, p: Row, q: Row) -> bool
+    ensures { λ r. ⌜ r ≡ meetsCondition kind b p q ⌝ }
 {
-    right == -1 && has_part(t, i, left, a, start, end)
-}
-
-// A row of one operand that lasts as the test asks: the operand's start and end are the row's.
-fn is_lasting_row(
-    c: LengthTest,
-    t: &[i32],
-    i: usize,
-    a: u32,
-    d: u32,
-    left: i32,
-    right: i32,
-    start: i32,
-    end: i32,
-) -> bool
-    requires { ⌜ (i * 5 + 5 ≤ length (now t)) × EntriesAbove i (now t) ⌝ }
-    ensures { λ r. ⌜ r ≡ (isSingleRow (now (t .entry)) i a left right start end && hasLength c d start end) ⌝ }
-{
-    is_single_row(t, i, a, left, right, start, end) && interval::has_length(c, d, start, end)
-}
-
-// Whether z is the number of a lower row of entry a that starts and ends so.
-fn has_part(t: &[i32], i: usize, z: i32, a: u32, start: i32, end: i32) -> bool
-    requires { ⌜ (i * 5 + 5 ≤ length (now t)) × EntriesAbove i (now t) ⌝ }
-    ensures { λ r. ⌜ r ≡ hasPart (now (t .entry)) i z a start end ⌝ }
-{
-    if !refers_to(t, i, z, a) {
-        return false;
+    match kind {
+        Kind::Event => true,
+        Kind::Or => true,
+        Kind::Pair(c) => interval::is_related(c, p.start, p.end, q.start, q.end),
+        Kind::Absence(_) => true,
+        Kind::Length(c) => interval::has_length(c, b, p.start, p.end),
+        Kind::Unknown => true,
     }
-    let at = z as usize * 5;
-    let s = t[at + 3];
-    let e = t[at + 4];
-    interval::is_same(start, s) && interval::is_same(end, e)
 }
 
-// Whether z is the number of a row lower than i, and that row's entry is a; only such a row is read.
-fn refers_to(t: &[i32], i: usize, z: i32, a: u32) -> bool
-    requires { ⌜ (i * 5 + 5 ≤ length (now t)) × EntriesAbove i (now t) ⌝ }
-    ensures { λ r. ⌜ r ≡ refersTo (now (t .entry)) i z a ⌝ }
+// The row that the left number refers to, where that is a row lower than i and of entry a; otherwise i. Only a lower row is read.
+fn part_at(t: &[i32], i: usize, row: Row, a: u32) -> usize
+    requires { ⌜ Reached i (now t) ⌝ }
+    ensures { λ r. ⌜ r ≡ partAt (now (t .entry)) i (row .left) a ⌝ }
 {
-    if z < 0 {
-        return false;
+    let left = row.left;
+    if left < 0 {
+        return i;
     }
-    let j = z as usize;
+    let j = left as usize;
     if i <= j {
-        return false;
+        return i;
     }
-    let n = t[j * 5];
-    n as usize == a as usize
+    let part = table::row_at(t, j);
+    let n = part.entry;
+    if n as usize == a as usize { j } else { i }
+}
+
+// Whether a row has -1 on the right.
+fn has_no_right(row: Row) -> bool
+    ensures { λ r. ⌜ r ≡ eqZ (row .right) none ⌝ }
+{
+    row.right == -1
+}
+
+// The row with left and right exchanged.
+fn exchanged(row: Row) -> Row
+    ensures { λ r. ⌜ r ≡ exchanged row ⌝ }
+{
+    let mut next = row;
+    next.left = row.right;
+    next.right = row.left;
+    next
 }

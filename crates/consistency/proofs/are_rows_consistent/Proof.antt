@@ -1,128 +1,86 @@
 -- `are_rows_consistent` meets its contract: the rows passed are consistent, and one that is not ends the walk.
-use Prim.Native.Nat.{_*_, _-_, _<_, _≤_}
-use mathlib.Core.Path.{_≡_, sym, _∙_}
+use Prim.Native.Nat.{_+_, _*_, _-_, _<_, _≤_}
+use mathlib.Core.Path.{_≡_, sym, ap, _∙_}
 use mathlib.Core.Bool.{true}
 use native.Mathlib.Omega.{arith}
 use borrow.Author.Needs.{needs}
-use borrow.Author.Tests.{not-true, not-false}
 use lib.IntN.{pos, natAbs}
-use lib.ListN.{length, getD}
+use lib.ListN.{length}
 use lib.Signed.{leZ}
 use mir.Syntax.{w32}
-use mir.Val.{SFits, toZ, ofZ}
+use mir.Val.{toZ, ofZ}
 use Rattle.interval.proofs.Machine.{same32, cast-up}
 use Rattle.chart.specs.Charts.{allBelow}
 use Rattle.chart.proofs.Below.{at-place, none-below, one-more, not-all}
+use Rattle.chart.proofs.Usable.{usable-few}
 use Rattle.model.proofs.Capacity.{capacity-fits}
 use Rattle.table.specs.Table.{cell}
 use Rattle.consistency.specs.Consistency.{isTableRowConsistent}
-use Rattle.consistency.proofs.Tests.{not-below, entry-cell}
-use Rattle.chart.proofs.Usable.{usable-few}
+use Rattle.consistency.proofs.Tests.{failed, passed, numbers, not-below}
 use Rattle.consistency.proofs.Rows.{row-above, row-negative, row-unknown, row-is}
 use Rattle.consistency.proofs.are_rows_consistent.Statement.{statement}
 use Rattle.consistency.proofs.are_rows_consistent.Tie as tie
 
 abbrev Inv-loop : tie.InvT-loop
-Inv-loop instant floor events rows t chart count i₀ i = (i ≤ rows) × (allBelow i (isTableRowConsistent chart (toZ w32 instant) (toZ w32 floor) events rows t) ≡ true)
+Inv-loop state t chart limits count i₀ i = (i ≤ state .rows) × (allBelow i (isTableRowConsistent chart state t) ≡ true)
 
 abbrev μ-loop : tie.MeasureT-loop
-μ-loop instant floor events rows t chart count i₀ i = rows - i
+μ-loop state t chart limits count i₀ i = state .rows - i
 
-z-fits : (c : tie.After-z Inv-loop μ-loop) → let l = c .before .before in SFits w32 (getD (l .before .args .t .now) (l .loop .i * 5) (pos 0))
-z-fits c = record { sfits = c .z .given }
+-- the row read, and its entry
+room : (c : tie.Then1 Inv-loop μ-loop) → let l = c .before .before in l .loop .i * 5 + 5 ≤ length (l .before .before .args .t .now)
+room c =
+    let l = c .before .before in
+    omega (arith, capacity-fits (length (l .before .before .args .t .now)), l .before .before .pre .1, c .if1 .taken)
 
-above : (c : tie.Else1 Inv-loop μ-loop) → let l = c .before .before .before in leZ (pos 0) (cell (l .before .args .t .now) (l .loop .i) 0) ≡ true
+read : (c : tie.After-struct-told Inv-loop μ-loop) → let l = c .before .before .before .before in toZ w32 (ofZ w32 (c .before .row-at .result .entry)) ≡ cell (l .before .before .args .t .now) (l .loop .i) 0
+read c = same32 _ ((numbers (c .before .row-at .result) (c .struct-told .given)) .entry) ∙ ap (λ q. q .entry) (c .before .row-at .ensures)
+
+above : (c : tie.Else2 Inv-loop μ-loop) → let l = c .before .before .before .before .before in leZ (pos 0) (cell (l .before .before .args .t .now) (l .loop .i) 0) ≡ true
 above c =
-    let l = c .before .before .before in
-    not-below (cell (l .before .args .t .now) (l .loop .i) 0) (pos 0) (simp (same32, z-fits (c .before), entry-cell) at (c .if1 .left))
+    let l = c .before .before .before .before .before in
+    not-below (cell (l .before .before .args .t .now) (l .loop .i) 0) (pos 0) (rw (read (c .before)) at (c .if2 .left))
 
-known : (c : tie.Else2 Inv-loop μ-loop) → let l = c .before .before .before .before in natAbs (cell (l .before .args .t .now) (l .loop .i) 0) < l .before .args .t1 .count
-known c = simp (same32, z-fits (c .before .before), entry-cell) at (c .if2 .left)
-
-few : (c : tie.Else2 Inv-loop μ-loop) → let l = c .before .before .before .before in natAbs (toZ w32 (ofZ w32 (getD (l .before .args .t .now) (l .loop .i * 5) (pos 0)))) < 32
+few : (c : tie.Else3 Inv-loop μ-loop) → natAbs (toZ w32 (ofZ w32 (c .before .before .before .row-at .result .entry))) < 32
 few c =
-    let s = c .before .before .before .before .before in
-    omega (arith, usable-few (s .args .t1) (s .pre .0), c .if2 .left)
+    let s = c .before .before .before .before .before .before .before .before in
+    omega (arith, usable-few (s .args .t1) (s .pre .0), c .if3 .left)
 
-tested : (c : tie.After-is-row-of Inv-loop μ-loop) → let l = c .before .before .before .before .before .before in let g = l .before .args in isTableRowConsistent (g .t1) (toZ w32 (ofZ w32 (g .instant))) (toZ w32 (ofZ w32 (g .floor))) (g .events) (g .rows) (g .t .now) (l .loop .i) ≡ c .is-row-of .result
+tested : (c : tie.After-is-row-of Inv-loop μ-loop) → let l = c .before .before .before .before .before .before .before .before in let g = l .before .before .args in c .is-row-of .result ≡ isTableRowConsistent (g .t1) (g .state) (g .t .now) (l .loop .i)
 tested c =
     let d = c .before .before in
-    let z = d .before .before in
-    let l = z .before .before in
-    let g = l .before .args in
-    row-is (g .t1) (toZ w32 (ofZ w32 (g .instant))) (toZ w32 (ofZ w32 (g .floor))) (g .events) (g .rows) (g .t .now) (l .loop .i) (z .before .loop-test .taken) (l .before .pre .0) (above (d .before)) (known d)
-    ∙ sym (simp (same32 (getD (g .t .now) (l .loop .i * 5) (pos 0)) (z-fits z), entry-cell) at (c .is-row-of .ensures))
-
-loop-holds : tie.Need-loop-holds Inv-loop μ-loop
-loop-holds c = (omega arith, none-below _)
-
-mul-z : tie.Need-mul-z Inv-loop μ-loop
-mul-z c = let h = capacity-fits (length (c .before .before .args .t .now)) in search needs
-
-mul-z-2 : tie.Need-mul-z-2 Inv-loop μ-loop
-mul-z-2 c = let h = capacity-fits (length (c .before .before .args .t .now)) in search needs
-
-shared-slice-copy-out-z : tie.Need-shared-slice-copy-out-z Inv-loop μ-loop
-shared-slice-copy-out-z c = let h = capacity-fits (length (c .before .before .args .t .now)) in omega arith
+    let e = d .before .before in
+    let l = e .before .before .before .before in
+    let s = l .before .before in
+    let same = row-is (s .args .t1) (s .args .state) (s .args .t .now) (l .loop .i) (e .before .before .if1 .taken) (s .pre .0) (above (d .before)) (rw (read e) at (d .if3 .left)) in
+    (simp (l .before .limits-of .ensures, e .before .row-at .ensures) at (simp (read e) at (c .is-row-of .ensures))) ∙ sym same
 
 returns : tie.Need-returns Inv-loop μ-loop
 returns c =
-    let l = c .before .before .before in
-    let g = l .before .args in
-    let n = row-negative (g .t1) (g .instant) (g .floor) (g .events) (g .rows) (g .t .now) (l .loop .i) (simp (same32, z-fits (c .before), entry-cell) at (c .if1 .taken)) in
-    sym (not-all (g .rows) _ (l .loop .i) (c .before .before .loop-test .taken) n)
-
-cast-n : tie.Need-cast-n Inv-loop μ-loop
-cast-n c =
-    let l = c .before .before .before in
-    let f = z-fits (c .before) in
-    simp (same32, f) (cast-up _ f (rw (entry-cell (l .before .args .t .now) (l .loop .i)) (above c)))
+    let l = c .before .before .before .before .before in
+    let g = l .before .before .args in
+    sym (not-all (g .state .rows) _ (l .loop .i) (c .before .before .before .if1 .taken) (row-negative (g .t1) (g .state) (g .t .now) (l .loop .i) (rw (read (c .before)) at (c .if2 .taken))))
 
 returns-2 : tie.Need-returns-2 Inv-loop μ-loop
 returns-2 c =
     let d = c .before .before in
-    let l = d .before .before in
-    let g = l .before .args in
-    let n = row-unknown (g .t1) (g .instant) (g .floor) (g .events) (g .rows) (g .t .now) (l .loop .i) (d .before .loop-test .taken) (simp (same32, z-fits d, entry-cell) at (c .if2 .taken)) in
-    sym (not-all (g .rows) _ (l .loop .i) (d .before .loop-test .taken) n)
-
-mul-e : tie.Need-mul-e Inv-loop μ-loop
-mul-e c = record { fits = omega (arith, few c) }
-
-element-copy-out-e : tie.Need-element-copy-out-e Inv-loop μ-loop
-element-copy-out-e c = few c
+    let l = d .before .before .before .before in
+    let g = l .before .before .args in
+    let here = d .before .before .if1 .taken in
+    sym (not-all (g .state .rows) _ (l .loop .i) here (row-unknown (g .t1) (g .state) (g .t .now) (l .loop .i) here (rw (read d) at (c .if3 .taken))))
 
 is-row-of-requires : tie.Need-is-row-of-requires Inv-loop μ-loop
 is-row-of-requires c κs =
-    let l = c .before .before .before .before .before in
-    let g = l .before .args in (
-      omega (arith, capacity-fits (length (g .t .now)), l .before .pre .1, c .before .before .before .before .loop-test .taken),
-      λ j h. row-above (g .t1) (toZ w32 (ofZ w32 (g .instant))) (toZ w32 (ofZ w32 (g .floor))) (g .events) (g .rows) (g .t .now) j (at-place (l .loop .i) _ (l .loop .inv .1) j h),
-    )
-
-returns-3 : tie.Need-returns-3 Inv-loop μ-loop
-returns-3 c =
-    let l = c .before .before .before .before .before .before .before in
-    let s = l .before in
-    sym (simp (same32, s .fits .instant, s .fits .floor) at (not-all (s .args .rows) (isTableRowConsistent (s .args .t1) (toZ w32 (ofZ w32 (s .args .instant))) (toZ w32 (ofZ w32 (s .args .floor))) (s .args .events) (s .args .rows) (s .args .t .now)) (l .loop .i) (c .before .before .before .before .before .before .loop-test .taken) (tested (c .before) ∙ not-true _ (c .if3 .taken))))
-
-add-i : tie.Need-add-i Inv-loop μ-loop
-add-i c = omega arith
-
-loop-less : tie.Need-loop-less Inv-loop μ-loop
-loop-less c = omega arith
-
-loop-again : tie.Need-loop-again Inv-loop μ-loop
-loop-again c =
-    let l = c .before .before .before .before .before .before .before in
-    (omega arith, one-more (l .loop .i) _ (l .loop .inv .1) (tested (c .before) ∙ not-false _ (c .if3 .left)))
+    let h = c .before .before .before .before .before in
+    let l = h .before .before in
+    let g = l .before .before .args in
+    record { fits = room h; above = λ j k. row-above (g .t1) (g .state) (g .t .now) j (at-place (l .loop .i) _ (l .loop .inv .1) j k) }
 
 returns-4 : tie.Need-returns-4 Inv-loop μ-loop
 returns-4 c =
-    let l = c .before in
-    let s = l .before in
-    let all : l .loop .i ≡ s .args .rows = omega arith in
-    sym (simp (same32, s .fits .instant, s .fits .floor, all) at (l .loop .inv .1))
+    let l = c .before .before in
+    let all : l .loop .i ≡ l .before .before .args .state .rows = omega arith in
+    sym (rw all at (l .loop .inv .1))
 
 pub are-rows-consistent-spec : {M : Type 1} → statement M
 are-rows-consistent-spec =
@@ -130,18 +88,17 @@ are-rows-consistent-spec =
     (tie.spec
     Inv-loop
     μ-loop
-    loop-holds
-    mul-z
-    mul-z-2
-    shared-slice-copy-out-z
+    (λ c κs. search needs)
+    (λ c. (omega arith, none-below _))
+    (λ c κs. room c)
     returns
-    cast-n
+    (λ c. let f = (numbers (c .before .before .row-at .result) (c .before .struct-told .given)) .entry in simp (same32, f) (cast-up _ f (rw (sym (read (c .before)) ∙ same32 _ f) at (above c))))
     returns-2
-    mul-e
-    element-copy-out-e
+    (λ c. record { fits = omega (arith, few c) })
+    few
     is-row-of-requires
-    returns-3
-    add-i
-    loop-less
-    loop-again
+    (λ c. let h = c .before .before .before .before .before .before .before in let l = h .before .before in sym (not-all (l .before .before .args .state .rows) _ (l .loop .i) (h .if1 .taken) (failed (tested (c .before)) (c .if4 .taken))))
+    (λ c. omega arith)
+    (λ c. omega arith)
+    (λ c. let l = c .before .before .before .before .before .before .before .before .before in (omega arith, one-more (l .loop .i) _ (l .loop .inv .1) (passed (tested (c .before)) (c .if4 .left))))
     returns-4)

@@ -1,52 +1,44 @@
--- `is_event_row` meets its contract: the tests are the definition's.
-use mathlib.Core.Path.{_≡_}
+-- `is_event_row` meets its contract: the tests are the definition's, in its order.
+use Prim.Native.Nat.{_≤_}
+use mathlib.Core.Path.{_≡_, sym, _∙_}
 use mathlib.Core.Bool.{true}
+use native.Mathlib.Omega.{arith}
 use borrow.Author.Needs.{needs}
 use borrow.Author.Tests.{le-leb, lt-leb}
 use lib.IntN.{pos, natAbs}
 use lib.Signed.{leZ}
-use mir.Syntax.{w32}
-use Rattle.interval.proofs.Machine.{same32, cast-up, eq-bits, eqZ-yes, eqZ-no}
-use Rattle.model.specs.Order.{none}
+use Rattle.interval.proofs.Signed.{signed}
+use Rattle.interval.proofs.Machine.{same32, cast-up}
 use Rattle.consistency.specs.Rows.{isEventRow}
-use Rattle.consistency.proofs.Tests.{none-fits, not-below, not-least, above-zero}
+use Rattle.consistency.proofs.Tests.{Numbers, numbers, not-below, not-least}
 use Rattle.consistency.proofs.is_event_row.Statement.{statement}
 use Rattle.consistency.proofs.is_event_row.Tie as tie
 
-positive : (c : tie.Else1) → leZ (pos 1) (c .before .args .left) ≡ true
-positive c = not-below (c .before .args .left) (pos 1) (simp (same32, c .before .fits .left) at (c .if1 .left))
+row-fits : (c : tie.After-struct-told) → Numbers (c .before .args .row)
+row-fits c = numbers (c .before .args .row) (c .struct-told .given)
 
-returns : tie.Need-returns
-unfolding isEventRow
-returns c = simp (not-least (c .before .args .left) (pos 1) (simp (same32, c .before .fits .left) at (c .if1 .taken)))
+positive : (c : tie.Else1) → leZ (pos 1) (c .before .before .args .row .left) ≡ true
+positive c = not-below (c .before .before .args .row .left) (pos 1) (simp (same32, (row-fits (c .before)) .left) at (c .if1 .left))
+
+counted : (c : tie.Else2) → natAbs (c .before .before .before .args .row .left) ≤ c .before .before .before .args .events
+counted c = simp (same32, (row-fits (c .before .before)) .left) at (c .if2 .left)
 
 cast-if2 : tie.Need-cast-if2
 cast-if2 c =
-    let l = c .before .args .left in
-    simp (same32, c .before .fits .left) (cast-up l (c .before .fits .left) (above-zero l (positive c)))
-
-returns-2 : tie.Need-returns-2
-unfolding isEventRow
-returns-2 c =
-    let s = c .before .before in
-    simp (positive (c .before), lt-leb (natAbs (s .args .left)) (s .args .events) (simp (same32, s .fits .left) at (c .if2 .taken)))
-
-is-same-requires : tie.Need-is-same-requires
-is-same-requires c κs = search needs
-
-returns-3 : tie.Need-returns-3
-unfolding isEventRow
-returns-3 c =
-    let d = c .before .before in
-    let s = d .before .before in
-    simp (positive (d .before), le-leb (natAbs (s .args .left)) (s .args .events) (simp (same32, s .fits .left) at (d .if2 .left)), eqZ-yes _ none (s .fits .right) none-fits (c .before .if3 .taken), c .is-same .ensures, same32, s .fits .start, s .fits .end)
-
-returns-4 : tie.Need-returns-4
-unfolding isEventRow
-returns-4 c =
-    let d = c .before in
-    let s = d .before .before in
-    simp (positive (d .before), le-leb (natAbs (s .args .left)) (s .args .events) (simp (same32, s .fits .left) at (d .if2 .left)), eqZ-no _ none (s .fits .right) none-fits (c .if3 .left), eq-bits w32 _ none (s .fits .right) none-fits)
+    let f = row-fits (c .before) in
+    let z = c .before .before .args .row .left in
+    let h : leZ (pos 1) z ≡ true = positive c in
+    simp (same32, f .left) (cast-up z (f .left) (omega (arith, signed)))
 
 pub is-event-row-spec : {M : Type 1} → statement M
-is-event-row-spec = tie.close (tie.spec returns cast-if2 returns-2 is-same-requires returns-3 returns-4)
+unfolding isEventRow
+is-event-row-spec =
+    tie.close
+    (tie.spec
+    (λ c. simp (not-least (c .before .before .args .row .left) (pos 1) (simp (same32, (row-fits (c .before)) .left) at (c .if1 .taken))))
+    cast-if2
+    (λ c. simp (positive (c .before), lt-leb _ _ (simp (same32, (row-fits (c .before .before)) .left) at (c .if2 .taken))))
+    (λ c κs. search needs)
+    (λ c κs. search needs)
+    (λ c. let e = c .before .before .before .before in let d = e .before in let f = numbers (d .before .before .before .args .row) (c .before .struct-told3 .given) in simp (positive (d .before), le-leb _ _ (counted d), sym (e .has-no-right .ensures) ∙ c .before .before .before .if3 .taken, c .is-same .ensures, same32, f .start, f .end))
+    (λ c. let d = c .before .before in simp (positive (d .before), le-leb _ _ (counted d), sym (c .before .has-no-right .ensures) ∙ c .if3 .left, c .if3 .left)))

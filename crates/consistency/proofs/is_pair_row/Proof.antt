@@ -1,79 +1,47 @@
--- `is_pair_row` meets its contract: both references are lower rows, so that these may be read.
-use Prim.Native.Nat.{_<_}
+-- `is_pair_row` meets its contract: only lower rows are read.
 use mathlib.Core.Path.{_≡_, sym, _∙_}
-use mathlib.Core.Bool.{true}
-use native.Mathlib.Omega.{arith}
 use borrow.Author.Needs.{needs}
-use borrow.Author.Tests.{not-true, not-false}
-use lib.IntN.{natAbs}
-use Rattle.interval.proofs.Machine.{same32, cast-up}
-use Rattle.consistency.specs.Rows.{refersTo, isPairRow}
-use Rattle.consistency.proofs.Tests.{refers-number, refers-below}
+use borrow.Author.Tests.{lt-ltb, le-ltb}
+use Rattle.table.specs.Table.{storedRow}
+use Rattle.consistency.specs.Rows.{partAt, spansParts, isPairRow}
 use Rattle.consistency.proofs.is_pair_row.Statement.{statement}
 use Rattle.consistency.proofs.is_pair_row.Tie as tie
 
-left-tested : (c : tie.After-refers-to) → let g = c .before .args in refersTo (g .t .now) (g .i) (g .left) (g .a) ≡ c .refers-to .result
-left-tested c = sym (simp (same32, c .before .fits .left) at (c .refers-to .ensures))
+right : (c : tie.After-part-at2) → let g = c .before .before .before .before .before .args in partAt (g .t .now) (g .i) (g .row .right) (g .b) ≡ c .part-at2 .result
+right c = sym (simp (c .before .exchanged .ensures) at (c .part-at2 .ensures))
 
-right-tested : (c : tie.After-refers-to2) → let g = c .before .before .before .args in refersTo (g .t .now) (g .i) (g .right) (g .b) ≡ c .refers-to2 .result
-right-tested c = sym (simp (same32, c .before .before .before .fits .right) at (c .refers-to2 .ensures))
-
-left-refers : (c : tie.Else1) → let g = c .before .before .args in refersTo (g .t .now) (g .i) (g .left) (g .a) ≡ true
-left-refers c = left-tested (c .before) ∙ not-false _ (c .if1 .left)
-
-right-refers : (c : tie.Else2) → let g = c .before .before .before .before .args in refersTo (g .t .now) (g .i) (g .right) (g .b) ≡ true
-right-refers c = right-tested (c .before) ∙ not-false _ (c .if2 .left)
-
-refers-to-requires : tie.Need-refers-to-requires
-refers-to-requires c κs = search needs
-
-returns : tie.Need-returns
-unfolding isPairRow
-returns c = simp (left-tested (c .before) ∙ not-true _ (c .if1 .taken))
-
-refers-to-requires-2 : tie.Need-refers-to-requires-2
-refers-to-requires-2 c κs = search needs
-
-returns-2 : tie.Need-returns-2
-unfolding isPairRow
-returns-2 c = simp (left-refers (c .before .before), right-tested (c .before) ∙ not-true _ (c .if2 .taken))
-
-cast-spans-both : tie.Need-cast-spans-both
-cast-spans-both c =
-    let s = c .before .before .before .before in
-    let g = s .args in
-    simp (same32, s .fits .left) (cast-up (g .left) (s .fits .left) (refers-number (g .t .now) (g .i) (g .left) (g .a) (left-refers (c .before .before))))
-
-cast-spans-both-2 : tie.Need-cast-spans-both-2
-cast-spans-both-2 c =
-    let s = c .before .before .before .before in
-    let g = s .args in
-    simp (same32, s .fits .right) (cast-up (g .right) (s .fits .right) (refers-number (g .t .now) (g .i) (g .right) (g .b) (right-refers c)))
-
-spans-both-requires : tie.Need-spans-both-requires
-spans-both-requires c κs =
-    let s = c .before .before .before .before in
-    let g = s .args in
-    let l : natAbs (g .left) < g .i = refers-below (g .t .now) (g .i) (g .left) (g .a) (left-refers (c .before .before)) in
-    let r : natAbs (g .right) < g .i = refers-below (g .t .now) (g .i) (g .right) (g .b) (right-refers c) in
-    simp (same32, s .fits .left, s .fits .right) (omega (arith, s .pre .0), omega (arith, s .pre .0))
+spans : (c : tie.After-spans-parts) → let r = c .before .before .before .before .before in let g = r .before .before .before .args in spansParts (g .row) (storedRow (g .t .now) (r .before .before .part-at .result)) (storedRow (g .t .now) (c .before .before .before .part-at2 .result)) ≡ c .spans-parts .result
+spans c = sym (simp (c .before .before .before .before .before .row-at .ensures, c .before .row-at2 .ensures) at (c .spans-parts .ensures))
 
 returns-3 : tie.Need-returns-3
 unfolding isPairRow
 returns-3 c =
-    let d = c .before in
-    let f = d .before .before .before .before .fits in
-    simp (left-refers (d .before .before), right-refers d, c .spans-both .ensures, same32, f .left, f .right, f .start, f .end)
+    let z = c .before .before in
+    let e = z .before .before in
+    let r = e .before .before .before in
+    let d = r .before in
+    simp (← d .before .part-at .ensures, right (e .before), lt-ltb _ _ (d .if1 .left), lt-ltb _ _ (e .if2 .left), spans z ∙ c .before .if3 .taken, c .meets-condition .ensures, r .row-at .ensures, z .before .row-at2 .ensures)
+
+returns-4 : tie.Need-returns-4
+unfolding isPairRow
+returns-4 c =
+    let e = c .before .before .before in
+    let d = e .before .before .before .before in
+    simp (← d .before .part-at .ensures, right (e .before), lt-ltb _ _ (d .if1 .left), lt-ltb _ _ (e .if2 .left), spans (c .before) ∙ c .if3 .left, c .if3 .left)
 
 pub is-pair-row-spec : {M : Type 1} → statement M
+unfolding isPairRow
 is-pair-row-spec =
     tie.close
     (tie.spec
-    refers-to-requires
-    returns
-    refers-to-requires-2
-    returns-2
-    cast-spans-both
-    cast-spans-both-2
-    spans-both-requires
-    returns-3)
+    (λ c κs. search needs)
+    (λ c. simp (← c .before .part-at .ensures, le-ltb _ _ (c .if1 .taken)))
+    (λ c κs. search needs)
+    (λ c κs. search needs)
+    (λ c κs. search needs)
+    (λ c. let d = c .before .before .before .before in simp (← d .before .part-at .ensures, right (c .before), lt-ltb _ _ (d .if1 .left), le-ltb _ _ (c .if2 .taken)))
+    (λ c κs. search needs)
+    (λ c κs. search needs)
+    (λ c κs. search needs)
+    returns-3
+    returns-4)

@@ -1,27 +1,22 @@
--- `is_single_row` meets its contract: the right number is -1 and the left one the operand.
+-- `is_single_row` meets its contract: only a lower row is read.
 use borrow.Author.Needs.{needs}
-use mir.Syntax.{w32}
-use Rattle.interval.proofs.Machine.{same32, eq-bits, eqZ-yes, eqZ-no}
-use Rattle.model.specs.Order.{none}
+use borrow.Author.Tests.{lt-ltb, le-ltb}
 use Rattle.consistency.specs.Rows.{isSingleRow}
-use Rattle.consistency.proofs.Tests.{none-fits}
+use Rattle.consistency.proofs.Tests.{failed, passed}
 use Rattle.consistency.proofs.is_single_row.Statement.{statement}
 use Rattle.consistency.proofs.is_single_row.Tie as tie
 
-has-part-requires : tie.Need-has-part-requires
-has-part-requires c κs = search needs
-
-returns : tie.Need-returns
-unfolding isSingleRow
-returns c =
-    let s = c .before .before in
-    simp (eqZ-yes _ none (s .fits .right) none-fits (c .before .if1 .taken), c .has-part .ensures, same32, s .fits .left, s .fits .start, s .fits .end)
-
-returns-2 : tie.Need-returns-2
-unfolding isSingleRow
-returns-2 c =
-    let s = c .before in
-    simp (eqZ-no _ none (s .fits .right) none-fits (c .if1 .left), eq-bits w32 _ none (s .fits .right) none-fits)
-
 pub is-single-row-spec : {M : Type 1} → statement M
-is-single-row-spec = tie.close (tie.spec has-part-requires returns returns-2)
+unfolding isSingleRow
+is-single-row-spec =
+    tie.close
+    (tie.spec
+    (λ c κs. search needs)
+    (λ c. simp (failed (c .before .meets-condition .ensures) (c .if1 .taken)))
+    (λ c κs. search needs)
+    (λ c. let d = c .before .before in simp (passed (d .before .meets-condition .ensures) (d .if1 .left), failed (c .before .has-no-right .ensures) (c .if2 .taken)))
+    (λ c κs. search needs)
+    (λ c. let e = c .before .before in let d = e .before .before in simp (passed (d .before .meets-condition .ensures) (d .if1 .left), passed (e .before .has-no-right .ensures) (e .if2 .left), ← c .before .part-at .ensures, le-ltb _ _ (c .if3 .taken)))
+    (λ c κs. search needs)
+    (λ c κs. search needs)
+    (λ c. let f = c .before .before in let e = f .before .before in let d = e .before .before in simp (passed (d .before .meets-condition .ensures) (d .if1 .left), passed (e .before .has-no-right .ensures) (e .if2 .left), ← f .before .part-at .ensures, lt-ltb _ _ (f .if3 .left), c .spans-parts .ensures, c .before .row-at .ensures)))

@@ -51,13 +51,6 @@ make_program() {
     tail -n 1 target/program.log
 }
 
-# have_crate CRATE PART: whether crates.txt has the crate; where not, says that the part is left out.
-have_crate() {
-    if grep -q "^$1:" crates.txt; then return; fi
-    printf '\n== %s: left out, there is no crate %s yet\n' "$2" "$1"
-    return 1
-}
-
 # rust SOURCE OUTPUT [WORD...]: compiles one Rust crate, release build, no crate from outside.
 rust() {
     mkdir -p "$built"

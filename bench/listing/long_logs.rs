@@ -3,6 +3,7 @@
 use crate::watch::Watch;
 use crate::TABLE_ROWS;
 use common::plain_chart;
+use common::plain_watch::storage::START;
 use common::random::Random;
 
 /// Before the lamp trigger.
@@ -91,7 +92,7 @@ fn event(watch: &mut Watch, code: u8) -> String {
 
 /// Forgets until a tenth or half of the rows are gone.
 fn forget(watch: &mut Watch, random: &mut Random) -> String {
-    let mut starts: Vec<i32> = watch.rows().iter().map(|row| row.start).collect();
+    let mut starts: Vec<i32> = watch.rows().iter().map(|row| row[START]).collect();
     starts.sort_unstable();
     let floor = starts[starts.len() / random.pick(&[10, 2])] + 1;
     let floor = i64::from(floor.min(watch.instant()));

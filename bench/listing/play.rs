@@ -1,8 +1,10 @@
 //! Plays a chart, an empty line and a log, line by line, and prints the table. Document 01, "The listing program".
 
 use crate::line_reader::LineReader;
-use crate::watch::{Refusal, Row, Watch};
+use crate::watch::Watch;
 use common::plain_chart::{self, Entry, MOST_ENTRIES};
+use common::plain_watch::storage::Row;
+use common::plain_watch::Refusal;
 use std::io::{self, Read, Write};
 
 /// The rows of the listing program's table.
@@ -31,7 +33,7 @@ pub fn list(source: impl Read, table_rows: usize) -> io::Result<Vec<u8>> {
 
 fn table_text(rows: &[Row]) -> Vec<u8> {
     let mut text = b"row\tentry\tleft\tright\tstart\tend\n".to_vec();
-    for (number, Row { entry, left, right, start, end }) in rows.iter().enumerate() {
+    for (number, [entry, left, right, start, end]) in rows.iter().enumerate() {
         writeln!(text, "{number}\t{entry}\t{left}\t{right}\t{start}\t{end}").expect("a vector takes all bytes");
     }
     text

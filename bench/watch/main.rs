@@ -1,14 +1,11 @@
 //! Times the proved watch beside the unproved one, both release builds, on the same watches and tables in one run. On
 //! both sides every call includes the check behind 13, a walk of the whole table.
 
-#[path = "../../tests/watch/plain_watch.rs"]
-#[allow(dead_code)]
-mod plain_watch;
 #[path = "../../tests/common/proved_watch.rs"]
 mod proved_watch;
 
 use common::interface::{Answer, Calls, Chart, Watch};
-use plain_watch::{Plain, PlainWatch};
+use common::plain_watch::{self, Plain, PlainWatch};
 use std::hint::black_box;
 
 const ROWS_IN_USE: [usize; 4] = [100, 1_000, 10_000, 60_000];
@@ -100,7 +97,8 @@ fn filled(chart: Chart, rows: usize, room: usize) -> (Watch, Vec<i32>) {
     let mut table = vec![0; (rows + room) * 5];
     let mut watch = taken(Plain::open(chart, &mut table, -1_000));
     let mut close = |watch: Watch, code: u8, count: usize| {
-        let pending = (0..count).fold(watch, |watch, _| Plain::with_event(watch, code));
+        let mut pending = watch;
+        (0..count).for_each(|_| Plain::add_event(&mut pending, code));
         taken(Plain::clock(pending, chart, &mut table, watch.instant + 10))
     };
     for _ in 0..3 {

@@ -1,11 +1,12 @@
 //! Watches, charts and tables that no history made: what a history left, with something in it changed. Each call must
 //! answer what `oracle::any_watch` says, 13 exactly where `oracle::consistency` finds a cause.
 
-use crate::histories::{any_row, compare_check_and_rows, compare_tree, Compared};
+use crate::histories::{any_row, compare_check_and_rows, compare_tree};
 use crate::met::Met;
 use crate::random_calls::{self, near_instant_of_row, number, Frequencies, OUT_OF_RANGE};
 use crate::subject::{lent_table, name, Subject};
 use common::chart_value;
+use common::harness::Compared;
 use common::interface::{Answer, Calls, Chart};
 use common::random::Random;
 use oracle::{any_watch, consistency};

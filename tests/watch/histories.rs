@@ -6,6 +6,7 @@ use crate::met::Met;
 use crate::random_calls::{self, Frequencies};
 use crate::subject::{lent_table, name, Lent, Subject};
 use common::chart_value;
+use common::harness::Compared;
 use common::interface::{Calls, Chart, MOST_ENTRIES};
 use common::plain_chart::{self, Entry};
 use common::random::Random;
@@ -13,9 +14,6 @@ use common::random_inputs;
 use oracle::history::History;
 use oracle::model::{Call, MOST_EVENTS};
 use std::ops::Range;
-
-/// Nothing, or what the first difference was.
-pub type Compared = Result<(), String>;
 
 /// A history in the making: the watch under test beside what it must show.
 pub struct Run<'a> {

@@ -1,10 +1,11 @@
 //! What is compared by plan, not by chance: charts on paper, every short table, the largest table, and trees of billions
 //! of bytes.
 
-use crate::histories::{compare_tree_in, Compared, Run};
+use crate::histories::{compare_tree_in, Run};
 use crate::met::Met;
 use crate::subject::{lent_table, Subject};
 use common::chart_value;
+use common::harness::Compared;
 use common::interface::{Calls, Chart, ChartAnswer, Watch};
 use common::plain_chart::{self, Entry};
 use common::random::Random;

@@ -87,7 +87,6 @@ impl Met {
         let count = std::str::from_utf8(word).ok().and_then(|word| self.words.get_mut(word));
         *count.expect("a chart taken has only operator words") += 1;
     }
-
 }
 
 impl harness::Met for Met {

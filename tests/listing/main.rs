@@ -13,7 +13,7 @@ use common::random::Random;
 use inputs::Case;
 use oracle::listing::{listing, TABLE_ROWS};
 use oracle::model::Over;
-use plain_listing::long_logs::{one_event_too_many, WORKLOADS};
+use plain_listing::long_logs::{one_event_too_many, FULL_TABLE, FULL_TABLE_ROWS, WORKLOADS};
 use proved_listing::Lent;
 use std::collections::BTreeMap;
 use std::process::ExitCode;
@@ -25,6 +25,7 @@ const INPUTS_PER_SEED: usize = 30_000;
 const SELF_TEST_INPUTS: usize = 4_000;
 const LONG_EVENTS: usize = 100_000;
 const LONG_FILLINGS: [usize; 2] = [100, 2_900];
+const FULL_TABLE_EVENTS: usize = 10_000;
 
 /// What a program prints for an input on a table of so many rows, or what else is wrong.
 type Program<'a> = dyn FnMut(&[u8], usize) -> Result<Vec<u8>, String> + 'a;
@@ -81,7 +82,6 @@ impl Met {
             self.full_tables += usize::from(rows == table_rows);
         }
     }
-
 }
 
 impl harness::Met for Met {
@@ -157,7 +157,8 @@ fn compare_long(program: &mut Program, met: &mut Met) -> Compared {
     let drawn = WORKLOADS.iter().flat_map(|workload| {
         LONG_FILLINGS.map(|filling| workload.draw(&mut Random::new(filling as u64), LONG_EVENTS, filling).input)
     });
-    for input in drawn.chain([one_event_too_many()]) {
+    let full_table = FULL_TABLE.draw(&mut Random::new(64), FULL_TABLE_EVENTS, FULL_TABLE_ROWS).input;
+    for input in drawn.chain([full_table, one_event_too_many()]) {
         let expected = list_all(&input, TABLE_ROWS);
         met.count("many events", &expected, TABLE_ROWS);
         compare(program, &Case { input, table_rows: TABLE_ROWS }, &expected)?;

@@ -61,7 +61,7 @@ pub fn compare(calls: &Calls, last: &Subject, random: &mut Random, met: &mut Met
 
 /// An event, a clock mark and a forget, each on the watch given.
 fn compare_plays(calls: &Calls, given: &Subject, random: &mut Random, met: &mut Met) -> Compared {
-    let only = |events, clocks, forgets| Frequencies { events, clocks, forgets, clocks_to_a_jump: 20 };
+    let only = |events, clocks, forgets| Frequencies { events, clocks, forgets, longest_step: 3, clocks_to_a_jump: 20 };
     for frequencies in [only(1, 0, 0), only(0, 1, 0), only(0, 0, 1)] {
         let Subject { watch, chart, table } = given;
         let call = random_calls::call(random, frequencies, watch, chart, table.part());

@@ -9,6 +9,7 @@ mod planned;
 #[path = "../common/proved_watch.rs"]
 mod proved_watch;
 mod random_calls;
+mod searches;
 mod subject;
 
 use common::harness::{self, Compared, Met as _, Named, Test};
@@ -22,11 +23,12 @@ use std::process::ExitCode;
 struct Extent {
     short_histories: usize,
     long_histories: usize,
+    of_short_intervals: usize,
 }
 
-const FULL: Extent = Extent { short_histories: 100_000, long_histories: 300 };
+const FULL: Extent = Extent { short_histories: 100_000, long_histories: 300, of_short_intervals: 2_500 };
 /// Enough to find a wrong watch.
-const SELF_TEST: Extent = Extent { short_histories: 20_000, long_histories: 20 };
+const SELF_TEST: Extent = Extent { short_histories: 20_000, long_histories: 20, of_short_intervals: 200 };
 
 fn main() -> ExitCode {
     harness::main::<WatchTest>()
@@ -63,6 +65,7 @@ fn compare(calls: &Calls, extent: &Extent, met: &mut Met) -> Compared {
     let mut random = Random::new(41);
     (0..extent.short_histories).try_for_each(|_| histories::short(calls, &mut random, met))?;
     (0..extent.long_histories).try_for_each(|_| histories::long(calls, &mut random, met))?;
+    (0..extent.of_short_intervals).try_for_each(|_| histories::of_short_intervals(calls, &mut random, met))?;
     planned::largest_table(calls, met)?;
     planned::charts(calls, met)
 }

@@ -1,5 +1,6 @@
-//! What a run reached: answers of each call, causes of 13, operators of rows.
+//! What a run reached: answers of each call, causes of 13, operators of rows, edges of searches.
 
+use crate::searches::Searches;
 use common::harness::{self, LEAST_MET};
 use common::interface::{Chart, Watch};
 use common::plain_chart::WORDS;
@@ -29,6 +30,7 @@ pub struct Met {
     rows_read: [usize; 2],
     /// How many rows of each operator the tables compared had in all.
     operators: [usize; WORDS.len()],
+    pub searches: Searches,
 }
 
 impl Met {
@@ -55,7 +57,6 @@ impl Met {
             self.operators[usize::from(chart.entries[row[0] as usize].op)] += 1;
         }
     }
-
 }
 
 impl harness::Met for Met {
@@ -69,13 +70,14 @@ impl harness::Met for Met {
             consistent: 0,
             rows_read: [0; 2],
             operators: [0; WORDS.len()],
+            searches: Searches::default(),
         }
     }
 
     fn is_enough(&self) -> bool {
         let answers = self.answers.values().chain(self.causes.values());
-        let mut counts = answers.chain(&self.operators).chain(&self.rows_read).chain([&self.consistent]);
-        counts.all(|count| *count >= LEAST_MET)
+        let reads = answers.chain(&self.operators).chain(&self.rows_read).chain([&self.consistent]);
+        reads.chain(self.searches.counts()).all(|count| *count >= LEAST_MET)
     }
 
     fn print(&self) {
@@ -86,9 +88,13 @@ impl harness::Met for Met {
             println!("  {call:<7} {}", counts.collect::<Vec<_>>().join("  "));
         }
         println!("reads of rows: {} with rows, {} without", self.rows_read[1], self.rows_read[0]);
-        println!("watches and tables changed and yet consistent: {}; out of joint for one cause alone:", self.consistent);
+        println!(
+            "watches and tables changed and yet consistent: {}; out of joint for one cause alone:",
+            self.consistent
+        );
         self.causes.iter().for_each(|(cause, count)| println!("  {:<30} {count:>8}", format!("{cause:?}")));
         println!("rows of each operator at the ends of histories");
         WORDS.iter().zip(self.operators).for_each(|(word, count)| println!("  {word:<8} {count:>8}"));
+        self.searches.print();
     }
 }

@@ -7,9 +7,7 @@ pub mod closing;
 pub mod storage;
 
 use crate::chart_value;
-use crate::interface::{
-    Answer, Calls, Chart, ChartAnswer, Entry, Rows, TreeAnswer, Watch, MOST_ENTRIES, MOST_PENDING,
-};
+use crate::interface::{Answer, Calls, Chart, ChartAnswer, Entry, Rows, TreeAnswer, Watch, MOST_ENTRIES, MOST_PENDING};
 use crate::plain_chart;
 use closing::{Closing, AT_LEAST, CLOSED_CLOSED, EQUALS, EVENT, LASTS, NONE, OPEN_CLOSED, OR, SEQ};
 use std::ops::RangeInclusive;

@@ -12,6 +12,8 @@ const FULL_TABLE_EVENTS: usize = 96_000;
 /// How many rows may be in use, about, before some are forgotten; the table holds 3,000.
 const FILLINGS: [usize; 3] = [20, 300, 2_900];
 const ROUNDS: usize = 7;
+/// Where so many seconds have been spent on a case, no other round of it is begun.
+const LONGEST: f64 = 60.0;
 
 fn main() -> ExitCode {
     let arguments: Vec<String> = std::env::args().skip(1).collect();
@@ -41,12 +43,16 @@ fn main() -> ExitCode {
 
 /// The best time of each program in seconds. Both must print the same.
 fn compare(input: &Path, programs: [&str; 2]) -> [f64; 2] {
-    let mut best = [f64::INFINITY; 2];
+    let (mut best, mut spent) = ([f64::INFINITY; 2], 0.0);
     for _ in 0..ROUNDS {
+        if spent > LONGEST {
+            break;
+        }
         let [(first, first_time), (second, second_time)] = programs.map(|program| run(program, input));
         assert!(first == second, "the two programs differ on {}", input.display());
         assert!(first.starts_with(b"row\t"), "{} is refused", input.display());
         best = [best[0].min(first_time), best[1].min(second_time)];
+        spent += first_time + second_time;
     }
     best
 }

@@ -4,7 +4,7 @@ use crate::line_reader::LineReader;
 use crate::watch::Watch;
 use common::plain_chart::{self, Entry, MOST_ENTRIES};
 use common::plain_watch::storage::Row;
-use common::plain_watch::Refusal;
+use common::plain_watch::{Refusal, Taken};
 use std::io::{self, Read, Write};
 
 /// The rows of the listing program's table.
@@ -90,7 +90,7 @@ fn opened(chart: &[Entry], line: &[u8], table_rows: usize) -> Result<Watch, Refu
 }
 
 /// Plays a later line: 7 where it is not of its form or a second `open`.
-fn play_line(watch: &mut Watch, line: &[u8]) -> Result<(), Refusal> {
+fn play_line(watch: &mut Watch, line: &[u8]) -> Taken {
     match record(line) {
         Some(Record::Event(code)) => watch.event(code),
         Some(Record::Clock(instant)) => watch.clock(instant),

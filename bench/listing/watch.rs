@@ -4,7 +4,7 @@ use common::chart_value;
 use common::interface::{self, Chart};
 use common::plain_chart::{Entry, Operator};
 use common::plain_watch::storage::{List, ListedTable, Row, Table, UNUSED};
-use common::plain_watch::{Plain, PlainWatch, Refusal, INSTANTS};
+use common::plain_watch::{Plain, PlainWatch, Refusal, Renumbered, Taken, INSTANTS};
 
 pub struct Watch {
     watch: interface::Watch,
@@ -46,13 +46,13 @@ impl Watch {
         self.watch.instant
     }
 
-    pub fn event(&mut self, code: u8) -> Result<(), Refusal> {
+    pub fn event(&mut self, code: u8) -> Taken {
         Plain::event_unchecked(&mut self.watch, code)?;
         self.named |= self.entries_of_code[usize::from(code)];
         Ok(())
     }
 
-    pub fn clock(&mut self, instant: i64) -> Result<(), Refusal> {
+    pub fn clock(&mut self, instant: i64) -> Taken {
         let table = Table::new(&mut self.table, self.watch.rows);
         let mut listed = ListedTable { table, lists: &mut self.lists, named: self.named };
         Plain::clock_unchecked(&mut self.watch, &self.chart, &mut listed, instant)?;
@@ -63,9 +63,10 @@ impl Watch {
         Ok(())
     }
 
-    pub fn forget(&mut self, floor: i64) -> Result<(), Refusal> {
+    pub fn forget(&mut self, floor: i64) -> Taken {
         let rows = self.watch.rows;
-        Plain::forget_unchecked(&mut self.watch, &self.chart, &mut self.table, floor, &mut self.places[..rows])?;
+        let table = Renumbered { rows: &mut self.table, places: &mut self.places[..rows] };
+        Plain::forget_unchecked(&mut self.watch, &self.chart, table, floor)?;
         if self.watch.rows < rows {
             self.lists.iter_mut().for_each(|list| list.forget(self.watch.floor, &self.places));
         }

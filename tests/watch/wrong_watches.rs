@@ -8,7 +8,7 @@ use common::plain_watch::closing::{
     Closing, AND, AT_MOST, CLOSED_CLOSED, CLOSED_OPEN, DURING, LASTS, NONE, OPEN_CLOSED, OPEN_OPEN, OR, OVERLAPS, SEQ,
 };
 use common::plain_watch::storage::{Lower, Own, Part, Row, Span, Storage, END, ENTRY, START};
-use common::plain_watch::{calls, is_instant, Plain, PlainWatch, Refusal, INSTANTS};
+use common::plain_watch::{calls, is_instant, Plain, PlainWatch, Renumbered, Taken, INSTANTS};
 
 /// Each wrong watch by its fault and the functions that it replaces: of the calls, or of the closing of an instant.
 macro_rules! wrong_watches {
@@ -136,17 +136,17 @@ wrong_watches! {
             }
         }
         LooksAtPendingFirst: "event: 9 before 10" {
-            fn event_unchecked(watch: &mut Watch, code: u8) -> Result<(), Refusal> {
+            fn event_unchecked(watch: &mut Watch, code: u8) -> Taken {
                 if watch.pending == 64 { Err(9) } else { Plain::event_unchecked(watch, code) }
             }
         }
         TakesFewerEvents: "event: the 64th of an instant refused" {
-            fn event_unchecked(watch: &mut Watch, code: u8) -> Result<(), Refusal> {
+            fn event_unchecked(watch: &mut Watch, code: u8) -> Taken {
                 if watch.pending == 63 { Err(9) } else { Plain::event_unchecked(watch, code) }
             }
         }
         SpendsSerialsEarly: "event: serial 1,000,000 refused" {
-            fn event_unchecked(watch: &mut Watch, code: u8) -> Result<(), Refusal> {
+            fn event_unchecked(watch: &mut Watch, code: u8) -> Taken {
                 if watch.events == 999_999 { Err(10) } else { Plain::event_unchecked(watch, code) }
             }
         }
@@ -184,7 +184,7 @@ wrong_watches! {
             fn take_back(_: &mut impl Storage) {}
         }
         MovesRefusedMark: "12: the instant moves all the same" {
-            fn clock_unchecked(watch: &mut Watch, chart: &Chart, storage: &mut impl Storage, instant: i64) -> Result<(), Refusal> {
+            fn clock_unchecked(watch: &mut Watch, chart: &Chart, storage: &mut impl Storage, instant: i64) -> Taken {
                 let step = Plain::clock_unchecked(watch, chart, storage, instant);
                 if step == Err(12) {
                     watch.instant = instant as i32;
@@ -199,7 +199,7 @@ wrong_watches! {
             }
         }
         TakesOpenInstantAgain: "clock mark: the open instant itself taken" {
-            fn clock_unchecked(watch: &mut Watch, chart: &Chart, storage: &mut impl Storage, instant: i64) -> Result<(), Refusal> {
+            fn clock_unchecked(watch: &mut Watch, chart: &Chart, storage: &mut impl Storage, instant: i64) -> Taken {
                 if instant == i64::from(watch.instant) {
                     return Ok(());
                 }
@@ -248,14 +248,8 @@ wrong_watches! {
             fn free(_: &mut [Row]) {}
         }
         DropsPendingEvents: "forget: the open instant's events dropped with it" {
-            fn forget_unchecked(
-                watch: &mut Watch,
-                chart: &Chart,
-                rows: &mut [Row],
-                floor: i64,
-                places: &mut [u16],
-            ) -> Result<(), Refusal> {
-                Plain::forget_unchecked(watch, chart, rows, floor, places)?;
+            fn forget_unchecked(watch: &mut Watch, chart: &Chart, table: Renumbered, floor: i64) -> Taken {
+                Plain::forget_unchecked(watch, chart, table, floor)?;
                 if watch.floor == watch.instant {
                     watch.pending = 0;
                 }
@@ -263,32 +257,20 @@ wrong_watches! {
             }
         }
         KeepsOpenInstant: "forget: the open instant refused" {
-            fn forget_unchecked(
-                watch: &mut Watch,
-                chart: &Chart,
-                rows: &mut [Row],
-                floor: i64,
-                places: &mut [u16],
-            ) -> Result<(), Refusal> {
+            fn forget_unchecked(watch: &mut Watch, chart: &Chart, table: Renumbered, floor: i64) -> Taken {
                 if floor == i64::from(watch.instant) {
                     return Err(11);
                 }
-                Plain::forget_unchecked(watch, chart, rows, floor, places)
+                Plain::forget_unchecked(watch, chart, table, floor)
             }
         }
         LowersFloor: "forget: a floor below the last taken" {
-            fn forget_unchecked(
-                watch: &mut Watch,
-                chart: &Chart,
-                rows: &mut [Row],
-                floor: i64,
-                places: &mut [u16],
-            ) -> Result<(), Refusal> {
+            fn forget_unchecked(watch: &mut Watch, chart: &Chart, table: Renumbered, floor: i64) -> Taken {
                 if floor < i64::from(watch.floor) && INSTANTS.contains(&floor) {
                     watch.floor = floor as i32;
                     return Ok(());
                 }
-                Plain::forget_unchecked(watch, chart, rows, floor, places)
+                Plain::forget_unchecked(watch, chart, table, floor)
             }
         }
 

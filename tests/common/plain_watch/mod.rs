@@ -15,6 +15,8 @@ use storage::{Row, Span, Storage, Table, END, ENTRY, START, UNUSED};
 
 /// A number of document 01's list.
 pub type Refusal = u32;
+/// Nothing, or why a call is refused.
+pub type Taken = Result<(), Refusal>;
 
 pub const INSTANTS: RangeInclusive<i64> = -1_000_000_000..=1_000_000_000;
 const MOST_ROWS: usize = 65_535;
@@ -52,15 +54,21 @@ pub fn calls<W: PlainWatch>() -> Calls {
     }
 }
 
+/// A table to forget rows of, and room for the new number of each row in use.
+pub struct Renumbered<'a> {
+    pub rows: &'a mut [Row],
+    pub places: &'a mut [u16],
+}
+
 /// What a call answers whose step alters the watch or is refused.
 #[inline]
-fn answered(watch: Watch, step: impl FnOnce(&mut Watch) -> Result<(), Refusal>) -> Answer {
+fn answered(watch: Watch, step: impl FnOnce(&mut Watch) -> Taken) -> Answer {
     let mut answer = Answer { refusal: 0, watch };
     answer.refusal = step(&mut answer.watch).err().unwrap_or(0);
     answer
 }
 
-fn passed(refusal: Refusal) -> Result<(), Refusal> {
+fn passed(refusal: Refusal) -> Taken {
     if refusal == 0 {
         Ok(())
     } else {
@@ -100,8 +108,8 @@ pub trait PlainWatch: Closing {
     fn forget(watch: Watch, chart: Chart, table: &mut [i32], floor: i32) -> Answer {
         answered(watch, |next| {
             passed(Self::check(watch, chart, table))?;
-            let mut places = vec![0; watch.rows];
-            Self::forget_unchecked(next, &chart, Self::rows_mut(table), floor.into(), &mut places)
+            let table = Renumbered { rows: Self::rows_mut(table), places: &mut vec![0; watch.rows] };
+            Self::forget_unchecked(next, &chart, table, floor.into())
         })
     }
 
@@ -173,7 +181,7 @@ pub trait PlainWatch: Closing {
     // The calls on a consistent watch, which stays as it is where they are refused.
 
     #[inline]
-    fn event_unchecked(watch: &mut Watch, code: u8) -> Result<(), Refusal> {
+    fn event_unchecked(watch: &mut Watch, code: u8) -> Taken {
         if watch.events >= MOST_EVENTS {
             return Err(10);
         }
@@ -192,12 +200,7 @@ pub trait PlainWatch: Closing {
     }
 
     #[inline]
-    fn clock_unchecked(
-        watch: &mut Watch,
-        chart: &Chart,
-        storage: &mut impl Storage,
-        instant: i64,
-    ) -> Result<(), Refusal> {
+    fn clock_unchecked(watch: &mut Watch, chart: &Chart, storage: &mut impl Storage, instant: i64) -> Taken {
         if instant <= i64::from(watch.instant) || !INSTANTS.contains(&instant) {
             return Err(8);
         }
@@ -217,21 +220,14 @@ pub trait PlainWatch: Closing {
         watch.codes = [0; MOST_PENDING];
     }
 
-    /// Leaves in `places`, which has one for each row, the rows' new numbers.
     #[inline]
-    fn forget_unchecked(
-        watch: &mut Watch,
-        chart: &Chart,
-        rows: &mut [Row],
-        floor: i64,
-        places: &mut [u16],
-    ) -> Result<(), Refusal> {
+    fn forget_unchecked(watch: &mut Watch, chart: &Chart, table: Renumbered, floor: i64) -> Taken {
         if floor < i64::from(watch.floor) || floor > i64::from(watch.instant) || !INSTANTS.contains(&floor) {
             return Err(11);
         }
         watch.floor = floor as i32;
-        let in_use = &mut rows[..watch.rows];
-        watch.rows = Self::compact(chart, in_use, watch.floor, places);
+        let in_use = &mut table.rows[..watch.rows];
+        watch.rows = Self::compact(chart, in_use, watch.floor, table.places);
         Self::free(&mut in_use[watch.rows..]);
         Ok(())
     }

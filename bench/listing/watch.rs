@@ -3,17 +3,16 @@
 use common::chart_value;
 use common::interface::{self, Chart};
 use common::plain_chart::{Entry, Operator};
-use common::plain_watch::storage::{List, ListedTable, Row, Table, UNUSED};
+use common::plain_watch::storage::{Index, Row, Storage, UNUSED};
 use common::plain_watch::{Plain, PlainWatch, Refusal, Renumbered, Taken, INSTANTS};
 
 pub struct Watch {
     watch: interface::Watch,
     chart: Chart,
     table: Box<[Row]>,
-    lists: Vec<List>,
-    /// The entries, as bits, that name a code, and those that name the code of a pending event.
+    index: Index,
+    /// The entries, as bits, that name a code.
     entries_of_code: [u32; 256],
-    named: u32,
     /// The new number of each row while some are forgotten.
     places: Box<[u16]>,
 }
@@ -31,9 +30,8 @@ impl Watch {
             watch: interface::Watch::empty(instant as i32),
             chart: chart_value::of(entries),
             table: vec![UNUSED; table_rows].into(),
-            lists: entries.iter().map(|_| List::default()).collect(),
+            index: Index::new(entries.len()),
             entries_of_code,
-            named: 0,
             places: vec![0; table_rows].into(),
         })
     }
@@ -48,18 +46,14 @@ impl Watch {
 
     pub fn event(&mut self, code: u8) -> Taken {
         Plain::event_unchecked(&mut self.watch, code)?;
-        self.named |= self.entries_of_code[usize::from(code)];
+        self.index.named |= self.entries_of_code[usize::from(code)];
         Ok(())
     }
 
     pub fn clock(&mut self, instant: i64) -> Taken {
-        let table = Table::new(&mut self.table, self.watch.rows);
-        let mut listed = ListedTable { table, lists: &mut self.lists, named: self.named };
-        Plain::clock_unchecked(&mut self.watch, &self.chart, &mut listed, instant)?;
-        if self.named != 0 {
-            self.lists.iter_mut().for_each(List::grow_old);
-        }
-        self.named = 0;
+        let mut storage = Storage::new(&mut self.table, self.watch.rows, Some(&mut self.index));
+        Plain::clock_unchecked(&mut self.watch, &self.chart, &mut storage, instant)?;
+        self.index.mark();
         Ok(())
     }
 
@@ -68,7 +62,7 @@ impl Watch {
         let table = Renumbered { rows: &mut self.table, places: &mut self.places[..rows] };
         Plain::forget_unchecked(&mut self.watch, &self.chart, table, floor)?;
         if self.watch.rows < rows {
-            self.lists.iter_mut().for_each(|list| list.forget(self.watch.floor, &self.places));
+            self.index.forget(self.watch.floor, &self.places);
         }
         Ok(())
     }

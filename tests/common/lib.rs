@@ -1,4 +1,5 @@
-//! What the tests and the benchmarks share: the plain chart reader and the plain watch, the values of the C interface, charts and inputs from fixed seeds, and how a test runs. No module of this crate uses proved code.
+//! What the tests and the benchmarks share: the plain chart reader and the plain watch, the values of the C interface,
+//! charts and inputs from fixed seeds, and how a test is run. No module of this crate uses proved code.
 
 pub mod careless;
 pub mod chart_value;

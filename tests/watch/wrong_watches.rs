@@ -7,7 +7,7 @@ use common::interface::{Answer, Calls, Chart, Entry, Rows, TreeAnswer, Watch};
 use common::plain_watch::closing::{
     Closing, AND, AT_MOST, CLOSED_CLOSED, CLOSED_OPEN, DURING, LASTS, NONE, OPEN_CLOSED, OPEN_OPEN, OR, OVERLAPS, SEQ,
 };
-use common::plain_watch::storage::{Lower, Own, Part, Row, Span, Storage, END, ENTRY, START};
+use common::plain_watch::storage::{Lower, Own, Part, Row, Span, Storage, END, ENTRY, START, UNUSED};
 use common::plain_watch::{calls, is_instant, Plain, PlainWatch, Renumbered, Taken, INSTANTS};
 
 /// Each wrong watch by its fault and the functions that it replaces: of the calls, or of the closing of an instant.
@@ -30,35 +30,20 @@ macro_rules! wrong_watches {
     };
 }
 
-/// Left, right, start and end of an entry's rows, to be put in another order before they are appended.
-#[derive(Default)]
-struct Made {
-    rows: Vec<[i32; 4]>,
-}
-
-impl Own for Made {
-    fn push(&mut self, left: i32, right: i32, start: i32, end: i32) -> Option<()> {
-        self.rows.push([left, right, start, end]);
-        Some(())
-    }
-
-    fn pushed(&self) -> usize {
-        self.rows.len()
-    }
-}
-
 /// Appends what the plain watch makes of an entry, after a change.
 fn append_changed<L: Lower>(
-    watch: &Watch,
-    entry: &Entry,
+    (watch, entry): (&Watch, &Entry),
     lower: L,
-    own: &mut impl Own,
-    change: impl FnOnce(&mut Vec<[i32; 4]>),
+    own: &mut Own,
+    change: impl FnOnce(&mut Vec<Row>),
 ) -> Option<()> {
-    let mut made = Made::default();
+    let mut free = vec![UNUSED; own.free.len()];
+    let mut made = Own { free: &mut free, list: None, ..*own };
     Plain::append(watch, entry, lower, &mut made)?;
-    change(&mut made.rows);
-    made.rows.into_iter().try_for_each(|[left, right, start, end]| own.push(left, right, start, end))
+    let pushed = made.pushed;
+    free.truncate(pushed);
+    change(&mut free);
+    free.into_iter().try_for_each(|[_, left, right, start, end]| own.push(left, right, start, end))
 }
 
 wrong_watches! {
@@ -181,10 +166,10 @@ wrong_watches! {
             }
         }
         LeavesRowsOfRefusedMark: "12: rows written on the way stay" {
-            fn take_back(_: &mut impl Storage) {}
+            fn take_back(_: &mut Storage) {}
         }
         MovesRefusedMark: "12: the instant moves all the same" {
-            fn clock_unchecked(watch: &mut Watch, chart: &Chart, storage: &mut impl Storage, instant: i64) -> Taken {
+            fn clock_unchecked(watch: &mut Watch, chart: &Chart, storage: &mut Storage, instant: i64) -> Taken {
                 let step = Plain::clock_unchecked(watch, chart, storage, instant);
                 if step == Err(12) {
                     watch.instant = instant as i32;
@@ -199,7 +184,7 @@ wrong_watches! {
             }
         }
         TakesOpenInstantAgain: "clock mark: the open instant itself taken" {
-            fn clock_unchecked(watch: &mut Watch, chart: &Chart, storage: &mut impl Storage, instant: i64) -> Taken {
+            fn clock_unchecked(watch: &mut Watch, chart: &Chart, storage: &mut Storage, instant: i64) -> Taken {
                 if instant == i64::from(watch.instant) {
                     return Ok(());
                 }
@@ -454,59 +439,59 @@ wrong_watches! {
 
     closing {
         ClosesOnce: "fills the first clock mark rightly, afterwards only moves the instant" {
-            fn close<S: Storage>(watch: &Watch, chart: &Chart, storage: &mut S) -> Option<()> {
+            fn close(watch: &Watch, chart: &Chart, storage: &mut Storage) -> Option<()> {
                 if watch.rows > 0 { Some(()) } else { Plain::close(watch, chart, storage) }
             }
         }
         WritesNoRow: "takes every mark and writes no row" {
-            fn close<S: Storage>(_: &Watch, _: &Chart, _: &mut S) -> Option<()> {
+            fn close(_: &Watch, _: &Chart, _: &mut Storage) -> Option<()> {
                 Some(())
             }
         }
         NumbersFromCount: "closing: serials counted from the last event" {
-            fn append_events(watch: &Watch, code: u32, own: &mut impl Own) -> Option<()> {
+            fn append_events(watch: &Watch, code: u32, own: &mut Own) -> Option<()> {
                 Plain::append_events(&Watch { events: watch.events + 1, ..*watch }, code, own)
             }
         }
         RightArmFirst: "or: the right arm first" {
-            fn append<L: Lower>(watch: &Watch, entry: &Entry, lower: L, own: &mut impl Own) -> Option<()> {
-                append_changed(watch, entry, lower, own, |rows| {
+            fn append<L: Lower>(watch: &Watch, entry: &Entry, lower: L, own: &mut Own) -> Option<()> {
+                append_changed((watch, entry), lower, own, |rows| {
                     if entry.op == OR {
-                        rows.sort_by_key(|[left, ..]| *left != NONE);
+                        rows.sort_by_key(|[_, left, ..]| *left != NONE);
                     }
                 })
             }
         }
         ArmsByRow: "or: both arms by row" {
-            fn append<L: Lower>(watch: &Watch, entry: &Entry, lower: L, own: &mut impl Own) -> Option<()> {
-                append_changed(watch, entry, lower, own, |rows| {
+            fn append<L: Lower>(watch: &Watch, entry: &Entry, lower: L, own: &mut Own) -> Option<()> {
+                append_changed((watch, entry), lower, own, |rows| {
                     if entry.op == OR {
-                        rows.sort_by_key(|[left, right, ..]| *left.max(right));
+                        rows.sort_by_key(|[_, left, right, ..]| *left.max(right));
                     }
                 })
             }
         }
         OneArmOnly: "or: both arms of one operand fall together" {
-            fn append<L: Lower>(watch: &Watch, entry: &Entry, lower: L, own: &mut impl Own) -> Option<()> {
-                append_changed(watch, entry, lower, own, |rows| {
+            fn append<L: Lower>(watch: &Watch, entry: &Entry, lower: L, own: &mut Own) -> Option<()> {
+                append_changed((watch, entry), lower, own, |rows| {
                     if entry.op == OR && entry.a == entry.b {
-                        rows.retain(|[_, right, ..]| *right == NONE);
+                        rows.retain(|[_, _, right, ..]| *right == NONE);
                     }
                 })
             }
         }
         PairsByRightRow: "pairs: by right row first" {
-            fn append_pairs<L: Lower>(entry: &Entry, lower: L, own: &mut impl Own) -> Option<()> {
-                append_changed(&Watch::empty(0), entry, lower, own, |rows| {
-                    rows.sort_by_key(|[left, right, ..]| (*right, *left));
+            fn append_pairs<L: Lower>(entry: &Entry, lower: L, own: &mut Own) -> Option<()> {
+                append_changed((&Watch::empty(0), entry), lower, own, |rows| {
+                    rows.sort_by_key(|[_, left, right, ..]| (*right, *left));
                 })
             }
         }
         AndOfNewRows: "and: old rows on the right left out" {
-            fn append<L: Lower>(watch: &Watch, entry: &Entry, lower: L, own: &mut impl Own) -> Option<()> {
-                append_changed(watch, entry, lower, own, |rows| {
+            fn append<L: Lower>(watch: &Watch, entry: &Entry, lower: L, own: &mut Own) -> Option<()> {
+                append_changed((watch, entry), lower, own, |rows| {
                     if entry.op == AND {
-                        rows.retain(|[_, right, ..]| lower.new(entry.b).spans().any(|s| s.row == *right));
+                        rows.retain(|[_, _, right, ..]| lower.new(entry.b).spans().any(|s| s.row == *right));
                     }
                 })
             }
@@ -520,7 +505,7 @@ wrong_watches! {
             fn is_related(op: u8, r: &Span, s: &Span) -> bool {
                 Plain::is_related(op, r, s) || (op == SEQ && r.end == s.start)
             }
-            fn append_pairs<L: Lower>(entry: &Entry, lower: L, own: &mut impl Own) -> Option<()> {
+            fn append_pairs<L: Lower>(entry: &Entry, lower: L, own: &mut Own) -> Option<()> {
                 if entry.op != SEQ {
                     return Plain::append_pairs(entry, lower, own);
                 }

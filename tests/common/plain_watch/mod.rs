@@ -11,7 +11,7 @@ use crate::interface::{Answer, Calls, Chart, ChartAnswer, Entry, Rows, TreeAnswe
 use crate::plain_chart;
 use closing::{Closing, AT_LEAST, CLOSED_CLOSED, EQUALS, EVENT, LASTS, NONE, OPEN_CLOSED, OR, SEQ};
 use std::ops::RangeInclusive;
-use storage::{Row, Span, Storage, Table, END, ENTRY, START, UNUSED};
+use storage::{Row, Span, Storage, END, ENTRY, START, UNUSED};
 
 /// A number of document 01's list.
 pub type Refusal = u32;
@@ -100,8 +100,8 @@ pub trait PlainWatch: Closing {
     fn clock(watch: Watch, chart: Chart, table: &mut [i32], instant: i32) -> Answer {
         answered(watch, |next| {
             passed(Self::check(watch, chart, table))?;
-            let mut table = Table::new(Self::rows_mut(table), watch.rows);
-            Self::clock_unchecked(next, &chart, &mut table, instant.into())
+            let mut storage = Storage::new(Self::rows_mut(table), watch.rows, None);
+            Self::clock_unchecked(next, &chart, &mut storage, instant.into())
         })
     }
 
@@ -200,7 +200,7 @@ pub trait PlainWatch: Closing {
     }
 
     #[inline]
-    fn clock_unchecked(watch: &mut Watch, chart: &Chart, storage: &mut impl Storage, instant: i64) -> Taken {
+    fn clock_unchecked(watch: &mut Watch, chart: &Chart, storage: &mut Storage, instant: i64) -> Taken {
         if instant <= i64::from(watch.instant) || !INSTANTS.contains(&instant) {
             return Err(8);
         }
@@ -208,7 +208,7 @@ pub trait PlainWatch: Closing {
             Self::take_back(storage);
             return Err(12);
         }
-        Self::mark(watch, instant as i32, storage.count());
+        Self::mark(watch, instant as i32, storage.count);
         Ok(())
     }
 
@@ -236,7 +236,7 @@ pub trait PlainWatch: Closing {
         rows.fill(UNUSED);
     }
 
-    fn take_back(storage: &mut impl Storage) {
+    fn take_back(storage: &mut Storage) {
         storage.take_back();
     }
 

@@ -1,8 +1,7 @@
-//! Where the plain watch keeps its rows. A call on a lent table has the table alone and finds an entry's rows among all
-//! of them, as the proved call does; a list of rows for each entry would have to be made anew in every call. The plain
-//! listing program has the watch to itself and keeps such lists from line to line, as a plain program would.
+//! Where the plain watch keeps its rows: in a table, and beside it, or not, a list of rows for each entry. A call on a
+//! lent table has the table alone and finds an entry's rows among all of them, as the proved call does; lists would have
+//! to be made anew in every call. The plain listing program has the watch to itself and keeps them from line to line.
 
-use crate::interface::Watch;
 use std::slice;
 
 /// Entry, left, right, start, end.
@@ -27,31 +26,68 @@ impl Span {
     }
 }
 
-/// The rows of a watch while an instant is closed. The old ones end before it, the new ones at it.
-pub trait Storage {
-    type Lower<'a>: Lower
-    where
-        Self: 'a;
-    type Own<'a>: Own
-    where
-        Self: 'a;
-
-    /// The entries, as bits, that may name the code of a pending event.
-    fn named(&self, watch: &Watch) -> u32;
-
-    /// The rows there are, which an entry's own are made of, and the place where these go.
-    fn at_entry(&mut self, number: usize) -> (Self::Lower<'_>, Self::Own<'_>);
-
-    /// Counts the rows that were appended.
-    fn add(&mut self, pushed: usize);
-
-    /// How many rows there are.
-    fn count(&self) -> usize;
-
-    /// Leaves the old rows alone, the others being zeros again: the table was full, so every row was written.
-    fn take_back(&mut self);
+/// The rows of a watch while an instant is closed. The first `old` end before it, those from there to `count` at it.
+pub struct Storage<'a> {
+    pub rows: &'a mut [Row],
+    pub old: usize,
+    pub count: usize,
+    pub index: Option<&'a mut Index>,
 }
 
+impl<'a> Storage<'a> {
+    pub fn new(rows: &'a mut [Row], in_use: usize, index: Option<&'a mut Index>) -> Storage<'a> {
+        Storage { rows, old: in_use, count: in_use, index }
+    }
+
+    /// Leaves the old rows alone, the others being zeros again: the table was full, so every row was written.
+    pub fn take_back(&mut self) {
+        self.rows[self.old..].fill(UNUSED);
+        if let Some(index) = &mut self.index {
+            index.lists.iter_mut().for_each(|list| list.spans.truncate(list.old));
+        }
+    }
+}
+
+/// The list of each entry, and the entries, as bits, that name the code of a pending event.
+pub struct Index {
+    pub lists: Vec<List>,
+    pub named: u32,
+}
+
+/// The rows of one entry, in their order, of which the first `old` end before the instant that is closed.
+#[derive(Default)]
+pub struct List {
+    pub spans: Vec<Span>,
+    old: usize,
+}
+
+impl Index {
+    pub fn new(entries: usize) -> Index {
+        Index { lists: (0..entries).map(|_| List::default()).collect(), named: 0 }
+    }
+
+    /// After a mark nothing is pending, and no row is new.
+    #[inline]
+    pub fn mark(&mut self) {
+        if self.named != 0 {
+            self.lists.iter_mut().for_each(|list| list.old = list.spans.len());
+        }
+        self.named = 0;
+    }
+
+    /// Renumbers the rows and leaves those that start at the floor or later.
+    pub fn forget(&mut self, floor: i32, places: &[u16]) {
+        for list in &mut self.lists {
+            list.spans.retain_mut(|span| {
+                span.row = i32::from(places[span.row as usize]);
+                span.start >= floor
+            });
+            list.old = list.spans.len();
+        }
+    }
+}
+
+/// The rows of lower entries, which an entry's own are made of.
 pub trait Lower: Copy {
     type Rows: Part;
 
@@ -62,7 +98,7 @@ pub trait Lower: Copy {
 
 /// Some of the rows of an entry, in their order, which is by their end.
 pub trait Part: Copy {
-    fn spans(self) -> impl Iterator<Item = Span> + Clone;
+    fn spans(self) -> impl DoubleEndedIterator<Item = Span>;
 
     /// Those that end before an instant, and the others.
     fn cut(self, instant: i32) -> (Self, Self);
@@ -71,80 +107,60 @@ pub trait Part: Copy {
     fn back_to(self, instant: i32) -> impl Iterator<Item = Span>;
 }
 
-pub trait Own {
-    /// Appends a row of the entry; none where the table is full.
-    fn push(&mut self, left: i32, right: i32, start: i32, end: i32) -> Option<()>;
+impl<'a> Lower for &'a [List] {
+    type Rows = &'a [Span];
 
-    /// How many were appended.
-    fn pushed(&self) -> usize;
+    #[inline]
+    fn old(self, entry: u32) -> &'a [Span] {
+        let list = &self[entry as usize];
+        &list.spans[..list.old]
+    }
+
+    #[inline]
+    fn new(self, entry: u32) -> &'a [Span] {
+        let list = &self[entry as usize];
+        &list.spans[list.old..]
+    }
+
+    #[inline]
+    fn all(self, entry: u32) -> &'a [Span] {
+        &self[entry as usize].spans
+    }
 }
 
-/// A table without an index.
+impl Part for &[Span] {
+    #[inline]
+    fn spans(self) -> impl DoubleEndedIterator<Item = Span> {
+        self.iter().copied()
+    }
+
+    #[inline]
+    fn cut(self, instant: i32) -> (Self, Self) {
+        self.split_at(self.partition_point(|span| span.end < instant))
+    }
+
+    /// Without `cut`: mostly few of them are asked for.
+    #[inline]
+    fn back_to(self, instant: i32) -> impl Iterator<Item = Span> {
+        self.iter().rev().copied().take_while(move |span| span.end >= instant)
+    }
+}
+
+/// All rows of a table, of which the first `old` are old.
+#[derive(Clone, Copy)]
 pub struct Table<'a> {
-    pub rows: &'a mut [Row],
+    pub rows: &'a [Row],
     pub old: usize,
-    pub count: usize,
 }
 
 impl<'a> Table<'a> {
-    pub fn new(rows: &'a mut [Row], in_use: usize) -> Table<'a> {
-        Table { rows, old: in_use, count: in_use }
-    }
-}
-
-impl Storage for Table<'_> {
-    type Lower<'a>
-        = TableRows<'a>
-    where
-        Self: 'a;
-    type Own<'a>
-        = TableEnd<'a>
-    where
-        Self: 'a;
-
-    /// Any entry may: the codes are not looked up before.
-    #[inline]
-    fn named(&self, watch: &Watch) -> u32 {
-        if watch.pending == 0 {
-            0
-        } else {
-            u32::MAX
-        }
-    }
-
-    #[inline]
-    fn at_entry(&mut self, number: usize) -> (TableRows<'_>, TableEnd<'_>) {
-        let (rows, free) = self.rows.split_at_mut(self.count);
-        (TableRows { rows, old: self.old }, TableEnd { entry: number as i32, free, pushed: 0 })
-    }
-
-    fn add(&mut self, pushed: usize) {
-        self.count += pushed;
-    }
-
-    fn count(&self) -> usize {
-        self.count
-    }
-
-    fn take_back(&mut self) {
-        self.rows[self.old..].fill(UNUSED);
-    }
-}
-
-#[derive(Clone, Copy)]
-pub struct TableRows<'a> {
-    rows: &'a [Row],
-    old: usize,
-}
-
-impl<'a> TableRows<'a> {
     #[inline]
     fn part(self, entry: u32, first: usize, end: usize) -> TablePart<'a> {
         TablePart { entry: entry as i32, first, rows: &self.rows[first..end] }
     }
 }
 
-impl<'a> Lower for TableRows<'a> {
+impl<'a> Lower for Table<'a> {
     type Rows = TablePart<'a>;
 
     #[inline]
@@ -173,7 +189,7 @@ pub struct TablePart<'a> {
 
 impl Part for TablePart<'_> {
     #[inline]
-    fn spans(self) -> impl Iterator<Item = Span> + Clone {
+    fn spans(self) -> impl DoubleEndedIterator<Item = Span> {
         TableSpans { entry: self.entry, next: self.first as i32, rows: self.rows.iter() }
     }
 
@@ -183,17 +199,13 @@ impl Part for TablePart<'_> {
         (TablePart { rows: before, ..self }, TablePart { rows: from, first: self.first + before.len(), ..self })
     }
 
-    /// Ends at the first row that ends earlier, of whatever entry.
     #[inline]
     fn back_to(self, instant: i32) -> impl Iterator<Item = Span> {
-        let near = self.rows.iter().enumerate().rev().take_while(move |(_, row)| row[END] >= instant);
-        let of_entry = near.filter(move |(_, row)| row[ENTRY] == self.entry);
-        of_entry.map(move |(index, row)| Span::of((self.first + index) as i32, row))
+        self.cut(instant).1.spans().rev()
     }
 }
 
-/// One loop for the compiler, which chained adapters are not.
-#[derive(Clone)]
+/// One loop to the compiler, which the standard library's adapters are not here.
 struct TableSpans<'a> {
     entry: i32,
     next: i32,
@@ -215,146 +227,36 @@ impl Iterator for TableSpans<'_> {
     }
 }
 
-/// The free rows, of which an entry fills the first.
-pub struct TableEnd<'a> {
-    entry: i32,
-    free: &'a mut [Row],
-    pushed: usize,
+impl DoubleEndedIterator for TableSpans<'_> {
+    #[inline]
+    fn next_back(&mut self) -> Option<Span> {
+        loop {
+            let row = self.rows.next_back()?;
+            if row[ENTRY] == self.entry {
+                return Some(Span::of(self.next + self.rows.len() as i32, row));
+            }
+        }
+    }
 }
 
-impl Own for TableEnd<'_> {
+/// The place of an entry's own rows: the table's free ones, of which the first has the number `first`, and its list.
+pub struct Own<'a> {
+    pub entry: i32,
+    pub first: usize,
+    pub free: &'a mut [Row],
+    pub list: Option<&'a mut Vec<Span>>,
+    pub pushed: usize,
+}
+
+impl Own<'_> {
+    /// Appends a row of the entry; none where the table is full.
     #[inline]
-    fn push(&mut self, left: i32, right: i32, start: i32, end: i32) -> Option<()> {
+    pub fn push(&mut self, left: i32, right: i32, start: i32, end: i32) -> Option<()> {
         *self.free.get_mut(self.pushed)? = [self.entry, left, right, start, end];
+        if let Some(list) = &mut self.list {
+            list.push(Span { row: (self.first + self.pushed) as i32, start, end });
+        }
         self.pushed += 1;
         Some(())
-    }
-
-    fn pushed(&self) -> usize {
-        self.pushed
-    }
-}
-
-/// The rows of one entry, in their order, and how many of them are old.
-#[derive(Default)]
-pub struct List {
-    spans: Vec<Span>,
-    old: usize,
-}
-
-impl List {
-    /// After a mark that was taken no row is new any more.
-    pub fn grow_old(&mut self) {
-        self.old = self.spans.len();
-    }
-
-    /// Renumbers the rows and leaves those that start at the floor or later.
-    pub fn forget(&mut self, floor: i32, places: &[u16]) {
-        self.spans.retain_mut(|span| {
-            span.row = i32::from(places[span.row as usize]);
-            span.start >= floor
-        });
-        self.grow_old();
-    }
-}
-
-/// A table with a list for each entry.
-pub struct ListedTable<'a> {
-    pub table: Table<'a>,
-    pub lists: &'a mut [List],
-    /// The entries, as bits, that name a pending code.
-    pub named: u32,
-}
-
-impl Storage for ListedTable<'_> {
-    type Lower<'a>
-        = &'a [List]
-    where
-        Self: 'a;
-    type Own<'a>
-        = ListedEnd<'a>
-    where
-        Self: 'a;
-
-    fn named(&self, _: &Watch) -> u32 {
-        self.named
-    }
-
-    #[inline]
-    fn at_entry(&mut self, number: usize) -> (&[List], ListedEnd<'_>) {
-        let (lower, rest) = self.lists.split_at_mut(number);
-        let first = self.table.count;
-        let (_, end) = self.table.at_entry(number);
-        (lower, ListedEnd { first, end, list: &mut rest[0].spans })
-    }
-
-    fn add(&mut self, pushed: usize) {
-        self.table.add(pushed);
-    }
-
-    fn count(&self) -> usize {
-        self.table.count
-    }
-
-    fn take_back(&mut self) {
-        self.table.take_back();
-        self.lists.iter_mut().for_each(|list| list.spans.truncate(list.old));
-    }
-}
-
-impl<'a> Lower for &'a [List] {
-    type Rows = &'a [Span];
-
-    #[inline]
-    fn old(self, entry: u32) -> &'a [Span] {
-        let list = &self[entry as usize];
-        &list.spans[..list.old]
-    }
-
-    #[inline]
-    fn new(self, entry: u32) -> &'a [Span] {
-        let list = &self[entry as usize];
-        &list.spans[list.old..]
-    }
-
-    #[inline]
-    fn all(self, entry: u32) -> &'a [Span] {
-        &self[entry as usize].spans
-    }
-}
-
-impl Part for &[Span] {
-    #[inline]
-    fn spans(self) -> impl Iterator<Item = Span> + Clone {
-        self.iter().copied()
-    }
-
-    #[inline]
-    fn cut(self, instant: i32) -> (Self, Self) {
-        self.split_at(self.partition_point(|span| span.end < instant))
-    }
-
-    #[inline]
-    fn back_to(self, instant: i32) -> impl Iterator<Item = Span> {
-        self.iter().rev().copied().take_while(move |span| span.end >= instant)
-    }
-}
-
-/// The free rows and the entry's list.
-pub struct ListedEnd<'a> {
-    first: usize,
-    end: TableEnd<'a>,
-    list: &'a mut Vec<Span>,
-}
-
-impl Own for ListedEnd<'_> {
-    #[inline]
-    fn push(&mut self, left: i32, right: i32, start: i32, end: i32) -> Option<()> {
-        self.list.push(Span { row: (self.first + self.end.pushed) as i32, start, end });
-        self.end.push(left, right, start, end)
-    }
-
-    fn pushed(&self) -> usize {
-        self.end.pushed
     }
 }

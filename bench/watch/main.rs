@@ -6,6 +6,7 @@ mod proved_watch;
 
 use common::interface::{Answer, Calls, Chart, Watch};
 use common::plain_watch::{self, Plain, PlainWatch};
+use common::timing::{median, processor_time};
 use std::hint::black_box;
 
 const ROWS_IN_USE: [usize; 4] = [100, 1_000, 10_000, 60_000];
@@ -16,20 +17,6 @@ const BYTES_A_ROUND: usize = 1 << 21;
 /// Stage settled (1), shutter opened (2), focus moved (3), temperature sampled (4); and 5, which only fills the table.
 const CHART: &[u8] = b"0\tevent\t1\n1\tevent\t2\n2\tevent\t3\n3\tevent\t4\n4\tevent\t5\n\
     5\tseq\t0\t1\n6\t-[]\t5\t2\n7\tor\t2\t3\n8\tatmost\t7\t5\n9\tequals\t0\t0\n";
-
-/// Linux's clock of the processor time of a thread. It stands still while another program has the processor, so that a
-/// busy machine does not alter the ratios.
-const CLOCK_THREAD_CPUTIME_ID: i32 = 3;
-
-#[repr(C)]
-struct TimeSpec {
-    seconds: i64,
-    nanoseconds: i64,
-}
-
-extern "C" {
-    fn clock_gettime(clock: i32, time: *mut TimeSpec) -> i32;
-}
 
 /// A call on a watch and table.
 #[derive(Clone, Copy)]
@@ -157,18 +144,4 @@ fn time(workload: &Workload, calls: &Calls, tables: &mut [Vec<i32>]) -> f64 {
     let elapsed = (processor_time() - start) / tables.len() as f64;
     tables.iter_mut().for_each(|table| table.copy_from_slice(&workload.table));
     elapsed
-}
-
-/// What this thread has used so far, in nanoseconds.
-fn processor_time() -> f64 {
-    let mut time = TimeSpec { seconds: 0, nanoseconds: 0 };
-    // SAFETY: the call writes the struct that it is lent, of the C struct's layout, and keeps no pointer.
-    let status = unsafe { clock_gettime(CLOCK_THREAD_CPUTIME_ID, &mut time) };
-    assert_eq!(status, 0, "Linux has this clock");
-    time.seconds as f64 * 1e9 + time.nanoseconds as f64
-}
-
-fn median(mut times: Vec<f64>) -> f64 {
-    times.sort_by(f64::total_cmp);
-    times[times.len() / 2]
 }

@@ -11,3 +11,4 @@ pub mod plain_watch;
 pub mod random;
 pub mod random_charts;
 pub mod random_inputs;
+pub mod timing;

@@ -30,7 +30,7 @@ impl Closing for Plain {}
 impl PlainWatch for Plain {}
 
 pub fn is_instant(instant: i32) -> bool {
-    (-1_000_000_000..=1_000_000_000).contains(&instant)
+    INSTANTS.contains(&i64::from(instant))
 }
 
 /// A chart on paper, read by the plain reader.

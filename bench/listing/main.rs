@@ -37,7 +37,8 @@ fn main() -> ExitCode {
         println!(" {plain_ms:>8.1} {proved_ms:>8.1} {ratio:>6.2}");
         fs::remove_file(&path).expect("the input can be removed");
     }
-    println!("processor time of the whole process, best of {ROUNDS} runs of each program, the two taking turns");
+    println!("processor time of the whole process, best of {ROUNDS} runs of each program, the two taking turns;");
+    println!("fewer runs where {LONGEST} s are spent");
     ExitCode::SUCCESS
 }
 

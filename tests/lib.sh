@@ -34,28 +34,18 @@ is_first() {
 
 # make_archive CRATE: the proved crate as target/staticlib/libCRATE.a, for C and Rust to link. `rt ci` writes no
 # archive, so `rt staticlib CRATE` proves the crate and builds it here.
-make_archive() {
-    is_first "archive $1" || return 0
-    heading "proved archive of $1"
-    mkdir -p target
-    rt staticlib "$1" >target/staticlib.log 2>&1 || { cat target/staticlib.log >&2; fail "rt staticlib $1 failed"; }
-    tail -n 1 target/staticlib.log
-}
+make_archive() { make_proved "archive of $1" staticlib "$1"; }
 
 # make_program CRATE: the proved program as target/bin/CRATE.
-make_program() {
-    is_first "program $1" || return 0
-    heading "proved program $1"
-    mkdir -p target
-    rt check "$1" >target/program.log 2>&1 || { cat target/program.log >&2; fail "rt check $1 failed"; }
-    tail -n 1 target/program.log
-}
+make_program() { make_proved "program $1" check "$1"; }
 
-# have_crate CRATE PART: whether crates.txt has the crate; where not, says that the part is left out.
-have_crate() {
-    if grep -q "^$1:" crates.txt; then return; fi
-    printf '\n== %s: left out, there is no crate %s yet\n' "$2" "$1"
-    return 1
+# make_proved WHAT COMMAND CRATE: what `rt COMMAND CRATE` writes; its last line is shown, or all of them where it fails.
+make_proved() {
+    is_first "$1" || return 0
+    heading "proved $1"
+    mkdir -p target
+    rt "$2" "$3" >"target/$2.log" 2>&1 || { cat "target/$2.log" >&2; fail "rt $2 $3 failed"; }
+    tail -n 1 "target/$2.log"
 }
 
 # rust SOURCE OUTPUT [WORD...]: compiles one Rust crate, release build, no crate from outside.

@@ -6,8 +6,8 @@ mod proved;
 use common::plain_chart::{check, Verdict};
 use common::random::Random;
 use common::random_charts::valid;
+use common::timing::{median, processor_time};
 use std::hint::black_box;
-use std::time::Instant;
 
 const CHARTS: usize = 1_000;
 const ROUNDS: usize = 41;
@@ -26,7 +26,9 @@ fn main() {
         let (plain, proved) = median_times(&workload.charts);
         println!("{:<38} {plain:>12.0} {proved:>12.0} {:>7.2}", workload.name, proved / plain);
     }
-    println!("ns a chart, medians of {ROUNDS} rounds over {CHARTS} charts, the two readers taking turns");
+    println!(
+        "ns of processor time a chart, medians of {ROUNDS} rounds over {CHARTS} charts, the two readers taking turns"
+    );
 }
 
 fn workloads() -> [Workload; 3] {
@@ -52,14 +54,9 @@ fn median_times(charts: &[Vec<u8>]) -> (f64, f64) {
 }
 
 fn time(reader: Reader, charts: &[Vec<u8>]) -> f64 {
-    let start = Instant::now();
+    let start = processor_time();
     for chart in charts {
         black_box(reader(black_box(chart)));
     }
-    start.elapsed().as_nanos() as f64 / charts.len() as f64
-}
-
-fn median(mut times: Vec<f64>) -> f64 {
-    times.sort_by(f64::total_cmp);
-    times[times.len() / 2]
+    (processor_time() - start) / charts.len() as f64
 }

@@ -3,6 +3,7 @@
 use crate::watch::Watch;
 use crate::TABLE_ROWS;
 use common::plain_chart;
+use common::plain_watch::storage::START;
 use common::random::Random;
 
 /// Before the lamp trigger.
@@ -16,6 +17,8 @@ pub struct Workload {
     most_events_an_instant: usize,
     /// No more rows than this come with one mark.
     most_new_rows: usize,
+    /// A forget drops one row in so many, each of these as often as another.
+    one_forgotten_in: &'static [usize],
 }
 
 /// A chart, an empty line and a log, and how many rows are in use after its marks.
@@ -33,6 +36,7 @@ pub const WORKLOADS: [Workload; 3] = [
         codes: &[1, 2, 7, 8, 9, 9, 9, 9],
         most_events_an_instant: 8,
         most_new_rows: 40,
+        one_forgotten_in: &[10, 2],
     },
     // Stage settled (1), shutter opened (2), focus moved (3), and settled before opened with no focus move between.
     Workload {
@@ -41,6 +45,7 @@ pub const WORKLOADS: [Workload; 3] = [
         codes: &[1, 2, 3, 3, 3, 3, 7, 8, 9, 9],
         most_events_an_instant: 4,
         most_new_rows: 400,
+        one_forgotten_in: &[10, 2],
     },
     // Intervals between two events, and their relations.
     Workload {
@@ -50,12 +55,33 @@ pub const WORKLOADS: [Workload; 3] = [
         codes: &[1, 2, 7, 7, 7, 8, 8, 9, 9, 9],
         most_events_an_instant: 4,
         most_new_rows: 400,
+        one_forgotten_in: &[10, 2],
     },
 ];
 
+/// An event and relations over it as entries.
+macro_rules! overlaps {
+    ($($entry:literal)*) => {
+        concat!("0\tevent\t1\n" $(, $entry, "\toverlaps\t0\t0\n")*)
+    };
+}
+
+/// The most relations over a single event, of which no two rows overlap, beside a table that is kept nearly full: what a
+/// mark costs is what it looks at in vain.
+pub const FULL_TABLE: Workload = Workload {
+    name: "overlaps",
+    chart: overlaps!(1 2 3 4 5 6 7 8 9 10 11 12 13 14 15 16 17 18 19 20 21 22 23 24 25 26 27 28 29 30 31),
+    codes: &[1],
+    most_events_an_instant: 1,
+    most_new_rows: 1,
+    one_forgotten_in: &[30],
+};
+/// How many rows of it may be in use before some are forgotten.
+pub const FULL_TABLE_ROWS: usize = 2_990;
+
 impl Workload {
-    /// An input of so many events. Rows are forgotten, a tenth of them or half, as soon as more than `rows` are in use
-    /// or the next mark could fill the table.
+    /// An input of so many events. Some rows are forgotten as soon as more than `rows` are in use or the next mark could
+    /// fill the table.
     pub fn draw(&self, random: &mut Random, events: usize, rows: usize) -> Drawn {
         let entries = plain_chart::read(self.chart.as_bytes()).expect("the workload's chart is sound");
         let mut watch = Watch::open(&entries, TABLE_ROWS, OPENING).expect("the instant is in range");
@@ -76,7 +102,7 @@ impl Workload {
     fn play_instant(&self, random: &mut Random, watch: &mut Watch, events: usize, rows: usize, text: &mut String) {
         (0..events).for_each(|_| *text += &event(watch, random.pick(self.codes)));
         if watch.rows().len() > rows.min(TABLE_ROWS - self.most_new_rows) {
-            *text += &forget(watch, random);
+            *text += &forget(watch, random.pick(self.one_forgotten_in));
         }
         let instant = i64::from(watch.instant()) + 1 + random.below(3) as i64;
         watch.clock(instant).expect("the workload's rows fit");
@@ -89,11 +115,11 @@ fn event(watch: &mut Watch, code: u8) -> String {
     format!("event\t{code}\n")
 }
 
-/// Forgets until a tenth or half of the rows are gone.
-fn forget(watch: &mut Watch, random: &mut Random) -> String {
-    let mut starts: Vec<i32> = watch.rows().iter().map(|row| row.start).collect();
+/// Forgets until one row in so many is gone.
+fn forget(watch: &mut Watch, one_in: usize) -> String {
+    let mut starts: Vec<i32> = watch.rows().iter().map(|row| row[START]).collect();
     starts.sort_unstable();
-    let floor = starts[starts.len() / random.pick(&[10, 2])] + 1;
+    let floor = starts[starts.len() / one_in] + 1;
     let floor = i64::from(floor.min(watch.instant()));
     watch.forget(floor).expect("a floor at a row's start is taken");
     format!("forget\t{floor}\n")

@@ -1,8 +1,10 @@
 //! Plays a chart, an empty line and a log, line by line, and prints the table. Document 01, "The listing program".
 
 use crate::line_reader::LineReader;
-use crate::watch::{Refusal, Row, Watch};
+use crate::watch::Watch;
 use common::plain_chart::{self, Entry, MOST_ENTRIES};
+use common::plain_watch::storage::Row;
+use common::plain_watch::{Refusal, Taken};
 use std::io::{self, Read, Write};
 
 /// The rows of the listing program's table.
@@ -31,7 +33,7 @@ pub fn list(source: impl Read, table_rows: usize) -> io::Result<Vec<u8>> {
 
 fn table_text(rows: &[Row]) -> Vec<u8> {
     let mut text = b"row\tentry\tleft\tright\tstart\tend\n".to_vec();
-    for (number, Row { entry, left, right, start, end }) in rows.iter().enumerate() {
+    for (number, [entry, left, right, start, end]) in rows.iter().enumerate() {
         writeln!(text, "{number}\t{entry}\t{left}\t{right}\t{start}\t{end}").expect("a vector takes all bytes");
     }
     text
@@ -88,7 +90,7 @@ fn opened(chart: &[Entry], line: &[u8], table_rows: usize) -> Result<Watch, Refu
 }
 
 /// Plays a later line: 7 where it is not of its form or a second `open`.
-fn play_line(watch: &mut Watch, line: &[u8]) -> Result<(), Refusal> {
+fn play_line(watch: &mut Watch, line: &[u8]) -> Taken {
     match record(line) {
         Some(Record::Event(code)) => watch.event(code),
         Some(Record::Clock(instant)) => watch.clock(instant),

@@ -1,14 +1,12 @@
 //! Times the proved watch beside the unproved one, both release builds, on the same watches and tables in one run. On
 //! both sides every call includes the check behind 13, a walk of the whole table.
 
-#[path = "../../tests/watch/plain_watch.rs"]
-#[allow(dead_code)]
-mod plain_watch;
 #[path = "../../tests/common/proved_watch.rs"]
 mod proved_watch;
 
 use common::interface::{Answer, Calls, Chart, Watch};
-use plain_watch::{Plain, PlainWatch};
+use common::plain_watch::{self, Plain, PlainWatch};
+use common::timing::{median, processor_time};
 use std::hint::black_box;
 
 const ROWS_IN_USE: [usize; 4] = [100, 1_000, 10_000, 60_000];
@@ -19,20 +17,6 @@ const BYTES_A_ROUND: usize = 1 << 21;
 /// Stage settled (1), shutter opened (2), focus moved (3), temperature sampled (4); and 5, which only fills the table.
 const CHART: &[u8] = b"0\tevent\t1\n1\tevent\t2\n2\tevent\t3\n3\tevent\t4\n4\tevent\t5\n\
     5\tseq\t0\t1\n6\t-[]\t5\t2\n7\tor\t2\t3\n8\tatmost\t7\t5\n9\tequals\t0\t0\n";
-
-/// Linux's clock of the processor time of a thread. It stands still while another program has the processor, so that a
-/// busy machine does not alter the ratios.
-const CLOCK_THREAD_CPUTIME_ID: i32 = 3;
-
-#[repr(C)]
-struct TimeSpec {
-    seconds: i64,
-    nanoseconds: i64,
-}
-
-extern "C" {
-    fn clock_gettime(clock: i32, time: *mut TimeSpec) -> i32;
-}
 
 /// A call on a watch and table.
 #[derive(Clone, Copy)]
@@ -100,7 +84,8 @@ fn filled(chart: Chart, rows: usize, room: usize) -> (Watch, Vec<i32>) {
     let mut table = vec![0; (rows + room) * 5];
     let mut watch = taken(Plain::open(chart, &mut table, -1_000));
     let mut close = |watch: Watch, code: u8, count: usize| {
-        let pending = (0..count).fold(watch, |watch, _| Plain::with_event(watch, code));
+        let mut pending = watch;
+        (0..count).for_each(|_| Plain::add_event(&mut pending, code));
         taken(Plain::clock(pending, chart, &mut table, watch.instant + 10))
     };
     for _ in 0..3 {
@@ -159,18 +144,4 @@ fn time(workload: &Workload, calls: &Calls, tables: &mut [Vec<i32>]) -> f64 {
     let elapsed = (processor_time() - start) / tables.len() as f64;
     tables.iter_mut().for_each(|table| table.copy_from_slice(&workload.table));
     elapsed
-}
-
-/// What this thread has used so far, in nanoseconds.
-fn processor_time() -> f64 {
-    let mut time = TimeSpec { seconds: 0, nanoseconds: 0 };
-    // SAFETY: the call writes the struct that it is lent, of the C struct's layout, and keeps no pointer.
-    let status = unsafe { clock_gettime(CLOCK_THREAD_CPUTIME_ID, &mut time) };
-    assert_eq!(status, 0, "Linux has this clock");
-    time.seconds as f64 * 1e9 + time.nanoseconds as f64
-}
-
-fn median(mut times: Vec<f64>) -> f64 {
-    times.sort_by(f64::total_cmp);
-    times[times.len() / 2]
 }

@@ -6,6 +6,7 @@ mod planned_charts;
 mod proved;
 mod wrong_readers;
 
+use common::harness::{self, Compared, Named, Test, LEAST_MET};
 use common::paper::{fields, lines};
 use common::plain_chart::{check, Verdict, TAKEN, WORDS};
 use common::random::Random;
@@ -15,24 +16,47 @@ use std::process::ExitCode;
 
 const SEEDS: [u64; 4] = [1, 2, 3, 4];
 const CHARTS_PER_SEED: usize = 100_000;
-/// How often each refusal number and each operator word must be met, or the run is no test of it.
-const LEAST_MET: usize = 100;
+
+type Reader = fn(&[u8]) -> Verdict;
 
 fn main() -> ExitCode {
-    let arguments: Vec<String> = std::env::args().skip(1).collect();
-    let passed = match arguments.iter().map(String::as_str).collect::<Vec<&str>>().as_slice() {
-        [] => compare_proved(),
-        ["--self-test"] => find_wrong_readers(),
-        _ => {
-            eprintln!("use: chart_test [--self-test]");
-            return ExitCode::from(2);
-        }
-    };
-    if passed {
-        ExitCode::SUCCESS
-    } else {
-        ExitCode::FAILURE
+    harness::main::<ChartTest>()
+}
+
+struct ChartTest;
+
+impl Test for ChartTest {
+    const NAME: &'static str = "chart_test";
+    type Met = Met;
+    type Subject = Reader;
+
+    fn compare_proved(met: &mut Met) -> Compared {
+        charts().try_for_each(|chart| {
+            met.count(&chart, check(&chart));
+            compare_chart(&chart, proved::check_chart)
+        })
     }
+
+    fn compare(reader: &Reader) -> Compared {
+        charts().try_for_each(|chart| compare_chart(&chart, *reader))
+    }
+
+    /// The plain reader is what all others are compared with.
+    fn right() -> Vec<Named<Reader>> {
+        vec![]
+    }
+
+    fn wrong() -> Vec<Named<Reader>> {
+        wrong_readers::ALL.to_vec()
+    }
+}
+
+fn compare_chart(chart: &[u8], reader: Reader) -> Compared {
+    let (answer, expected) = (reader(chart), check(chart));
+    if answer == expected {
+        return Ok(());
+    }
+    Err(format!("chart \"{}\": {answer:?}\nexpected {expected:?}", chart.escape_ascii()))
 }
 
 /// Every chart of a run: by plan, then from the seeds.
@@ -52,10 +76,6 @@ struct Met {
 }
 
 impl Met {
-    fn nothing() -> Met {
-        Met { refusals: (0..=6).map(|number| (number, 0)).collect(), words: WORDS.map(|word| (word, 0)).into() }
-    }
-
     fn count(&mut self, chart: &[u8], verdict: Verdict) {
         *self.refusals.entry(verdict.refusal).or_default() += 1;
         if verdict == TAKEN {
@@ -66,6 +86,12 @@ impl Met {
     fn count_word(&mut self, word: &[u8]) {
         let count = std::str::from_utf8(word).ok().and_then(|word| self.words.get_mut(word));
         *count.expect("a chart taken has only operator words") += 1;
+    }
+}
+
+impl harness::Met for Met {
+    fn nothing() -> Met {
+        Met { refusals: (0..=6).map(|number| (number, 0)).collect(), words: WORDS.map(|word| (word, 0)).into() }
     }
 
     fn is_enough(&self) -> bool {
@@ -79,32 +105,4 @@ impl Met {
         println!("operator   lines of charts taken");
         WORDS.iter().for_each(|word| println!("{word:<8} {:>8}", self.words[word]));
     }
-}
-
-/// Compares the proved check with the plain reader, up to the first difference, and prints what was reached.
-fn compare_proved() -> bool {
-    let mut met = Met::nothing();
-    for chart in charts() {
-        let (proved, plain) = (proved::check_chart(&chart), check(&chart));
-        if proved != plain {
-            println!("difference on the chart \"{}\"\nproved: {proved:?}\nplain:  {plain:?}", chart.escape_ascii());
-            return false;
-        }
-        met.count(&chart, plain);
-    }
-    met.print();
-    if !met.is_enough() {
-        println!("a refusal or an operator was met fewer than {LEAST_MET} times");
-    }
-    met.is_enough()
-}
-
-/// Whether the charts tell every wrong reader from the plain one.
-fn find_wrong_readers() -> bool {
-    let missed = wrong_readers::ALL.iter().filter(|reader| {
-        let difference = charts().find(|chart| (reader.check)(chart) != check(chart));
-        println!("{}: {}", if difference.is_some() { "found" } else { "not found" }, reader.fault);
-        difference.is_none()
-    });
-    missed.count() == 0
 }

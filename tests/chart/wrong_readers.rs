@@ -1,23 +1,20 @@
 //! Chart readers that are wrong on purpose. The comparison must find each of them, or it could not find a fault in the
 //! proved one.
 
+use common::careless::{with_last_byte, without_carriage_returns};
+use common::harness::Named;
 use common::paper::lines;
 use common::plain_chart::{check, has_lower_operands, record, Verdict};
 
-pub struct WrongReader {
-    pub fault: &'static str,
-    pub check: fn(&[u8]) -> Verdict,
-}
-
-pub const ALL: [WrongReader; 8] = [
-    WrongReader { fault: "refusal 5 before 6", check: operand_before_range },
-    WrongReader { fault: "lines counted from 0", check: lines_from_0 },
-    WrongReader { fault: "a last line taken without byte 10", check: last_byte_added },
-    WrongReader { fault: "carriage returns skipped", check: carriage_returns_skipped },
-    WrongReader { fault: "a 33rd line not looked at", check: first_32_lines },
-    WrongReader { fault: "empty lines skipped", check: empty_lines_skipped },
-    WrongReader { fault: "spaces taken for tabs", check: spaces_as_tabs },
-    WrongReader { fault: "all after a byte 0 left out", check: text_before_0 },
+pub const ALL: [Named<fn(&[u8]) -> Verdict>; 8] = [
+    ("refusal 5 before 6", operand_before_range),
+    ("lines counted from 0", lines_from_0),
+    ("a last line taken without byte 10", |bytes| check(&with_last_byte(bytes))),
+    ("carriage returns skipped", |bytes| check(&without_carriage_returns(bytes))),
+    ("a 33rd line not looked at", first_32_lines),
+    ("empty lines skipped", empty_lines_skipped),
+    ("spaces taken for tabs", spaces_as_tabs),
+    ("all after a byte 0 left out", text_before_0),
 ];
 
 fn operand_before_range(bytes: &[u8]) -> Verdict {
@@ -35,18 +32,6 @@ fn operand_before_range(bytes: &[u8]) -> Verdict {
 fn lines_from_0(bytes: &[u8]) -> Verdict {
     let verdict = check(bytes);
     Verdict { line: verdict.line.saturating_sub(1), ..verdict }
-}
-
-fn last_byte_added(bytes: &[u8]) -> Verdict {
-    if bytes.is_empty() || bytes.ends_with(b"\n") {
-        check(bytes)
-    } else {
-        check(&[bytes, b"\n"].concat())
-    }
-}
-
-fn carriage_returns_skipped(bytes: &[u8]) -> Verdict {
-    check(&bytes.iter().copied().filter(|byte| *byte != b'\r').collect::<Vec<u8>>())
 }
 
 fn first_32_lines(bytes: &[u8]) -> Verdict {

@@ -45,6 +45,20 @@ pub fn interval_chart(random: &mut Random, operators: usize) -> String {
     text
 }
 
+/// A sound chart of two events, intervals between them, those of a few instants, and operators that pair the rows of
+/// these. While a log goes on, rows end before, at and after the start of each new short interval.
+pub fn short_interval_chart(random: &mut Random, operators: usize) -> String {
+    let longest = 2 + random.below(6);
+    let mut text = format!("0\tevent\t1\n1\tevent\t2\n2\tseq\t0\t1\n3\tatmost\t2\t{longest}\n");
+    for index in 4..4 + operators {
+        let word =
+            random.pick(&["meets", "overlaps", "starts", "during", "meets", "overlaps", "starts", "during", "seq"]);
+        let (a, b) = (random.pick(&[2, 3, 3, 0, 1, index - 1]), random.pick(&[3, 3, 3, 3, 3, 2, index - 1]));
+        text += &format!("{index}\t{word}\t{a}\t{b}\n");
+    }
+    text
+}
+
 /// Mostly a code of its own.
 fn event_entry(random: &mut Random, index: usize) -> String {
     let code = if random.one_in(8) { random.pick(&[0, 1, 2, 255]) } else { index + 1 };

@@ -1,7 +1,8 @@
 //! Inputs that cannot be read and outputs that cannot be written. The listing program says so on standard error, in one
 //! line, and prints nothing but what it has written until then; its exit status stays that of success.
 
-use crate::{compare, compare_both, finished, inputs, program, run_on, Compared, RUNS};
+use crate::{compare, compare_both, finished, inputs, program, run_on, RUNS};
+use common::harness::Compared;
 use common::random::Random;
 use oracle::listing::{listing, TABLE_ROWS};
 use oracle::model::Over;

@@ -32,14 +32,15 @@ pub struct Kind {
     pub draw: fn(&mut Random) -> Case,
 }
 
-const KINDS: [Kind; 8] = [
+const KINDS: [Kind; 9] = [
     Kind { name: "sound", share: 20, draw: |random| on_full_table(sound(random)) },
     Kind { name: "small table", share: 10, draw: on_small_table },
-    Kind { name: "damaged", share: 38, draw: |random| on_full_table(damaged(random)) },
+    Kind { name: "damaged", share: 34, draw: |random| on_full_table(damaged(random)) },
     Kind { name: "damaged chart", share: 12, draw: |random| on_full_table(damaged_chart(random)) },
     Kind { name: "edge of the range", share: 12, draw: |random| on_full_table(at_an_edge(random)) },
     Kind { name: "60 to 66 events", share: 2, draw: |random| on_full_table(crowded(random)) },
     Kind { name: "about 3,000 rows", share: 1, draw: |random| on_full_table(filling(random)) },
+    Kind { name: "short intervals", share: 4, draw: |random| on_full_table(of_short_intervals(random)) },
     Kind { name: "any bytes", share: 5, draw: |random| on_full_table(any_bytes(random)) },
 ];
 
@@ -197,6 +198,13 @@ fn filling(random: &mut Random) -> Vec<u8> {
     text += "clock\t1\n";
     text += if random.one_in(2) { "forget\t0\nevent\t1\nclock\t2\n" } else { "" };
     text.into_bytes()
+}
+
+/// Short intervals that are paired with each other, over many marks: the edge of the search for pairs.
+fn of_short_intervals(random: &mut Random) -> Vec<u8> {
+    let operators = 1 + random.below(4);
+    let chart = random_inputs::short_interval_chart(random, operators);
+    format!("{chart}\n{}", log(random, -20, 120)).into_bytes()
 }
 
 /// No chart at all, but bytes that occur in one.

@@ -8,15 +8,16 @@ mod planned;
 mod proved_listing;
 mod wrong_programs;
 
+use common::harness::{self, Compared, Met as _, Named, Test, LEAST_MET};
 use common::random::Random;
 use inputs::Case;
 use oracle::listing::{listing, TABLE_ROWS};
 use oracle::model::Over;
-use plain_listing::long_logs::{one_event_too_many, WORKLOADS};
+use plain_listing::long_logs::{one_event_too_many, FULL_TABLE, FULL_TABLE_ROWS, WORKLOADS};
 use proved_listing::Lent;
 use std::collections::BTreeMap;
 use std::process::ExitCode;
-use wrong_programs::list_all;
+use wrong_programs::{list_all, Listing};
 
 const SEEDS: [u64; 4] = [51, 52, 53, 54];
 const INPUTS_PER_SEED: usize = 30_000;
@@ -24,26 +25,39 @@ const INPUTS_PER_SEED: usize = 30_000;
 const SELF_TEST_INPUTS: usize = 4_000;
 const LONG_EVENTS: usize = 100_000;
 const LONG_FILLINGS: [usize; 2] = [100, 2_900];
-/// How often each refusal must be met, or the run is no test of it; 10 takes a million events and is met once.
-const LEAST_MET: usize = 100;
+const FULL_TABLE_EVENTS: usize = 10_000;
 
 /// What a program prints for an input on a table of so many rows, or what else is wrong.
 type Program<'a> = dyn FnMut(&[u8], usize) -> Result<Vec<u8>, String> + 'a;
 
 fn main() -> ExitCode {
-    let arguments: Vec<String> = std::env::args().skip(1).collect();
-    let passed = match arguments.iter().map(String::as_str).collect::<Vec<&str>>().as_slice() {
-        [] => compare_proved(),
-        ["--self-test"] => find_wrong_programs(),
-        _ => {
-            eprintln!("use: listing_test [--self-test]");
-            return ExitCode::from(2);
-        }
-    };
-    if passed {
-        ExitCode::SUCCESS
-    } else {
-        ExitCode::FAILURE
+    harness::main::<ListingTest>()
+}
+
+struct ListingTest;
+
+impl Test for ListingTest {
+    const NAME: &'static str = "listing_test";
+    type Met = Met;
+    type Subject = Listing;
+
+    fn compare_proved(met: &mut Met) -> Compared {
+        let mut lent = Lent::new();
+        compare_short(&mut |input, rows| lent.list(input, rows), INPUTS_PER_SEED, met)?;
+        compare_long(&mut |input, rows| lent.list(input, rows), met)?;
+        compare_short_outputs(&mut lent)
+    }
+
+    fn compare(list: &Listing) -> Compared {
+        compare_short(&mut |input, rows| Ok(list(input, rows)), SELF_TEST_INPUTS, &mut Met::nothing())
+    }
+
+    fn right() -> Vec<Named<Listing>> {
+        vec![("the plain program", list_all)]
+    }
+
+    fn wrong() -> Vec<Named<Listing>> {
+        wrong_programs::ALL.to_vec()
     }
 }
 
@@ -57,11 +71,6 @@ struct Met {
 }
 
 impl Met {
-    fn nothing() -> Met {
-        let refusals = (0..=12).map(|number| (number, 0)).collect();
-        Met { refusals, kinds: BTreeMap::new(), rows: 0, full_tables: 0 }
-    }
-
     fn count(&mut self, kind: &'static str, printed: &[u8], table_rows: usize) {
         let number = printed.strip_prefix(b"refused\t").and_then(|text| text.split(|byte| *byte == b'\t').next());
         let number = number.map_or(0, |digits| digits.iter().fold(0, |n, digit| n * 10 + u32::from(digit - b'0')));
@@ -73,7 +82,15 @@ impl Met {
             self.full_tables += usize::from(rows == table_rows);
         }
     }
+}
 
+impl harness::Met for Met {
+    fn nothing() -> Met {
+        let refusals = (0..=12).map(|number| (number, 0)).collect();
+        Met { refusals, kinds: BTreeMap::new(), rows: 0, full_tables: 0 }
+    }
+
+    /// 10 takes a million events and is met once.
     fn is_enough(&self) -> bool {
         let least = |number: u32| if number == 10 { 1 } else { LEAST_MET };
         self.refusals.iter().all(|(number, count)| *count >= least(*number)) && self.full_tables >= LEAST_MET
@@ -85,9 +102,6 @@ impl Met {
         let counts: Vec<String> = self.refusals.iter().map(|(number, count)| format!("{number}: {count}")).collect();
         println!("refused with each number (0: not refused)\n  {}", counts.join("  "));
         println!("{} rows listed, {} tables full to the last row", self.rows, self.full_tables);
-        if !self.is_enough() {
-            println!("one of these was met fewer than {LEAST_MET} times");
-        }
     }
 }
 
@@ -97,7 +111,7 @@ fn expected(case: &Case) -> Vec<u8> {
 }
 
 /// Nothing, or what the difference is.
-fn compare(program: &mut Program, case: &Case, expected: &[u8]) -> Result<(), String> {
+fn compare(program: &mut Program, case: &Case, expected: &[u8]) -> Compared {
     match program(&case.input, case.table_rows) {
         Ok(printed) if printed == expected => Ok(()),
         Ok(printed) => Err(described(case, &format!("\"{}\"", shortened(&printed)), expected)),
@@ -121,7 +135,7 @@ fn shortened(text: &[u8]) -> String {
 }
 
 /// Compares a program on the inputs by plan and on so many from each seed, up to the first difference.
-fn compare_short(program: &mut Program, per_seed: usize, met: &mut Met) -> Result<(), String> {
+fn compare_short(program: &mut Program, per_seed: usize, met: &mut Met) -> Compared {
     let mut compare_case = |kind: &'static str, case: Case| {
         let expected = expected(&case);
         met.count(kind, &expected, case.table_rows);
@@ -139,11 +153,12 @@ fn compare_short(program: &mut Program, per_seed: usize, met: &mut Met) -> Resul
 }
 
 /// Compares a program with the plain one on inputs of many events.
-fn compare_long(program: &mut Program, met: &mut Met) -> Result<(), String> {
+fn compare_long(program: &mut Program, met: &mut Met) -> Compared {
     let drawn = WORKLOADS.iter().flat_map(|workload| {
         LONG_FILLINGS.map(|filling| workload.draw(&mut Random::new(filling as u64), LONG_EVENTS, filling).input)
     });
-    for input in drawn.chain([one_event_too_many()]) {
+    let full_table = FULL_TABLE.draw(&mut Random::new(64), FULL_TABLE_EVENTS, FULL_TABLE_ROWS).input;
+    for input in drawn.chain([full_table, one_event_too_many()]) {
         let expected = list_all(&input, TABLE_ROWS);
         met.count("many events", &expected, TABLE_ROWS);
         compare(program, &Case { input, table_rows: TABLE_ROWS }, &expected)?;
@@ -152,7 +167,7 @@ fn compare_long(program: &mut Program, met: &mut Met) -> Result<(), String> {
 }
 
 /// An output of fewer bytes than the largest table could take gets nothing.
-fn compare_short_outputs(lent: &mut Lent) -> Result<(), String> {
+fn compare_short_outputs(lent: &mut Lent) -> Compared {
     for rows in [0, 8, TABLE_ROWS] {
         for length in [0, 30, proved_listing::out_length(rows) - 1] {
             let printed = lent.list_into(planned::P1, rows, length)?;
@@ -162,36 +177,4 @@ fn compare_short_outputs(lent: &mut Lent) -> Result<(), String> {
         }
     }
     Ok(())
-}
-
-fn compare_proved() -> bool {
-    let mut met = Met::nothing();
-    let mut lent = Lent::new();
-    let compared = compare_short(&mut |input, rows| lent.list(input, rows), INPUTS_PER_SEED, &mut met)
-        .and_then(|()| compare_long(&mut |input, rows| lent.list(input, rows), &mut met))
-        .and_then(|()| compare_short_outputs(&mut lent));
-    if let Err(difference) = compared {
-        println!("difference: {difference}");
-        return false;
-    }
-    met.print();
-    met.is_enough()
-}
-
-/// Whether the comparison finds nothing in the plain program and something in every wrong one.
-fn find_wrong_programs() -> bool {
-    let compare = |list: fn(&[u8], usize) -> Vec<u8>| {
-        compare_short(&mut |input, rows| Ok(list(input, rows)), SELF_TEST_INPUTS, &mut Met::nothing())
-    };
-    if let Err(difference) = compare(list_all) {
-        println!("difference in the plain program: {difference}");
-        return false;
-    }
-    println!("no difference: the plain program");
-    let missed = wrong_programs::ALL.iter().filter(|wrong| {
-        let is_found = compare(wrong.list).is_err();
-        println!("{}: {}", if is_found { "found" } else { "not found" }, wrong.fault);
-        !is_found
-    });
-    missed.count() == 0
 }

@@ -7,6 +7,7 @@ mod failures;
 mod inputs;
 mod terminal;
 
+use common::harness::Compared;
 use common::random::Random;
 use oracle::listing::{listing, TABLE_ROWS};
 use oracle::model::Over;
@@ -25,9 +26,6 @@ const GIGABYTE: usize = 1 << 30;
 const MEMORY: usize = 65_536;
 /// A run that takes longer is taken for one that never ends.
 const LONGEST_RUN: Duration = Duration::from_secs(120);
-
-/// Nothing, or what the first difference was.
-type Compared = Result<(), String>;
 
 fn main() -> ExitCode {
     let Some(path) = std::env::args().nth(1).filter(|_| std::env::args().count() == 2) else {

@@ -1,6 +1,7 @@
 //! The listing program with a terminal as its input.
 
-use crate::{compare as compare_output, finished, program, Compared};
+use crate::{compare as compare_output, finished, program};
+use common::harness::Compared;
 use std::ffi::{c_char, c_int, CStr, OsStr};
 use std::fs::{File, OpenOptions};
 use std::io::Write;

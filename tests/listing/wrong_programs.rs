@@ -1,37 +1,37 @@
 //! Listing programs that are wrong on purpose. The comparison must find each of them, or it could not find a fault in
 //! the proved one.
 
+use common::careless::{with_last_byte, without_carriage_returns};
+use common::harness::Named;
 use common::paper::lines;
 use plain_listing::list;
 
-pub struct WrongProgram {
-    pub fault: &'static str,
-    pub list: fn(&[u8], usize) -> Vec<u8>,
-}
+/// What a program prints for an input on a table of so many rows.
+pub type Listing = fn(&[u8], usize) -> Vec<u8>;
 
-pub const ALL: [WrongProgram; 22] = [
-    WrongProgram { fault: "line number one too high in the log", list: |i, n| log_line_moved(i, n, 1) },
-    WrongProgram { fault: "empty line not counted", list: |i, n| log_line_moved(i, n, -1) },
-    WrongProgram { fault: "log lines counted from the log's first", list: counted_from_log },
-    WrongProgram { fault: "lines counted from 0", list: |i, n| renumbered(i, n, |_, number, line| (number, line - 1)) },
-    WrongProgram { fault: "refused at the last line", list: |i, n| renumbered(i, n, at_last_line) },
-    WrongProgram { fault: "a missing log refused at the last line", list: |i, n| renumbered(i, n, not_past_the_end) },
-    WrongProgram { fault: "a full table refused one line early", list: |i, n| renumbered(i, n, full_one_early) },
-    WrongProgram { fault: "sign lost", list: sign_lost },
-    WrongProgram { fault: "no reference printed as 0", list: no_reference_as_0 },
-    WrongProgram { fault: "listing after a refusal", list: listing_after_refusal },
-    WrongProgram { fault: "listing in the place of a refusal", list: listing_for_refusal },
-    WrongProgram { fault: "a refused line skipped", list: refused_line_skipped },
-    WrongProgram { fault: "empty lines in the log skipped", list: empty_log_lines_skipped },
-    WrongProgram { fault: "a last line taken without byte 10", list: last_byte_added },
-    WrongProgram { fault: "carriage returns skipped", list: carriage_returns_skipped },
-    WrongProgram { fault: "10 digits refused with 7", list: |i, n| renumbered(i, n, ten_digits_malformed) },
-    WrongProgram { fault: "a forget out of range refused with 8", list: |i, n| renumbered(i, n, forget_as_mark) },
-    WrongProgram { fault: "a chart without an empty line not looked at", list: unparted_chart_not_read },
-    WrongProgram { fault: "one row less than the table holds", list: |i, n| list_all(i, n.saturating_sub(1)) },
-    WrongProgram { fault: "one row more than the table holds", list: |i, n| list_all(i, n + 1) },
-    WrongProgram { fault: "one fixed listing", list: |_, _| b"row\tentry\tleft\tright\tstart\tend\n".to_vec() },
-    WrongProgram { fault: "everything refused", list: |_, _| b"refused\t7\t1\n".to_vec() },
+pub const ALL: [Named<Listing>; 22] = [
+    ("line number one too high in the log", |i, n| log_line_moved(i, n, 1)),
+    ("empty line not counted", |i, n| log_line_moved(i, n, -1)),
+    ("log lines counted from the log's first", counted_from_log),
+    ("lines counted from 0", |i, n| renumbered(i, n, |_, number, line| (number, line - 1))),
+    ("refused at the last line", |i, n| renumbered(i, n, at_last_line)),
+    ("a missing log refused at the last line", |i, n| renumbered(i, n, not_past_the_end)),
+    ("a full table refused one line early", |i, n| renumbered(i, n, full_one_early)),
+    ("sign lost", sign_lost),
+    ("no reference printed as 0", no_reference_as_0),
+    ("listing after a refusal", listing_after_refusal),
+    ("listing in the place of a refusal", listing_for_refusal),
+    ("a refused line skipped", refused_line_skipped),
+    ("empty lines in the log skipped", empty_log_lines_skipped),
+    ("a last line taken without byte 10", |i, n| list_all(&with_last_byte(i), n)),
+    ("carriage returns skipped", |i, n| list_all(&without_carriage_returns(i), n)),
+    ("10 digits refused with 7", |i, n| renumbered(i, n, ten_digits_malformed)),
+    ("a forget out of range refused with 8", |i, n| renumbered(i, n, forget_as_mark)),
+    ("a chart without an empty line not looked at", unparted_chart_not_read),
+    ("one row less than the table holds", |i, n| list_all(i, n.saturating_sub(1))),
+    ("one row more than the table holds", |i, n| list_all(i, n + 1)),
+    ("one fixed listing", |_, _| b"row\tentry\tleft\tright\tstart\tend\n".to_vec()),
+    ("everything refused", |_, _| b"refused\t7\t1\n".to_vec()),
 ];
 
 /// The plain program on an input in memory.
@@ -158,18 +158,6 @@ fn empty_log_lines_skipped(input: &[u8], rows: usize) -> Vec<u8> {
         lines.extend(log.into_iter().filter(|line| *line != b"\n"));
     }
     list_all(&lines.concat(), rows)
-}
-
-fn last_byte_added(input: &[u8], rows: usize) -> Vec<u8> {
-    if input.is_empty() || input.ends_with(b"\n") {
-        list_all(input, rows)
-    } else {
-        list_all(&[input, b"\n"].concat(), rows)
-    }
-}
-
-fn carriage_returns_skipped(input: &[u8], rows: usize) -> Vec<u8> {
-    list_all(&input.iter().copied().filter(|byte| *byte != b'\r').collect::<Vec<u8>>(), rows)
 }
 
 /// 7 past the last line wherever there is no empty line.

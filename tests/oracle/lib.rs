@@ -5,8 +5,8 @@
 
 pub mod any_watch;
 mod conditions;
-pub mod history;
 pub mod consistency;
+pub mod history;
 pub mod layout;
 pub mod listing;
 pub mod model;

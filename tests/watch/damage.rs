@@ -1,11 +1,12 @@
 //! Watches, charts and tables that no history made: what a history left, with something in it changed. Each call must
 //! answer what `oracle::any_watch` says, 13 exactly where `oracle::consistency` finds a cause.
 
-use crate::histories::{any_row, compare_check_and_rows, compare_tree, Compared};
+use crate::histories::{any_row, compare_check_and_rows, compare_tree};
 use crate::met::Met;
 use crate::random_calls::{self, near_instant_of_row, number, Frequencies, OUT_OF_RANGE};
 use crate::subject::{lent_table, name, Subject};
 use common::chart_value;
+use common::harness::Compared;
 use common::interface::{Answer, Calls, Chart};
 use common::random::Random;
 use oracle::{any_watch, consistency};
@@ -60,7 +61,7 @@ pub fn compare(calls: &Calls, last: &Subject, random: &mut Random, met: &mut Met
 
 /// An event, a clock mark and a forget, each on the watch given.
 fn compare_plays(calls: &Calls, given: &Subject, random: &mut Random, met: &mut Met) -> Compared {
-    let only = |events, clocks, forgets| Frequencies { events, clocks, forgets, clocks_to_a_jump: 20 };
+    let only = |events, clocks, forgets| Frequencies { events, clocks, forgets, longest_step: 3, clocks_to_a_jump: 20 };
     for frequencies in [only(1, 0, 0), only(0, 1, 0), only(0, 0, 1)] {
         let Subject { watch, chart, table } = given;
         let call = random_calls::call(random, frequencies, watch, chart, table.part());

@@ -6,6 +6,7 @@ use crate::met::Met;
 use crate::random_calls::{self, Frequencies};
 use crate::subject::{lent_table, name, Lent, Subject};
 use common::chart_value;
+use common::harness::Compared;
 use common::interface::{Calls, Chart, MOST_ENTRIES};
 use common::plain_chart::{self, Entry};
 use common::random::Random;
@@ -14,8 +15,8 @@ use oracle::history::History;
 use oracle::model::{Call, MOST_EVENTS};
 use std::ops::Range;
 
-/// Nothing, or what the first difference was.
-pub type Compared = Result<(), String>;
+/// The floor while nothing was forgotten.
+const FIRST_FLOOR: i32 = -1_000_000_000;
 
 /// A history in the making: the watch under test beside what it must show.
 pub struct Run<'a> {
@@ -28,7 +29,7 @@ pub struct Run<'a> {
 
 /// A short history on a small chart and table, and what becomes of its last state when something in it is changed.
 pub fn short(calls: &Calls, random: &mut Random, met: &mut Met) -> Compared {
-    let frequencies = Frequencies { events: 10, clocks: 7, forgets: 1, clocks_to_a_jump: 30 };
+    let frequencies = Frequencies { events: 10, clocks: 7, forgets: 1, longest_step: 3, clocks_to_a_jump: 30 };
     let table = random_calls::table(random);
     let entries = entries(random);
     let chart = chart(random, &entries);
@@ -51,7 +52,7 @@ pub fn short(calls: &Calls, random: &mut Random, met: &mut Met) -> Compared {
 
 /// A long history, in which the table fills and older rows are forgotten over and over.
 pub fn long(calls: &Calls, random: &mut Random, met: &mut Met) -> Compared {
-    let frequencies = Frequencies { events: 10, clocks: 8, forgets: 1, clocks_to_a_jump: 5_000 };
+    let frequencies = Frequencies { events: 10, clocks: 8, forgets: 1, longest_step: 3, clocks_to_a_jump: 5_000 };
     let table = vec![7; 500 + random.below(4_000)];
     let entries = entries(random);
     let opening = random.pick(&[-1_000_000_000, -500, 0]);
@@ -69,6 +70,18 @@ pub fn long(calls: &Calls, random: &mut Random, met: &mut Met) -> Compared {
     Ok(())
 }
 
+/// Short intervals that are paired with each other, over many marks: the edge of the search for pairs.
+pub fn of_short_intervals(calls: &Calls, random: &mut Random, met: &mut Met) -> Compared {
+    let frequencies = Frequencies { events: 40, clocks: 20, forgets: 1, longest_step: 2, clocks_to_a_jump: 5_000 };
+    let operators = 1 + random.below(4);
+    let entries = sound(&random_inputs::short_interval_chart(random, operators));
+    let table = vec![7; 3_000 + random.below(3_000)];
+    let mut run = Run::open(calls, &entries, chart(random, &entries), &table, -20, 0, met)?;
+    run.play_some(random, met, frequencies, 100)?;
+    run.finish(met);
+    Ok(())
+}
+
 /// A sound chart, of all 32 entries now and then.
 fn entries(random: &mut Random) -> Vec<Entry> {
     let operators = random.below(9);
@@ -78,7 +91,11 @@ fn entries(random: &mut Random) -> Vec<Entry> {
         1..=12 => random_inputs::interval_chart(random, operators),
         _ => random_inputs::chart(random, operators, most_leaves),
     };
-    plain_chart::read(text.as_bytes()).expect("the chart drawn is sound")
+    sound(&text)
+}
+
+fn sound(chart: &str) -> Vec<Entry> {
+    plain_chart::read(chart.as_bytes()).expect("the chart drawn is sound")
 }
 
 /// The chart of these entries; now and then something stands behind them.
@@ -112,7 +129,12 @@ impl<'a> Run<'a> {
     }
 
     pub fn play(&mut self, call: Call, met: &mut Met) -> Compared {
+        let closed = self.history.watch.instant;
         let expected = self.history.play(call).err().unwrap_or(0);
+        if let (Call::Clock(_), 0) = (call, expected) {
+            let History { rows, watch, .. } = &self.history;
+            met.searches.count(&self.subject.chart, rows, closed.into(), watch.floor > FIRST_FLOOR);
+        }
         let answer = self.subject.play(self.calls, call);
         self.played.push(call);
         met.count_answer(name(call), expected);

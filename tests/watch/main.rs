@@ -9,39 +9,52 @@ mod planned;
 #[path = "../common/proved_watch.rs"]
 mod proved_watch;
 mod random_calls;
+mod searches;
 mod subject;
 
+use common::harness::{self, Compared, Met as _, Named, Test};
 use common::interface::Calls;
+use common::plain_watch;
 use common::random::Random;
-use histories::Compared;
 use met::Met;
 use std::process::ExitCode;
-use wrong_watches::plain_watch;
 
 /// How much is compared.
 struct Extent {
     short_histories: usize,
     long_histories: usize,
+    of_short_intervals: usize,
 }
 
-const FULL: Extent = Extent { short_histories: 100_000, long_histories: 300 };
+const FULL: Extent = Extent { short_histories: 100_000, long_histories: 300, of_short_intervals: 2_500 };
 /// Enough to find a wrong watch.
-const SELF_TEST: Extent = Extent { short_histories: 20_000, long_histories: 20 };
+const SELF_TEST: Extent = Extent { short_histories: 20_000, long_histories: 20, of_short_intervals: 200 };
 
 fn main() -> ExitCode {
-    let arguments: Vec<String> = std::env::args().skip(1).collect();
-    let passed = match arguments.iter().map(String::as_str).collect::<Vec<&str>>().as_slice() {
-        [] => compare_proved(),
-        ["--self-test"] => find_wrong_watches(),
-        _ => {
-            eprintln!("use: watch_test [--self-test]");
-            return ExitCode::from(2);
-        }
-    };
-    if passed {
-        ExitCode::SUCCESS
-    } else {
-        ExitCode::FAILURE
+    harness::main::<WatchTest>()
+}
+
+struct WatchTest;
+
+impl Test for WatchTest {
+    const NAME: &'static str = "watch_test";
+    type Met = Met;
+    type Subject = Calls;
+
+    fn compare_proved(met: &mut Met) -> Compared {
+        compare(&proved_watch::CALLS, &FULL, met)
+    }
+
+    fn compare(calls: &Calls) -> Compared {
+        compare(calls, &SELF_TEST, &mut Met::nothing())
+    }
+
+    fn right() -> Vec<Named<Calls>> {
+        vec![("the plain watch", plain_watch::calls::<plain_watch::Plain>())]
+    }
+
+    fn wrong() -> Vec<Named<Calls>> {
+        wrong_watches::all()
     }
 }
 
@@ -52,33 +65,7 @@ fn compare(calls: &Calls, extent: &Extent, met: &mut Met) -> Compared {
     let mut random = Random::new(41);
     (0..extent.short_histories).try_for_each(|_| histories::short(calls, &mut random, met))?;
     (0..extent.long_histories).try_for_each(|_| histories::long(calls, &mut random, met))?;
+    (0..extent.of_short_intervals).try_for_each(|_| histories::of_short_intervals(calls, &mut random, met))?;
     planned::largest_table(calls, met)?;
     planned::charts(calls, met)
-}
-
-fn compare_proved() -> bool {
-    let mut met = Met::nothing();
-    let calls = proved_watch::CALLS;
-    if let Err(difference) = compare(&calls, &FULL, &mut met) {
-        println!("difference: {difference}");
-        return false;
-    }
-    met.print();
-    met.is_enough()
-}
-
-/// Whether the comparison finds nothing in the plain watch and something in every wrong one.
-fn find_wrong_watches() -> bool {
-    let plain = plain_watch::calls::<plain_watch::Plain>();
-    if let Err(difference) = compare(&plain, &SELF_TEST, &mut Met::nothing()) {
-        println!("difference in the plain watch: {difference}");
-        return false;
-    }
-    println!("no difference: the plain watch");
-    let missed = wrong_watches::all().into_iter().filter(|wrong| {
-        let is_found = compare(&wrong.calls, &SELF_TEST, &mut Met::nothing()).is_err();
-        println!("{}: {}", if is_found { "found" } else { "not found" }, wrong.fault);
-        !is_found
-    });
-    missed.count() == 0
 }

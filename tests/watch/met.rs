@@ -1,12 +1,11 @@
-//! What a run reached: answers of each call, causes of 13, operators of rows.
+//! What a run reached: answers of each call, causes of 13, operators of rows, edges of searches.
 
+use crate::searches::Searches;
+use common::harness::{self, LEAST_MET};
 use common::interface::{Chart, Watch};
 use common::plain_chart::WORDS;
 use oracle::consistency::{Cause, CAUSES};
 use std::collections::{BTreeMap, BTreeSet};
-
-/// How often each of them must be met, or the run is no test of it.
-const LEAST_MET: usize = 100;
 
 /// Every answer that a call has, 0 being no refusal.
 const ANSWERS: [(&str, &[u32]); 7] = [
@@ -31,22 +30,10 @@ pub struct Met {
     rows_read: [usize; 2],
     /// How many rows of each operator the tables compared had in all.
     operators: [usize; WORDS.len()],
+    pub searches: Searches,
 }
 
 impl Met {
-    pub fn nothing() -> Met {
-        let answers = ANSWERS.iter().flat_map(|(call, numbers)| numbers.iter().map(|number| ((*call, *number), 0)));
-        Met {
-            histories: 0,
-            charts: 0,
-            answers: answers.collect(),
-            causes: CAUSES.map(|cause| (cause, 0)).into(),
-            consistent: 0,
-            rows_read: [0; 2],
-            operators: [0; WORDS.len()],
-        }
-    }
-
     pub fn count_answer(&mut self, call: &'static str, refusal: u32) {
         *self.answers.entry((call, refusal)).or_default() += 1;
     }
@@ -70,14 +57,30 @@ impl Met {
             self.operators[usize::from(chart.entries[row[0] as usize].op)] += 1;
         }
     }
+}
 
-    pub fn is_enough(&self) -> bool {
-        let answers = self.answers.values().chain(self.causes.values());
-        let mut counts = answers.chain(&self.operators).chain(&self.rows_read).chain([&self.consistent]);
-        counts.all(|count| *count >= LEAST_MET)
+impl harness::Met for Met {
+    fn nothing() -> Met {
+        let answers = ANSWERS.iter().flat_map(|(call, numbers)| numbers.iter().map(|number| ((*call, *number), 0)));
+        Met {
+            histories: 0,
+            charts: 0,
+            answers: answers.collect(),
+            causes: CAUSES.map(|cause| (cause, 0)).into(),
+            consistent: 0,
+            rows_read: [0; 2],
+            operators: [0; WORDS.len()],
+            searches: Searches::default(),
+        }
     }
 
-    pub fn print(&self) {
+    fn is_enough(&self) -> bool {
+        let answers = self.answers.values().chain(self.causes.values());
+        let reads = answers.chain(&self.operators).chain(&self.rows_read).chain([&self.consistent]);
+        reads.chain(self.searches.counts()).all(|count| *count >= LEAST_MET)
+    }
+
+    fn print(&self) {
         println!("{} histories and {} charts, no difference", self.histories, self.charts);
         println!("answers of each call (0: no refusal)");
         for (call, numbers) in ANSWERS {
@@ -85,12 +88,13 @@ impl Met {
             println!("  {call:<7} {}", counts.collect::<Vec<_>>().join("  "));
         }
         println!("reads of rows: {} with rows, {} without", self.rows_read[1], self.rows_read[0]);
-        println!("watches and tables changed and yet consistent: {}; out of joint for one cause alone:", self.consistent);
+        println!(
+            "watches and tables changed and yet consistent: {}; out of joint for one cause alone:",
+            self.consistent
+        );
         self.causes.iter().for_each(|(cause, count)| println!("  {:<30} {count:>8}", format!("{cause:?}")));
         println!("rows of each operator at the ends of histories");
         WORDS.iter().zip(self.operators).for_each(|(word, count)| println!("  {word:<8} {count:>8}"));
-        if !self.is_enough() {
-            println!("one of these was met fewer than {LEAST_MET} times");
-        }
+        self.searches.print();
     }
 }

@@ -1,12 +1,14 @@
 //! What is compared by plan, not by chance: charts on paper, every short table, the largest table, and trees of billions
 //! of bytes.
 
-use crate::histories::{compare_tree_in, Compared, Run};
+use crate::histories::{compare_tree_in, Run};
 use crate::met::Met;
 use crate::subject::{lent_table, Subject};
 use common::chart_value;
-use common::interface::{Calls, Chart, ChartAnswer, Watch};
+use common::harness::Compared;
+use common::interface::{Calls, Watch};
 use common::plain_chart::{self, Entry};
+use common::plain_watch;
 use common::random::Random;
 use common::random_charts;
 use oracle::any_watch;
@@ -26,10 +28,7 @@ pub fn charts(calls: &Calls, met: &mut Met) -> Compared {
     let mut random = Random::new(31);
     for _ in 0..CHARTS {
         let text = random_charts::any(&mut random);
-        let expected = match plain_chart::read(&text) {
-            Ok(entries) => ChartAnswer { refusal: 0, line: 0, chart: chart_value::of(&entries) },
-            Err(verdict) => ChartAnswer { refusal: verdict.refusal, line: verdict.line, chart: Chart::no_entries() },
-        };
+        let expected = plain_watch::read_chart(&text);
         let answer = (calls.read_chart)(&text);
         met.charts += 1;
         if answer != expected {

@@ -37,22 +37,23 @@ pub fn opening(random: &mut Random) -> i32 {
     }
 }
 
-/// How often each call is made, and how many clock marks there are to one that jumps to the end of the range or to any
-/// instant.
+/// How often each call is made, how far a clock mark goes, and how many there are to one that jumps to the end of the
+/// range or to any instant.
 #[derive(Clone, Copy)]
 pub struct Frequencies {
     pub events: usize,
     pub clocks: usize,
     pub forgets: usize,
+    pub longest_step: i32,
     pub clocks_to_a_jump: usize,
 }
 
 /// A call that fits the watch, and now and then one that it refuses.
 pub fn call(random: &mut Random, frequencies: Frequencies, watch: &Watch, chart: &Chart, table: &[i32]) -> Call {
-    let Frequencies { events, clocks, forgets, clocks_to_a_jump } = frequencies;
+    let Frequencies { events, clocks, forgets, .. } = frequencies;
     match random.below(events + clocks + forgets) {
         n if n < events => Call::Event(code(random, chart)),
-        n if n < events + clocks => Call::Clock(clock_mark(random, watch, clocks_to_a_jump).into()),
+        n if n < events + clocks => Call::Clock(clock_mark(random, watch, frequencies).into()),
         _ => Call::Forget(floor(random, watch, table).into()),
     }
 }
@@ -68,15 +69,15 @@ pub fn code(random: &mut Random, chart: &Chart) -> u8 {
     }
 }
 
-fn clock_mark(random: &mut Random, watch: &Watch, clocks_to_a_jump: usize) -> i32 {
+fn clock_mark(random: &mut Random, watch: &Watch, frequencies: Frequencies) -> i32 {
     let instant = watch.instant;
-    if random.one_in(clocks_to_a_jump) {
+    if random.one_in(frequencies.clocks_to_a_jump) {
         return if random.one_in(2) { GREATEST - random.between(0, 12) } else { random.between(instant, i32::MAX) };
     }
     match random.below(40) {
         0 => random.pick(&OUT_OF_RANGE),
         1 => instant.saturating_sub(random.between(0, 2)),
-        _ => instant.saturating_add(random.between(1, 3)),
+        _ => instant.saturating_add(random.between(1, frequencies.longest_step)),
     }
 }
 

@@ -94,7 +94,7 @@ module _ (t : ℕ) where
     first : Left (g e) (c .write-reference .last .1 .1 .1 .0) (c .write-reference .result) (restOf (node (e .before) .arity) (R (g e) (node (e .before) .right)))
     first =
         let f = fit-left (e .before) in
-        remaining-less (opened e) (R (g e) (node (e .before) .left)) _ _ _ refl (simp (same32, f) at (c .write-reference .ensures .1)) (simp (same32, f) at (c .write-reference .ensures .0))
+        remaining-less (opened e) (R (g e) (node (e .before) .left)) _ refl (simp (same32, f) at (c .write-reference .ensures .0)) (simp (same32, f) at (c .write-reference .ensures .1))
 
   one : (c : lts.Then3 claims At reads.Post) → let a = c .before .before .before in Left (g (e a)) (a .write-reference .last .1 .1 .1 .0) (a .write-reference .result) (62 ∷ [])
   one c = rw (eq-eqb _ 1 (c .if3 .taken)) at (first (c .before .before .before))
@@ -107,13 +107,13 @@ module _ (t : ℕ) where
     two = rw (ne-eqb _ 1 (c .if3 .left)) at (first a)
 
     comma : Left (g (e a)) (set (a .write-reference .last .1 .1 .1 .0) (a .write-reference .result) 44) (a .write-reference .result + 1) (R (g (e a)) (node (e a .before) .right) ++ 62 ∷ [])
-    comma = remaining-less two (44 ∷ []) _ _ _ refl refl refl
+    comma = remaining-less two (44 ∷ []) _ refl refl refl
 
   second : (c : lts.After-write-reference2 claims At reads.Post) → let d = c .before .before .before in Left (g (e (a d))) (c .write-reference2 .last .1 .1 .1 .0) (c .write-reference2 .result) (62 ∷ [])
   second c =
       let d = c .before .before .before in
       let f = fit-right (e (a d) .before) in
-      remaining-less (comma d) (R (g (e (a d))) (node (e (a d) .before) .right)) _ _ _ refl (simp (same32, f) at (c .write-reference2 .ensures .1)) (simp (same32, f) at (c .write-reference2 .ensures .0))
+      remaining-less (comma d) (R (g (e (a d))) (node (e (a d) .before) .right)) _ refl (simp (same32, f) at (c .write-reference2 .ensures .0)) (simp (same32, f) at (c .write-reference2 .ensures .1))
 
   write-event-requires : lts.Need-write-event-requires claims At reads.Post
   write-event-requires c κs =

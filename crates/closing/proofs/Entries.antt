@@ -20,7 +20,7 @@ use Rattle.model.specs.Recognitions.{Event}
 use Rattle.model.specs.Order.{Row}
 use Rattle.model.proofs.Capacity.{capacity-fits}
 use Rattle.model.proofs.Steps.{extend-none, extend-on, extend-more, close-rules, close-more}
-use Rattle.model.specs.RowSteps.{Rule, rules, extendRows, endsAt, numbered}
+use Rattle.model.specs.RowSteps.{Rule, rules, extendRows, closeRows, endsAt, numbered}
 use Rattle.state.specs.declared.WatchState.{WatchState}
 use Rattle.table.specs.Table.{rowsIn, putRows, zeroed, roomIn}
 use Rattle.table.specs.Operators.{operatorsOf, entryOperator}
@@ -164,3 +164,17 @@ module _ (chart : Chart) (w : WatchState) (t : List ℤ) where
         let before : take (n * 5) u ≡ take (n * 5) t = ap (take (n * 5)) (f .2) ∙ take-puts n rs t held in
         let behind : drop (room * 5) u ≡ drop (room * 5) t = ap (drop (room * 5)) (f .2) ∙ drop-puts n (room * 5) rs t (omega (arith, all)) in
         rw l (f .1 ∙ sym (add-one room), zeroed-same (n * 5) (room * 5) u t before behind ∙ zeroed-again (n * 5) (room * 5) t (omega (arith, ready .fit)) (capacity-fits (length t)) (ready .zeros))
+
+-- For callers: the rows after the closing, and the number and the table by whether they fit
+module _ (chart : Chart) (w : WatchState) (t : List ℤ) where
+  pub closed-is : closedRows chart w t ≡ closeRows (w .instant) (eventsIn w) (operatorsOf chart) (rowsIn (w .rows) t)
+  unfolding closedRows
+  closed-is = refl
+
+  pub number-fits : length (closedRows chart w t) ≤ roomIn t → (closedNumber chart w t ≡ length (closedRows chart w t)) × (closedTable chart w t ≡ putRows (w .rows) (drop (w .rows) (closedRows chart w t)) t)
+  unfolding closedNumber closedTable
+  number-fits h = rw (le-leb (length (closedRows chart w t)) (roomIn t) h) (refl, refl)
+
+  pub number-over : roomIn t < length (closedRows chart w t) → (closedNumber chart w t ≡ roomIn t + 1) × (closedTable chart w t ≡ t)
+  unfolding closedNumber closedTable
+  number-over h = rw (lt-leb (length (closedRows chart w t)) (roomIn t) h) (refl, refl)

@@ -5,54 +5,59 @@ use mathlib.Core.Path.{_≡_, refl}
 use mathlib.Core.Bool.{Bool, true, false, cond}
 use borrow.Author.Tests.{leb-true, leb-false, lt-ltb, le-ltb}
 use lib.Dec.{leb}
-use lib.ListN.{length, drop}
+use lib.ListN.{length}
 use mathlib.Core.List.{List}
 use lib.IntN.{ℤ, pos}
 use Rattle.interval.specs.Instants.{isInstant, isMarkRefused, isForgetRefused}
 use Rattle.chart.specs.Charts.{isUsable}
 use Rattle.chart.specs.declared.Chart.{Chart}
-use Rattle.table.specs.Table.{zeroed, putRows}
+use Rattle.table.specs.Table.{zeroed, roomIn}
 use Rattle.consistency.proofs.Theorems as consistency
-use Rattle.watch.specs.Steps.{Step, refusedStep, takenStep, emptyWatch, roomIn, openingStep, isWatchConsistent, checkNumber, checked, closedRows, closedNumber, closedTable, marked, clockOwn, keptRows, raised, forgetOwn}
-use Rattle.watch.specs.declared.Watch.{Watch}
+use Rattle.state.specs.State.{emptyState, marked, raised}
+use Rattle.consistency.specs.Consistency.{areConsistent}
+use Rattle.closing.specs.Closed.{closedRows, closedNumber, closedTable}
+use Rattle.closing.proofs.Entries.{number-fits, number-over}
+use Rattle.forgetting.specs.Forgetting.{keptRows, forgottenTable}
+use Rattle.watch.specs.Steps.{Step, refusedStep, takenStep, openingStep, checkNumber, checked, clockOwn, forgetOwn}
+use Rattle.state.specs.declared.WatchState.{WatchState}
 
 module _ (chart : Chart) (t : List ℤ) (o : ℤ) where
-  pub opening-14 : isUsable chart ≡ false → openingStep chart t o ≡ refusedStep 14 (emptyWatch (pos 0)) t
+  pub opening-14 : isUsable chart ≡ false → openingStep chart t o ≡ refusedStep 14 (emptyState (pos 0)) t
   unfolding openingStep
   opening-14 e = rw e
 
-  pub opening-8 : isUsable chart ≡ true → isInstant o ≡ false → openingStep chart t o ≡ refusedStep 8 (emptyWatch (pos 0)) t
+  pub opening-8 : isUsable chart ≡ true → isInstant o ≡ false → openingStep chart t o ≡ refusedStep 8 (emptyState (pos 0)) t
   unfolding openingStep
   opening-8 e d = rw (e, d)
 
-  pub opening-taken : isUsable chart ≡ true → isInstant o ≡ true → openingStep chart t o ≡ takenStep (emptyWatch o) (zeroed 0 (roomIn t * 5) t)
+  pub opening-taken : isUsable chart ≡ true → isInstant o ≡ true → openingStep chart t o ≡ takenStep (emptyState o) (zeroed 0 (roomIn t * 5) t)
   unfolding openingStep
   opening-taken e d = rw (e, d)
 
 -- the check before each call
-module _ (chart : Chart) (w : Watch) (t : List ℤ) where
+module _ (chart : Chart) (w : WatchState) (t : List ℤ) where
   pub check-14 : isUsable chart ≡ false → checkNumber chart w t ≡ 14
   unfolding checkNumber
   check-14 e = rw e
 
-  pub check-13 : isUsable chart ≡ true → isWatchConsistent chart w t ≡ false → checkNumber chart w t ≡ 13
+  pub check-13 : isUsable chart ≡ true → areConsistent chart w t ≡ false → checkNumber chart w t ≡ 13
   unfolding checkNumber
   check-13 e d = rw (e, d)
 
-  pub check-0 : isUsable chart ≡ true → isWatchConsistent chart w t ≡ true → checkNumber chart w t ≡ 0
+  pub check-0 : isUsable chart ≡ true → areConsistent chart w t ≡ true → checkNumber chart w t ≡ 0
   unfolding checkNumber
   check-0 e d = rw (e, d)
 
   -- what it tells
   pub record Consistent : Type 0 where
     pub usable : isUsable chart ≡ true
-    pub consistent : isWatchConsistent chart w t ≡ true
+    pub consistent : areConsistent chart w t ≡ true
 
   pub check-told : checkNumber chart w t ≡ 0 → Consistent
   unfolding checkNumber
-  check-told e = go (isUsable chart) refl (isWatchConsistent chart w t) refl e
+  check-told e = go (isUsable chart) refl (areConsistent chart w t) refl e
     where
-      go : (a : Bool) → isUsable chart ≡ a → (b : Bool) → isWatchConsistent chart w t ≡ b → _≡_ {A = ℕ} (cond a (cond b 0 13) 14) 0 → Consistent
+      go : (a : Bool) → isUsable chart ≡ a → (b : Bool) → areConsistent chart w t ≡ b → _≡_ {A = ℕ} (cond a (cond b 0 13) 14) 0 → Consistent
       go true p true q z = record { usable = p; consistent = q }
       go true p false q z = absurd (omega arith)
       go false p b q z = absurd (omega arith)
@@ -63,7 +68,7 @@ module _ (chart : Chart) (w : Watch) (t : List ℤ) where
 
   pub check-refused : (own : Step) → (checkNumber chart w t ≡ 0 → ⊥) → checked chart w t own ≡ refusedStep (checkNumber chart w t) w t
   unfolding checked checkNumber
-  check-refused own d = go (isUsable chart) (isWatchConsistent chart w t) d
+  check-refused own d = go (isUsable chart) (areConsistent chart w t) d
     where
       go : (a b : Bool) → (_≡_ {A = ℕ} (cond a (cond b 0 13) 14) 0 → ⊥) → cond a (cond b own (refusedStep 13 w t)) (refusedStep 14 w t) ≡ refusedStep (cond a (cond b 0 13) 14) w t
       go true true z = absurd (z refl)
@@ -71,13 +76,11 @@ module _ (chart : Chart) (w : Watch) (t : List ℤ) where
       go false b z = refl
 
 -- what the check tells the calls that go on
-pub told : (chart : Chart) (w : Watch) (t : List ℤ) → checkNumber chart w t ≡ 0 → consistency.Consistent chart (w .instant) (w .floor) (w .events) (w .rows) (w .pending) t
-told chart w t z =
-    let j = check-told chart w t z in
-    consistency.consistent-ready chart (w .instant) (w .floor) (w .events) (w .rows) (w .pending) t (j .usable) (j .consistent)
+pub told : (chart : Chart) (w : WatchState) (t : List ℤ) → checkNumber chart w t ≡ 0 → consistency.Consistent chart w t
+told chart w t z = let j = check-told chart w t z in consistency.consistent-ready chart w t (j .usable) (j .consistent)
 
 -- a clock mark, by the tests that lead to its answer
-module _ (chart : Chart) (w : Watch) (t : List ℤ) (x : ℤ) where
+module _ (chart : Chart) (w : WatchState) (t : List ℤ) (x : ℤ) where
   abbrev pub early : Bool
   early = isMarkRefused (w .instant) x
 
@@ -89,23 +92,28 @@ module _ (chart : Chart) (w : Watch) (t : List ℤ) (x : ℤ) where
   clock-8 e = rw e
 
   pub clock-12 : early ≡ false → roomIn t < closedNumber chart w t → (clockOwn chart w t x ≡ refusedStep 12 w t) × (closedTable chart w t ≡ t)
-  unfolding clockOwn closedNumber closedTable
-  clock-12 e h = go (leb size (roomIn t)) refl h
+  unfolding clockOwn
+  clock-12 e h = go (leb size (roomIn t)) refl
     where
-      go : (b : Bool) → leb size (roomIn t) ≡ b → roomIn t < cond b size (roomIn t + 1) → (clockOwn chart w t x ≡ refusedStep 12 w t) × (cond b (putRows (w .rows) (drop (w .rows) (closedRows chart w t)) t) t ≡ t)
-      go true p k = absurd (omega (arith, leb-true size (roomIn t) p))
-      go false p k = (rw (e, lt-ltb (roomIn t) size (leb-false size (roomIn t) p)), refl)
+      go : (b : Bool) → leb size (roomIn t) ≡ b → (clockOwn chart w t x ≡ refusedStep 12 w t) × (closedTable chart w t ≡ t)
+      go true p = absurd (omega (arith, leb-true size (roomIn t) p, number-fits chart w t (leb-true size (roomIn t) p) .0))
+      go false p =
+          let l = leb-false size (roomIn t) p in
+          (rw (e, lt-ltb (roomIn t) size l), number-over chart w t l .1)
 
   pub clock-taken : early ≡ false → closedNumber chart w t ≤ roomIn t → clockOwn chart w t x ≡ takenStep (marked w x (closedNumber chart w t)) (closedTable chart w t)
-  unfolding clockOwn closedNumber closedTable
-  clock-taken e h = go (leb size (roomIn t)) refl h
+  unfolding clockOwn
+  clock-taken e h = go (leb size (roomIn t)) refl
     where
-      go : (b : Bool) → leb size (roomIn t) ≡ b → cond b size (roomIn t + 1) ≤ roomIn t → clockOwn chart w t x ≡ takenStep (marked w x (cond b size (roomIn t + 1))) (cond b (putRows (w .rows) (drop (w .rows) (closedRows chart w t)) t) t)
-      go true p k = rw (e, le-ltb (roomIn t) size (omega arith))
-      go false p k = absurd (omega arith)
+      go : (b : Bool) → leb size (roomIn t) ≡ b → clockOwn chart w t x ≡ takenStep (marked w x (closedNumber chart w t)) (closedTable chart w t)
+      go true p =
+          let l = leb-true size (roomIn t) p in
+          let f = number-fits chart w t l in
+          rw (e, le-ltb (roomIn t) size l, f .0, f .1)
+      go false p = absurd (omega (arith, number-over chart w t (leb-false size (roomIn t) p) .0))
 
 -- a forget
-module _ (chart : Chart) (w : Watch) (t : List ℤ) (f : ℤ) where
+module _ (chart : Chart) (w : WatchState) (t : List ℤ) (f : ℤ) where
   abbrev pub barred : Bool
   barred = isForgetRefused (w .floor) (w .instant) f
 
@@ -113,6 +121,6 @@ module _ (chart : Chart) (w : Watch) (t : List ℤ) (f : ℤ) where
   unfolding forgetOwn
   forget-11 e = rw e
 
-  pub forget-taken : barred ≡ false → forgetOwn chart w t f ≡ takenStep (raised w f (length (keptRows chart w t f))) (zeroed (length (keptRows chart w t f) * 5) (w .rows * 5) (putRows 0 (keptRows chart w t f) t))
+  pub forget-taken : barred ≡ false → forgetOwn chart w t f ≡ takenStep (raised w f (length (keptRows chart w t f))) (forgottenTable chart w t f)
   unfolding forgetOwn
   forget-taken e = rw e

@@ -15,7 +15,7 @@ use Rattle.chart.specs.Charts.{isUsable}
 use Rattle.chart.specs.declared.Chart.{Chart}
 use Rattle.chart.proofs.Numbers.{cond-holds}
 use Rattle.model.specs.Lists.{keep}
-use Rattle.model.specs.Order.{Row, listing, asRow, asRows}
+use Rattle.model.specs.Order.{Row, asRow, asRows}
 use Rattle.model.specs.Recognitions.{Operator, Recognition, startOf, endOf}
 use Rattle.model.specs.Reference as ref
 use Rattle.model.specs.Reference.{Call, rowsOf, isAt}
@@ -25,19 +25,23 @@ use Rattle.model.proofs.Theorems as model
 use Rattle.model.proofs.RowStepLaws.{shown-is}
 use Rattle.model.proofs.Range.{starts-in-range}
 use Rattle.table.specs.Operators.{operatorsOf}
-use Rattle.table.specs.Table.{rowsIn, flat, putRows, zeroed}
+use Rattle.table.specs.Table.{rowsIn, flat, putRows, zeroed, roomIn}
 use Rattle.table.proofs.Rows.{length-flat}
 use Rattle.tree.specs.Tree.{recognitionBytes, treeBytes}
 use Rattle.tree.proofs.Meaning.{tree-holds}
-use Rattle.watch.specs.Steps.{Step, emptyWatch, openingStep, refusedStep, takenStep, roomIn, isWatchConsistent, checked, answered, eventOwn, eventStep, withEvent, clockOwn, clockStep, closedRows, marked, forgetOwn, forgetStep, keptRows, raised, checkNumber, TreeStep, refusedTree, takenTree, treeOwn, treeStep}
+use Rattle.state.specs.State.{emptyState, withEvent, marked, raised}
+use Rattle.consistency.specs.Consistency.{areConsistent}
+use Rattle.closing.specs.Closed.{closedRows}
+use Rattle.forgetting.specs.Forgetting.{keptRows, forgottenTable}
+use Rattle.watch.specs.Steps.{Step, emptyWatch, openingStep, refusedStep, takenStep, checked, answered, eventOwn, eventStep, clockOwn, clockStep, forgetOwn, forgetStep, checkNumber, TreeStep, refusedTree, takenTree, treeOwn, treeStep}
 use Rattle.watch.specs.Histories.{State, state, call, after, answers, opened}
-use Rattle.watch.specs.declared.Watch.{Watch}
-use Rattle.watch.specs.Demands.{history, modelAfter, FollowsModel, isForget, nothingForgotten, HoldsRecognitions, EndPartHolds, Demand1, Demand2, Demand3}
+use Rattle.state.specs.declared.WatchState.{WatchState}
+use Rattle.watch.specs.Demands.{history, modelAfter, listed, FollowsModel, isForget, nothingForgotten, HoldsRecognitions, EndPartHolds, Demand1, Demand2, Demand3}
 use Rattle.watch.proofs.Shown.{stateOf, rows-flat}
 use Rattle.watch.proofs.History.{history-shown, history-consistent}
 use Rattle.watch.proofs.Lower.{usable-lower}
 use Rattle.watch.proofs.Calls.{told, opening-taken}
-use Rattle.watch.proofs.Ends.{end-part}
+use Rattle.table.proofs.EndParts.{end-part}
 use Rattle.watch.proofs.Numbers.{calls-numbered, openings-numbered, checks-numbered, trees-numbered, charts-answered, lines-answered}
 use Rattle.watch.proofs.Reading.{rows-fit, part-read, part-refused, rows-refused, tree-taken, tree-passed}
 
@@ -49,7 +53,7 @@ given-refused : (s : State) (n : ℕ) → Given s (refusedStep n (s .watch) (s .
 unfolding Given
 given-refused s n d = refl
 
-given-taken : (s : State) (w : Watch) (u : List ℤ) → Given s (takenStep w u)
+given-taken : (s : State) (w : WatchState) (u : List ℤ) → Given s (takenStep w u)
 unfolding Given
 given-taken s w u d = absurd (d refl)
 
@@ -58,14 +62,14 @@ unfolding checked
 given-checked chart s own g =
     let w = s .watch in
     let t = s .table in
-    let consistent = isWatchConsistent chart w t in
+    let consistent = areConsistent chart w t in
     cond-holds (Given s) (isUsable chart) (cond consistent own (refusedStep 13 w t)) (refusedStep 14 w t) (cond-holds (Given s) consistent own (refusedStep 13 w t) g (given-refused s 13)) (given-refused s 14)
 
 given-event : (s : State) (k : ℕ) → Given s (record { answer = eventOwn (s .watch) k; table = s .table })
 unfolding eventOwn Given
 given-event s k = go (leb 1000000 (s .watch .events)) (leb 64 (s .watch .pending))
   where
-    go : (a b : Bool) → ((cond a (answered 10 (s .watch)) (cond b (answered 9 (s .watch)) (answered 0 (withEvent (s .watch) k)))) .refusal ≡ 0 → ⊥) → record { watch = (cond a (answered 10 (s .watch)) (cond b (answered 9 (s .watch)) (answered 0 (withEvent (s .watch) k)))) .watch; table = s .table } ≡ s
+    go : (a b : Bool) → ((cond a (answered 10 (s .watch)) (cond b (answered 9 (s .watch)) (answered 0 (withEvent (s .watch) k)))) .refusal ≡ 0 → ⊥) → record { watch = (cond a (answered 10 (s .watch)) (cond b (answered 9 (s .watch)) (answered 0 (withEvent (s .watch) k)))) .watch .state; table = s .table } ≡ s
     go true b d = refl
     go false true d = refl
     go false false d = absurd (d refl)
@@ -87,7 +91,7 @@ given-forget chart s f =
     let w = s .watch in
     let t = s .table in
     let n = length (keptRows chart w t f) in
-    let u = zeroed (n * 5) (w .rows * 5) (putRows 0 (keptRows chart w t f) t) in
+    let u = forgottenTable chart w t f in
     cond-holds (Given s) (isForgetRefused (w .floor) (w .instant) f) (refusedStep 11 w t) (takenStep (raised w f n) u) (given-refused s 11) (given-taken s (raised w f n) u)
 
 given-call : (chart : Chart) (s : State) (c : Call) → Given s (call chart s c)
@@ -105,9 +109,9 @@ refused-call chart s c = given-call chart s c
 refused-opening : (chart : Chart) (t : List ℤ) (o : ℤ) → ((openingStep chart t o) .answer .refusal ≡ 0 → ⊥) → ((openingStep chart t o) .answer .watch ≡ emptyWatch (pos 0)) × ((openingStep chart t o) .table ≡ t)
 unfolding openingStep
 refused-opening chart t o =
-    let w = emptyWatch (pos 0) in
-    let kept : Step → Type 0 = λ x. (x .answer .refusal ≡ 0 → ⊥) → (x .answer .watch ≡ w) × (x .table ≡ t) in
-    let taken = takenStep (emptyWatch o) (zeroed 0 (roomIn t * 5) t) in
+    let w = emptyState (pos 0) in
+    let kept : Step → Type 0 = λ x. (x .answer .refusal ≡ 0 → ⊥) → (x .answer .watch ≡ emptyWatch (pos 0)) × (x .table ≡ t) in
+    let taken = takenStep (emptyState o) (zeroed 0 (roomIn t * 5) t) in
     cond-holds kept (isUsable chart) (cond (isInstant o) taken (refusedStep 8 w t)) (refusedStep 14 w t) (cond-holds kept (isInstant o) taken (refusedStep 8 w t) (λ d. absurd (d refl)) (λ d. (refl, refl))) (λ d. (refl, refl))
 
 -- a tree that is refused leaves the output, or it is taken with number 0
@@ -122,7 +126,7 @@ kept-taken : (s out : List ℕ) → OutputKept out (takenTree s out)
 unfolding OutputKept
 kept-taken s out d = absurd (d refl)
 
-kept-tree : (chart : Chart) (w : Watch) (t : List ℤ) (i : ℕ) (out : List ℕ) → OutputKept out (treeStep chart w t i out)
+kept-tree : (chart : Chart) (w : WatchState) (t : List ℤ) (i : ℕ) (out : List ℕ) → OutputKept out (treeStep chart w t i out)
 unfolding treeStep treeOwn
 kept-tree chart w t i out =
     let s = treeBytes (operatorsOf chart) t i in
@@ -154,29 +158,29 @@ end-part-holds chart w t e z =
     part-read chart w t e z ∙ end-part e (w .rows) t (rows-fit chart w t z) (r .ordered) (r .entryAbove)
 
 -- the floor is kept by all calls but an accepted forget
-floor-checked : (chart : Chart) (s : State) (own : Step) → own .answer .watch .floor ≡ s .watch .floor → (checked chart (s .watch) (s .table) own) .answer .watch .floor ≡ s .watch .floor
+floor-checked : (chart : Chart) (s : State) (own : Step) → own .answer .watch .state .floor ≡ s .watch .floor → (checked chart (s .watch) (s .table) own) .answer .watch .state .floor ≡ s .watch .floor
 unfolding checked
 floor-checked chart s own p =
     let w = s .watch in
     let t = s .table in
-    let consistent = isWatchConsistent chart w t in
-    let same : Step → Type 0 = λ x. x .answer .watch .floor ≡ w .floor in
+    let consistent = areConsistent chart w t in
+    let same : Step → Type 0 = λ x. x .answer .watch .state .floor ≡ w .floor in
     cond-holds same (isUsable chart) (cond consistent own (refusedStep 13 w t)) (refusedStep 14 w t) (cond-holds same consistent own (refusedStep 13 w t) p refl) refl
 
-floor-event : (w : Watch) (k : ℕ) → (eventOwn w k) .watch .floor ≡ w .floor
-unfolding eventOwn withEvent
+floor-event : (w : WatchState) (k : ℕ) → (eventOwn w k) .watch .state .floor ≡ w .floor
+unfolding eventOwn
 floor-event w k = go (leb 1000000 (w .events)) (leb 64 (w .pending))
   where
-    go : (a b : Bool) → (cond a (answered 10 w) (cond b (answered 9 w) (answered 0 (withEvent w k)))) .watch .floor ≡ w .floor
+    go : (a b : Bool) → (cond a (answered 10 w) (cond b (answered 9 w) (answered 0 (withEvent w k)))) .watch .state .floor ≡ w .floor
     go true b = refl
     go false true = refl
     go false false = refl
 
-floor-clock : (chart : Chart) (w : Watch) (t : List ℤ) (x : ℤ) → (clockOwn chart w t x) .answer .watch .floor ≡ w .floor
-unfolding clockOwn marked
+floor-clock : (chart : Chart) (w : WatchState) (t : List ℤ) (x : ℤ) → (clockOwn chart w t x) .answer .watch .state .floor ≡ w .floor
+unfolding clockOwn
 floor-clock chart w t x = go (isMarkRefused (w .instant) x) (ltb (roomIn t) (length (closedRows chart w t)))
   where
-    go : (a b : Bool) → (cond a (refusedStep 8 w t) (cond b (refusedStep 12 w t) (takenStep (marked w x (length (closedRows chart w t))) (putRows (w .rows) (drop (w .rows) (closedRows chart w t)) t)))) .answer .watch .floor ≡ w .floor
+    go : (a b : Bool) → (cond a (refusedStep 8 w t) (cond b (refusedStep 12 w t) (takenStep (marked w x (length (closedRows chart w t))) (putRows (w .rows) (drop (w .rows) (closedRows chart w t)) t)))) .answer .watch .state .floor ≡ w .floor
     go true b = refl
     go false true = refl
     go false false = refl
@@ -202,7 +206,7 @@ floor-opened : (chart : Chart) (t : List ℤ) (o : ℤ) → (opened chart t o) .
 unfolding openingStep
 floor-opened chart t o = go (isUsable chart) (isInstant o)
   where
-    go : (a b : Bool) → (cond a (cond b (takenStep (emptyWatch o) (zeroed 0 (roomIn t * 5) t)) (refusedStep 8 (emptyWatch (pos 0)) t)) (refusedStep 14 (emptyWatch (pos 0)) t)) .answer .watch .floor ≡ firstFloor
+    go : (a b : Bool) → (cond a (cond b (takenStep (emptyState o) (zeroed 0 (roomIn t * 5) t)) (refusedStep 8 (emptyState (pos 0)) t)) (refusedStep 14 (emptyState (pos 0)) t)) .answer .watch .state .floor ≡ firstFloor
     go true true = refl
     go true false = refl
     go false b = refl
@@ -221,7 +225,7 @@ module _ (chart : Chart) (usable : isUsable chart ≡ true) (t : List ℤ) (o : 
   tail = drop (roomIn t * 5) t
 
   abbrev ts : List Recognition
-  ts = listing ops (b .events) (b .floor) (b .openInstant)
+  ts = listed chart b
 
   abbrev s : State
   s = history chart t o calls
@@ -250,9 +254,8 @@ module _ (chart : Chart) (usable : isUsable chart ≡ true) (t : List ℤ) (o : 
         ∙ tree-taken chart (s .watch) (s .table) (length us) out in-use (rw q h)
         ∙ ap (λ l. takenTree l out) q
 
-  follows : FollowsModel chart t o calls
+  follows : FollowsModel chart t s b
   follows = record {
-    accepted = ap (λ x. x .answer .refusal) (opening-taken chart t o usable inRange);
     instant = ap (λ s. s .watch .instant) is-shown;
     floor = ap (λ s. s .watch .floor) is-shown;
     events = ap (λ s. s .watch .events) is-shown;
@@ -262,14 +265,13 @@ module _ (chart : Chart) (usable : isUsable chart ≡ true) (t : List ℤ) (o : 
     table = ap (λ s. s .table) is-shown;
     trees = reads-it;
     bytes = λ us vs u out e h. tree-written us vs u e out h;
-    numbers = (history-shown chart usable t o inRange calls) .1 ∙ (model.history ops (usable-lower chart usable) (roomIn t) o calls) .answers;
   }
     where
       codes : List ℕ
       codes = map (λ e. e .code) (keep (isAt (b .openInstant)) (b .events))
 
   -- with nothing forgotten the floor leaves out nothing
-  holds : nothingForgotten chart (opened chart t o) calls ≡ true → HoldsRecognitions chart t o calls
+  holds : nothingForgotten chart (opened chart t o) calls ≡ true → HoldsRecognitions chart s b
   holds none =
       let f = follows in
       let low : b .floor ≡ firstFloor = sym (f .floor) ∙ floor-kept chart (opened chart t o) calls none ∙ floor-opened chart t o in
@@ -287,4 +289,8 @@ pub demand-2 : Demand2
 demand-2 chart usable t o inRange calls none = holds chart usable t o inRange calls none
 
 pub demand-3 : Demand3
-demand-3 chart usable t o inRange calls = follows chart usable t o inRange calls
+demand-3 chart usable t o inRange calls = record {
+  accepted = ap (λ x. x .answer .refusal) (opening-taken chart t o usable inRange);
+  follows = follows chart usable t o inRange calls;
+  numbers = (history-shown chart usable t o inRange calls) .1 ∙ (model.history (operatorsOf chart) (usable-lower chart usable) (roomIn t) o calls) .answers;
+}

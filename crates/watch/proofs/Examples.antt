@@ -26,17 +26,20 @@ use Rattle.consistency.specs.Consistency.{isWatchInRange, isTableRowConsistent,
 use Rattle.consistency.proofs.Examples as consistency
 use Rattle.consistency.proofs.Examples.{chartOf, table, minus}
 use Rattle.tree.specs.Tree.{arityOf, rowBytes, referenceBytes, treeWithin, treeBytes}
-use Rattle.watch.specs.Steps.{Step, TreeStep, openingStep, checkNumber, checked, withEvent, eventOwn, eventStep, closedRows, marked, clockOwn, clockStep, keptRows, raised, forgetOwn, forgetStep, endPart, endRows, treeOwn, treeStep}
+use Rattle.state.specs.State.{withEvent, marked, raised}
+use Rattle.closing.specs.Closed.{closedRows}
+use Rattle.forgetting.specs.Forgetting.{keptRows}
+use Rattle.watch.specs.Steps.{Step, TreeStep, openingStep, checkNumber, checked, eventOwn, eventStep, clockOwn, clockStep, forgetOwn, forgetStep, endPart, endRows, treeOwn, treeStep}
 use Rattle.watch.specs.Histories.{call}
-use Rattle.watch.specs.declared.Watch.{Watch}
+use Rattle.state.specs.declared.WatchState.{WatchState}
 use Rattle.watch.specs.declared.Part.{Part}
 
 -- a watch: open instant, floor, count of events, count of rows, and the codes of the pending events
-abbrev watch : ℤ → ℤ → ℕ → ℕ → List ℕ → Watch
+abbrev watch : ℤ → ℤ → ℕ → ℕ → List ℕ → WatchState
 watch o f events rows ks = record { instant = o; floor = f; events = events; rows = rows; pending = length ks; codes = ks ++ replicate (64 - length ks) 0 }
 
 -- "an empty watch ...: floor -1,000,000,000, counts 0, no events"
-abbrev emptyAt : ℤ → Watch
+abbrev emptyAt : ℤ → WatchState
 emptyAt o = watch o (minus 1000000000) 0 0 []
 
 abbrev oneEntry : Chart
@@ -48,11 +51,11 @@ noEntry = chartOf []
 -- Check calls: chart, watch and table, and the number that every call on them is refused with first, 0 for none.
 pub record Check : Type 0 where
   pub chart : Chart
-  pub watch : Watch
+  pub watch : WatchState
   pub table : List ℤ
   pub number : ℕ
 
-abbrev check : Chart → Watch → List ℤ → ℕ → Check
+abbrev check : Chart → WatchState → List ℤ → ℕ → Check
 check chart w t n = record { chart = chart; watch = w; table = t; number = n }
 
 -- "14 a chart of no entries, of over 32, or with an entry breaking the operator table". An operator's code is its place in that table: 0 is event,
@@ -96,10 +99,10 @@ checks = refl
 -- What a call hands back: its number, the watch and the table after it.
 pub record Outcome : Type 0 where
   pub number : ℕ
-  pub watch : Watch
+  pub watch : WatchState
   pub table : List ℤ
 
-abbrev outcome : ℕ → Watch → List ℤ → Outcome
+abbrev outcome : ℕ → WatchState → List ℤ → Outcome
 outcome n w t = record { number = n; watch = w; table = t }
 
 abbrev pub ofStep : Step → Outcome
@@ -141,16 +144,16 @@ openings = refl
 -- Events, clock marks and forgets: chart, watch, table and call, and what is handed back.
 pub record Called : Type 0 where
   pub chart : Chart
-  pub watch : Watch
+  pub watch : WatchState
   pub table : List ℤ
   pub call : Call
   pub expected : Outcome
 
-abbrev takes : Chart → Watch → List ℤ → Call → Watch → List ℤ → Called
+abbrev takes : Chart → WatchState → List ℤ → Call → WatchState → List ℤ → Called
 takes chart w t c w' t' = record { chart = chart; watch = w; table = t; call = c; expected = outcome 0 w' t' }
 
 -- "Every other refusal from 8 on returns the watch given. After a refusal all lent memory holds what it held before."
-abbrev refuses : Chart → Watch → List ℤ → Call → ℕ → Called
+abbrev refuses : Chart → WatchState → List ℤ → Call → ℕ → Called
 refuses chart w t c n = record { chart = chart; watch = w; table = t; call = c; expected = outcome n w t }
 
 -- "Calls on a watch check 14, 13, then their own": the floor is above the open instant; there are as many events and as many of the open instant as may
@@ -161,10 +164,10 @@ firstChecks =
     refuses noEntry inconsistent [] (clock (pos 1000000001)) 14 ∷ refuses oneEntry inconsistent [] (clock (pos 1000000001)) 13 ∷ refuses oneEntry consistent [] (clock (pos 1000000001)) 8 ∷
     refuses noEntry inconsistent [] (forget (pos 1000000001)) 14 ∷ refuses oneEntry inconsistent [] (forget (pos 1000000001)) 13 ∷ refuses oneEntry consistent [] (forget (pos 1000000001)) 11 ∷ []
   where
-    inconsistent : Watch
+    inconsistent : WatchState
     inconsistent = watch (pos 0) (pos 1) 1000000 0 (replicate 64 1)
 
-    consistent : Watch
+    consistent : WatchState
     consistent = watch (pos 0) (pos 0) 1000000 0 (replicate 64 1)
 
 -- "10 before 9"
@@ -184,7 +187,7 @@ markOrder =
     refuses oneEntry pendingOne [] (clock (pos 1000000000)) 12 ∷
     refuses oneEntry pendingOne [] (clock (pos 4)) 12 ∷ []
   where
-    pendingOne : Watch
+    pendingOne : WatchState
     pendingOne = watch (pos 3) (pos 0) 1 0 (1 ∷ [])
 
 -- Two events in sequence. Events of code 1 came at 1 and at 3; one of code 2, at 5, brings three rows more.
@@ -203,11 +206,11 @@ marks =
     takes inSequence before (table (twoRows ++ replicate 3 "0 0 0 0 0" ++ "7 8 9" ∷ [])) (clock (pos 6)) (watch (pos 6) (pos 0) 3 5 []) (table (fiveRows ++ "7 8 9" ∷ [])) ∷
     refuses inSequence before (table (twoRows ++ replicate 2 "0 0 0 0 0" ++ "7 8 9" ∷ [])) (clock (pos 6)) 12 ∷ []
   where
-    before : Watch
+    before : WatchState
     before = watch (pos 5) (pos 0) 3 2 (2 ∷ [])
 
 -- the watch after that mark, with this floor and this many rows, and an event pending
-abbrev five : ℤ → ℕ → Watch
+abbrev five : ℤ → ℕ → WatchState
 five floor n = watch (pos 6) floor 4 n (9 ∷ [])
 
 -- "A forget f raises the floor to f, drops every row that starts before f, moves the others down in order, renumbers their references and fills the freed
@@ -225,7 +228,7 @@ pub callCases : List Called
 callCases = firstChecks ++ eventCalls ++ markOrder ++ marks ++ forgets
 
 pub calls : map (λ (c : Called). ofStep (call (c .chart) (record { watch = c .watch; table = c .table }) (c .call))) callCases ≡ map (λ (c : Called). c .expected) callCases
-unfolding callCases isInstant isMarkRefused isForgetRefused isRelated isForbidding hasLength split lines bytes tabbed unended text isDigit allDigits valueFrom hasLeadingZero isNumber numberOf withoutMinus withMinus instantOf words sameBytes placeOf operatorOf kindOf inRange areLower withCode eventLine withOperands secondOperand operandsLine byOperator operatorLine numbered parsedLine checkedEntry checkedLine answerTo noEntries withEntry refusedChart readLines orNoLine readChart entryFits allBelow isUsable capacity extendRows closeRows keepRows forgetRows rowsIn putRow putRows areZeros zeroed operatorBy operatorsOf isWatchInRange isTableRowConsistent areConsistent checked withEvent eventOwn eventStep closedRows marked clockOwn clockStep keptRows raised forgetOwn forgetStep call
+unfolding callCases isInstant isMarkRefused isForgetRefused isRelated isForbidding hasLength split lines bytes tabbed unended text isDigit allDigits valueFrom hasLeadingZero isNumber numberOf withoutMinus withMinus instantOf words sameBytes placeOf operatorOf kindOf inRange areLower withCode eventLine withOperands secondOperand operandsLine byOperator operatorLine numbered parsedLine checkedEntry checkedLine answerTo noEntries withEntry refusedChart readLines orNoLine readChart entryFits allBelow isUsable capacity extendRows closeRows keepRows forgetRows rowsIn putRow putRows areZeros zeroed operatorBy operatorsOf isWatchInRange isTableRowConsistent areConsistent checked eventOwn eventStep closedRows clockOwn clockStep keptRows forgetOwn forgetStep call
 calls = refl
 
 -- Trees of the five rows: chart, watch, row and output lent; the number, the length and the output after it.
@@ -242,12 +245,12 @@ ofTree s = record { number = s .answer .refusal; length = s .answer .length; out
 
 pub record Tree : Type 0 where
   pub chart : Chart
-  pub watch : Watch
+  pub watch : WatchState
   pub row : ℕ
   pub out : List ℕ
   pub expected : Written
 
-abbrev tree : Chart → Watch → ℕ → String → Written → Tree
+abbrev tree : Chart → WatchState → ℕ → String → Written → Tree
 tree chart w i out expected = record { chart = chart; watch = w; row = i; out = bytes out; expected = expected }
 
 pub treeCases : List Tree
@@ -278,11 +281,11 @@ found first count rs = record { rows = record { first = first; count = count }; 
 
 pub record Read : Type 0 where
   pub chart : Chart
-  pub watch : Watch
+  pub watch : WatchState
   pub end : ℤ
   pub expected : Found
 
-abbrev reads : Chart → Watch → ℤ → Found → Read
+abbrev reads : Chart → WatchState → ℤ → Found → Read
 reads chart w e expected = record { chart = chart; watch = w; end = e; expected = expected }
 
 pub readCases : List Read

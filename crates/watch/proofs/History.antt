@@ -7,7 +7,7 @@ use mathlib.Core.List.{List, [], _∷_, _++_}
 use borrow.Author.Tests.{leb-true}
 use lib.Dec.{T}
 use lib.IntN.{ℤ}
-use lib.ListN.{length, drop, length-drop}
+use lib.ListN.{length, drop, replicate, length-drop}
 use Rattle.interval.specs.Instants.{isInstant}
 use Rattle.interval.proofs.Signed.{holds→}
 use Rattle.chart.specs.Charts.{isUsable}
@@ -24,11 +24,13 @@ use Rattle.model.proofs.ReferenceLaws.{run-none, run-on, run-more, numbers-none
 use Rattle.model.proofs.Steps.{consistent-told}
 use Rattle.model.proofs.Theorems as model
 use Rattle.table.specs.Operators.{operatorsOf}
-use Rattle.table.specs.Table.{areZeros, zeroed}
+use Rattle.table.specs.Table.{areZeros, zeroed, roomIn}
 use Rattle.table.proofs.Laws.{zeroed-is}
 use Rattle.table.proofs.Rows.{flat-none, entry-flat}
 use Rattle.consistency.proofs.Theorems.{model-consistent}
-use Rattle.watch.specs.Steps.{emptyWatch, roomIn, isWatchConsistent, checkNumber}
+use Rattle.state.specs.State.{emptyState}
+use Rattle.consistency.specs.Consistency.{areConsistent}
+use Rattle.watch.specs.Steps.{checkNumber}
 use Rattle.watch.specs.Histories.{state, call, after, answers, opened}
 use Rattle.watch.specs.Demands.{tableOf}
 use Rattle.watch.proofs.Shown.{watchOf, stateOf, rows-flat, length-table, zeros-behind}
@@ -47,12 +49,12 @@ bounds ops room m e =
     record { few = leb-true (length (m .rows)) room (w .fit); short = leb-true (length (m .pending)) 64 (w .short) }
 
 -- a watch on rows that is consistent is shown consistent
-consistent-shown : (chart : Chart) (room : ℕ) (tail : List ℤ) → capacity (room * 5 + length tail) ≡ room → (m : rows.Watch) → T (isConsistent (operatorsOf chart) room m) → isWatchConsistent chart (watchOf m) (tableOf room tail (m .rows)) ≡ true
+consistent-shown : (chart : Chart) (room : ℕ) (tail : List ℤ) → capacity (room * 5 + length tail) ≡ room → (m : rows.Watch) → T (isConsistent (operatorsOf chart) room m) → areConsistent chart (watchOf m) (tableOf room tail (m .rows)) ≡ true
 consistent-shown chart room tail fits m j =
     let t = tableOf room tail (m .rows) in
     let few = (bounds (operatorsOf chart) room m (holds→ _ j)) .few in
     let e : capacity (length t) ≡ room = ap capacity (length-table room tail (m .rows) few) ∙ fits in
-    model-consistent chart m t (subst (λ n. T (isConsistent (operatorsOf chart) n m)) (sym e) j) (rows-flat (m .rows) _) (entry-flat (m .rows) _) (ap (λ n. areZeros (length (m .rows) * 5) (n * 5) t) e ∙ zeros-behind room tail (m .rows) few)
+    model-consistent chart m (m .pending ++ replicate (64 - length (m .pending)) 0) t (subst (λ n. T (isConsistent (operatorsOf chart) n m)) (sym e) j) (rows-flat (m .rows) _) (entry-flat (m .rows) _) (ap (λ n. areZeros (length (m .rows) * 5) (n * 5) t) e ∙ zeros-behind room tail (m .rows) few)
 
 module _ (chart : Chart) (usable : isUsable chart ≡ true) (t : List ℤ) (o : ℤ) (inRange : isInstant o ≡ true) where
   abbrev room : ℕ
@@ -90,7 +92,7 @@ module _ (chart : Chart) (usable : isUsable chart ≡ true) (t : List ℤ) (o : 
   opening-shown =
       let e : room * 5 - 0 ≡ (room - 0) * 5 = omega arith in
       let table : zeroed 0 (room * 5) t ≡ tableOf room tail [] = zeroed-is 0 (room * 5) t ∙ rw (e, flat-none) in
-      ap state (opening-taken chart t o usable inRange) ∙ ap (λ u. record { watch = emptyWatch o; table = u }) table ∙ ap (λ a. stateOf room tail (a .state)) (sym (laws.opening-taken o inRange))
+      ap state (opening-taken chart t o usable inRange) ∙ ap (λ u. record { watch = emptyState o; table = u }) table ∙ ap (λ a. stateOf room tail (a .state)) (sym (laws.opening-taken o inRange))
 
   pub history-shown : (calls : List Call) → (after chart (opened chart t o) calls ≡ stateOf room tail (reached calls)) × (answers chart (opened chart t o) calls ≡ ref.numbersOf step ((rows.watchOpening o) .state) calls)
   history-shown calls =

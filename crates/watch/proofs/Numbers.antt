@@ -17,13 +17,17 @@ use Rattle.interval.specs.Instants.{isInstant}
 use Rattle.model.specs.Reference as ref
 use Rattle.model.specs.Reference.{Call}
 use Rattle.model.specs.Statements.{_∈_}
-use Rattle.table.specs.Table.{putRows, zeroed}
+use Rattle.table.specs.Table.{putRows, zeroed, roomIn}
 use Rattle.table.specs.Operators.{operatorsOf}
 use Rattle.tree.specs.Tree.{treeBytes}
-use Rattle.watch.specs.Steps.{Step, answered, refusedStep, takenStep, emptyWatch, roomIn, openingStep, isWatchConsistent, checkNumber, checked, withEvent, eventOwn, eventStep, closedRows, marked, clockOwn, clockStep, keptRows, raised, forgetOwn, forgetStep, TreeStep, refusedTree, takenTree, treeOwn, treeStep}
+use Rattle.state.specs.State.{emptyState, withEvent, marked, raised}
+use Rattle.consistency.specs.Consistency.{areConsistent}
+use Rattle.closing.specs.Closed.{closedRows}
+use Rattle.forgetting.specs.Forgetting.{keptRows, forgottenTable}
+use Rattle.watch.specs.Steps.{Step, answered, refusedStep, takenStep, openingStep, checkNumber, checked, eventOwn, eventStep, clockOwn, clockStep, forgetOwn, forgetStep, TreeStep, refusedTree, takenTree, treeOwn, treeStep}
 use Rattle.watch.specs.Histories.{State, call}
 use Rattle.watch.specs.Demands.{openingNumbers, checkNumbers, callNumbers, treeNumbers, lineNumbers, chartNumbers, ChartAnswered}
-use Rattle.watch.specs.declared.Watch.{Watch}
+use Rattle.state.specs.declared.WatchState.{WatchState}
 use Rattle.watch.specs.declared.Answer.{Answer}
 use Rattle.watch.proofs.Calls.{early, barred}
 
@@ -34,26 +38,26 @@ pub openings-numbered : (chart : Chart) (t : List ℤ) (o : ℤ) → stepNumber 
 unfolding openingStep
 openings-numbered chart t o =
     let ns : List ℕ = 0 ∷ openingNumbers in
-    let w = emptyWatch (pos 0) in
-    let taken = takenStep (emptyWatch o) (zeroed 0 (roomIn t * 5) t) in
+    let w = emptyState (pos 0) in
+    let taken = takenStep (emptyState o) (zeroed 0 (roomIn t * 5) t) in
     either stepNumber ns (isUsable chart) (cond (isInstant o) taken (refusedStep 8 w t)) (refusedStep 14 w t)
     (either stepNumber ns (isInstant o) taken (refusedStep 8 w t) (nth 0 ns (omega arith)) (nth 2 ns (omega arith)))
     (nth 1 ns (omega arith))
 
-pub checks-numbered : (chart : Chart) (w : Watch) (t : List ℤ) → checkNumber chart w t ∈ (0 ∷ checkNumbers)
+pub checks-numbered : (chart : Chart) (w : WatchState) (t : List ℤ) → checkNumber chart w t ∈ (0 ∷ checkNumbers)
 unfolding checkNumber
 checks-numbered chart w t =
     let ns : List ℕ = 0 ∷ checkNumbers in
-    let consistent = isWatchConsistent chart w t in
+    let consistent = areConsistent chart w t in
     either (λ n. n) ns (isUsable chart) (cond consistent 0 13) 14 (either (λ n. n) ns consistent 0 13 (nth 0 ns (omega arith)) (nth 2 ns (omega arith))) (nth 1 ns (omega arith))
 
-module _ (chart : Chart) (w : Watch) (t : List ℤ) where
+module _ (chart : Chart) (w : WatchState) (t : List ℤ) where
   -- a call's own numbers stand behind those of the check
   checked-numbered : (own : Step) (more : List ℕ) → stepNumber own ∈ (0 ∷ checkNumbers ++ more) → stepNumber (checked chart w t own) ∈ (0 ∷ checkNumbers ++ more)
   unfolding checked
   checked-numbered own more h =
       let ns : List ℕ = 0 ∷ checkNumbers ++ more in
-      let consistent = isWatchConsistent chart w t in
+      let consistent = areConsistent chart w t in
       either stepNumber ns (isUsable chart) (cond consistent own (refusedStep 13 w t)) (refusedStep 14 w t)
       (either stepNumber ns consistent own (refusedStep 13 w t) h (nth 2 ns (omega arith)))
       (nth 1 ns (omega arith))
@@ -82,8 +86,7 @@ module _ (chart : Chart) (w : Watch) (t : List ℤ) where
   unfolding forgetOwn
   forget-numbered f =
       let ns : List ℕ = 0 ∷ callNumbers (ref.forget f) in
-      let n = length (keptRows chart w t f) in
-      let taken = takenStep (raised w f n) (zeroed (n * 5) (w .rows * 5) (putRows 0 (keptRows chart w t f) t)) in
+      let taken = takenStep (raised w f (length (keptRows chart w t f))) (forgottenTable chart w t f) in
       either stepNumber ns (barred chart w t f) (refusedStep 11 w t) taken (nth 3 ns (omega arith)) (nth 0 ns (omega arith))
 
 pub calls-numbered : (chart : Chart) (s : State) (c : Call) → stepNumber (call chart s c) ∈ (0 ∷ callNumbers c)
@@ -95,7 +98,7 @@ calls-numbered chart s (ref.forget f) = checked-numbered chart (s .watch) (s .ta
 abbrev treeNumber : TreeStep → ℕ
 treeNumber s = s .answer .refusal
 
-pub trees-numbered : (chart : Chart) (w : Watch) (t : List ℤ) (i : ℕ) (out : List ℕ) → treeNumber (treeStep chart w t i out) ∈ (0 ∷ treeNumbers)
+pub trees-numbered : (chart : Chart) (w : WatchState) (t : List ℤ) (i : ℕ) (out : List ℕ) → treeNumber (treeStep chart w t i out) ∈ (0 ∷ treeNumbers)
 unfolding treeStep treeOwn
 trees-numbered chart w t i out =
     let ns : List ℕ = 0 ∷ treeNumbers in

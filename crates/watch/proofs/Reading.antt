@@ -13,14 +13,14 @@ use Rattle.chart.specs.declared.Chart.{Chart}
 use Rattle.model.proofs.Capacity.{capacity-fits}
 use Rattle.table.specs.Table.{part}
 use Rattle.table.specs.Operators.{operatorsOf}
-use Rattle.forgetting.specs.Ends.{endingBefore, endingBy}
+use Rattle.table.specs.Ends.{endingBefore, endingBy}
 use Rattle.tree.specs.Tree.{treeBytes, lengthWithin}
 use Rattle.tree.proofs.Lengths.{tree-some, over-told, within-told}
 use Rattle.watch.specs.Steps.{checkNumber, endPart, endRows, rowPart, refusedTree, takenTree, treeOwn, treeStep}
-use Rattle.watch.specs.declared.Watch.{Watch}
+use Rattle.state.specs.declared.WatchState.{WatchState}
 use Rattle.watch.specs.declared.Part.{Part}
 use Rattle.watch.proofs.Calls.{told}
-use Rattle.watch.proofs.Ends.{ends-low, ends-few}
+use Rattle.table.proofs.EndParts.{ends-low, ends-few}
 
 -- a part of a slice, as the code takes it
 take-none : (n : ℕ) → take {A = ℤ} n [] ≡ []
@@ -33,7 +33,7 @@ taken-slice (suc a) zero l h = absurd (omega arith)
 taken-slice (suc a) (suc b) [] h = take-none (suc b - suc a)
 taken-slice (suc a) (suc b) (x ∷ l) h = let e : suc b - suc a ≡ b - a = omega arith in ap (λ n. take n (drop a l)) e ∙ taken-slice a b l (omega arith)
 
-module _ (chart : Chart) (w : Watch) (t : List ℤ) where
+module _ (chart : Chart) (w : WatchState) (t : List ℤ) where
   -- the rows in use lie in the table
   pub rows-fit : checkNumber chart w t ≡ 0 → w .rows * 5 ≤ length t
   rows-fit z = omega (arith, (told chart w t z) .ready .fit, capacity-fits (length t))

@@ -15,12 +15,12 @@ use Rattle.table.proofs.Laws.{zeros-part, zeroed-is}
 use Rattle.table.proofs.Rows.{rows-none, rows-puts, puts-flat, length-flat, flat-append}
 use Rattle.watch.specs.Histories.{State}
 use Rattle.watch.specs.Demands.{tableOf}
-use Rattle.watch.specs.declared.Watch.{Watch}
+use Rattle.state.specs.declared.WatchState.{WatchState}
 
 abbrev zeros : ℕ → List ℤ
 zeros n = replicate n (pos 0)
 
-abbrev pub watchOf : rows.Watch → Watch
+abbrev pub watchOf : rows.Watch → WatchState
 watchOf m = record { instant = m .openInstant; floor = m .floor; events = m .count; rows = length (m .rows); pending = length (m .pending); codes = m .pending ++ replicate (64 - length (m .pending)) 0 }
 
 abbrev pub stateOf : ℕ → List ℤ → rows.Watch → State

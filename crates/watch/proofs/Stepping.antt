@@ -23,12 +23,18 @@ use Rattle.model.specs.RowSteps.{closeRows, forgetRows, isLate, renumberedBy, n
 use Rattle.model.proofs.History.{keep-length}
 use Rattle.model.proofs.RowStepLaws as laws
 use Rattle.model.proofs.Steps.{close-more, forget-kept}
-use Rattle.table.specs.Table.{putRows}
+use Rattle.table.specs.Table.{putRows, roomIn}
 use Rattle.table.specs.Operators.{operatorsOf}
-use Rattle.watch.specs.Steps.{Step, takenStep, answered, roomIn, isWatchConsistent, checked, eventOwn, eventStep, withEvent, closedRows, marked, clockOwn, clockStep, keptRows, raised, forgetOwn, forgetStep}
+use Rattle.consistency.specs.Consistency.{areConsistent}
+use Rattle.state.specs.State.{withEvent, marked, raised}
+use Rattle.closing.specs.Closed.{closedRows}
+use Rattle.forgetting.specs.Forgetting.{keptRows}
+use Rattle.watch.specs.Steps.{Step, takenStep, answered, checked, eventOwn, eventStep, clockOwn, clockStep, forgetOwn, forgetStep}
+use Rattle.closing.proofs.Entries.{closed-is}
+use Rattle.forgetting.proofs.Forgetting.{kept-is, forgotten-is}
 use Rattle.watch.specs.Histories.{call}
 use Rattle.watch.specs.Demands.{tableOf}
-use Rattle.watch.specs.declared.Watch.{Watch}
+use Rattle.state.specs.declared.WatchState.{WatchState}
 use Rattle.watch.specs.declared.Answer.{Answer}
 use Rattle.watch.proofs.Shown.{watchOf, stateOf, rows-flat, length-table, table-more, table-less, codes-more}
 
@@ -45,7 +51,7 @@ kept-few ops f rs = rw (forget-kept ops f rs, length-map (keep (isLate f) rs) (r
 abbrev pub stepOf : ℕ → List ℤ → ref.Answer rows.Watch → Step
 stepOf room tail a = record { answer = answered (a .number) (watchOf (a .state)); table = tableOf room tail (a .state .rows) }
 
-module _ (chart : Chart) (usable : isUsable chart ≡ true) (room : ℕ) (tail : List ℤ) (fits : capacity (room * 5 + length tail) ≡ room) (m : rows.Watch) (consistent : isWatchConsistent chart (watchOf m) (tableOf room tail (m .rows)) ≡ true) (few : length (m .rows) ≤ room) (short : length (m .pending) ≤ 64) where
+module _ (chart : Chart) (usable : isUsable chart ≡ true) (room : ℕ) (tail : List ℤ) (fits : capacity (room * 5 + length tail) ≡ room) (m : rows.Watch) (consistent : areConsistent chart (watchOf m) (tableOf room tail (m .rows)) ≡ true) (few : length (m .rows) ≤ room) (short : length (m .pending) ≤ 64) where
   passes : (own : Step) → checked chart (watchOf m) (tableOf room tail (m .rows)) own ≡ own
   unfolding checked
   passes own = rw (usable, consistent)
@@ -54,7 +60,6 @@ module _ (chart : Chart) (usable : isUsable chart ≡ true) (room : ℕ) (tail :
   room-is = ap capacity (length-table room tail (m .rows) few) ∙ fits
 
   one-more : (k : ℕ) → length (m .pending) < 64 → withEvent (watchOf m) k ≡ watchOf (rows.watch (m .openInstant) (m .floor) (suc (m .count)) (m .pending ++ k ∷ []) (m .rows))
-  unfolding withEvent
   one-more k h = rw (add-one (m .count), codes-more (m .pending) k h, ← length-append (m .pending) (k ∷ []))
 
   event-shown : (k : ℕ) → eventStep chart (watchOf m) (tableOf room tail (m .rows)) k ≡ stepOf room tail (rows.watchEvent m k)
@@ -68,9 +73,9 @@ module _ (chart : Chart) (usable : isUsable chart ≡ true) (room : ℕ) (tail :
 
   -- the rows after closing are those of the watch on rows
   closed-same : closedRows chart (watchOf m) (tableOf room tail (m .rows)) ≡ rows.closedRows (operatorsOf chart) m
-  unfolding closedRows
   closed-same =
-      ap₂ (λ p rs. closeRows (m .openInstant) (numbered (m .openInstant) (suc (m .count - length (m .pending))) p) (operatorsOf chart) rs)
+      closed-is chart (watchOf m) (tableOf room tail (m .rows))
+      ∙ ap₂ (λ p rs. closeRows (m .openInstant) (numbered (m .openInstant) (suc (m .count - length (m .pending))) p) (operatorsOf chart) rs)
       (take-at (m .pending) (replicate (64 - length (m .pending)) 0) (length (m .pending)) refl)
       (rows-flat (m .rows) _)
 
@@ -82,7 +87,7 @@ module _ (chart : Chart) (usable : isUsable chart ≡ true) (room : ℕ) (tail :
       table-more room tail (m .rows) qs (rw (← e) h) ∙ ap (tableOf room tail) (sym e)
 
   clock-shown : (x : ℤ) → clockStep chart (watchOf m) (tableOf room tail (m .rows)) x ≡ stepOf room tail (rows.watchClock (operatorsOf chart) room m x)
-  unfolding clockStep clockOwn marked
+  unfolding clockStep clockOwn
   clock-shown x = passes _ ∙ go (isMarkRefused (m .openInstant) x) refl (ltb room (length rs)) refl
     where
       rs : List Row
@@ -94,15 +99,18 @@ module _ (chart : Chart) (usable : isUsable chart ≡ true) (room : ℕ) (tail :
       go false d false e = rw (closed-same, room-is, d, e, laws.clock-taken (operatorsOf chart) room m x d e) (ap (λ u. takenStep (marked (watchOf m) x (length rs)) u) (closed-table (ltb-false room (length rs) e)))
 
   forget-shown : (f : ℤ) → forgetStep chart (watchOf m) (tableOf room tail (m .rows)) f ≡ stepOf room tail (rows.watchForget (operatorsOf chart) m f)
-  unfolding forgetStep forgetOwn keptRows raised
+  unfolding forgetStep forgetOwn
   forget-shown f = passes _ ∙ go (isForgetRefused (m .floor) (m .openInstant) f) refl
     where
       rs : List Row
       rs = forgetRows (operatorsOf chart) f (m .rows)
 
+      kept : keptRows chart (watchOf m) (tableOf room tail (m .rows)) f ≡ rs
+      kept = kept-is chart (watchOf m) (tableOf room tail (m .rows)) f ∙ ap (forgetRows (operatorsOf chart) f) (rows-flat (m .rows) _)
+
       go : (a : Bool) → isForgetRefused (m .floor) (m .openInstant) f ≡ a → forgetOwn chart (watchOf m) (tableOf room tail (m .rows)) f ≡ stepOf room tail (rows.watchForget (operatorsOf chart) m f)
       go true d = rw (d, laws.forget-11 (operatorsOf chart) m f d)
-      go false d = rw (rows-flat (m .rows) _, d, laws.forget-taken (operatorsOf chart) m f d) (ap (λ u. takenStep (raised (watchOf m) f (length rs)) u) (table-less room tail (m .rows) rs few (kept-few (operatorsOf chart) f (m .rows))))
+      go false d = rw (forgotten-is chart (watchOf m) (tableOf room tail (m .rows)) f, kept, d, laws.forget-taken (operatorsOf chart) m f d) (ap (λ u. takenStep (raised (watchOf m) f (length rs)) u) (table-less room tail (m .rows) rs few (kept-few (operatorsOf chart) f (m .rows))))
 
   pub call-shown : (c : Call) → call chart (stateOf room tail m) c ≡ stepOf room tail (rows.watchStep (operatorsOf chart) room m c)
   unfolding call

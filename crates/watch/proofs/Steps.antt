@@ -11,11 +11,12 @@ use Rattle.chart.specs.Charts.{isUsable}
 use Rattle.chart.specs.declared.Chart.{Chart}
 use Rattle.model.specs.Reference.{Call, event, clock, forget}
 use Rattle.model.proofs.Capacity.{capacity-fits}
-use Rattle.table.specs.Table.{zeroed}
+use Rattle.table.specs.Table.{zeroed, roomIn}
 use Rattle.table.proofs.Laws.{length-zeroed}
-use Rattle.watch.specs.Steps.{refusedStep, takenStep, emptyWatch, roomIn, openingStep, checkNumber, eventOwn, eventStep, clockOwn, clockStep, forgetOwn, forgetStep}
+use Rattle.state.specs.State.{emptyState}
+use Rattle.watch.specs.Steps.{refusedStep, takenStep, openingStep, checkNumber, eventOwn, eventStep, clockOwn, clockStep, forgetOwn, forgetStep}
 use Rattle.watch.specs.Histories.{State, state, call, after, answers}
-use Rattle.watch.specs.declared.Watch.{Watch}
+use Rattle.state.specs.declared.WatchState.{WatchState}
 use Rattle.watch.proofs.Calls.{check-passed}
 
 module _ (chart : Chart) (s : State) where
@@ -49,7 +50,7 @@ module _ (chart : Chart) where
   answers-more s (d ∷ cs) c = ap (_∷_ ((call chart s d) .answer .refusal)) (answers-more (state (call chart s d)) cs c)
 
 -- the calls on a consistent watch and table
-module _ (chart : Chart) (w : Watch) (t : List ℤ) (z : checkNumber chart w t ≡ 0) where
+module _ (chart : Chart) (w : WatchState) (t : List ℤ) (z : checkNumber chart w t ≡ 0) where
   pub event-passed : (k : ℕ) → eventStep chart w t k ≡ record { answer = eventOwn w k; table = t }
   unfolding eventStep
   event-passed k = check-passed chart w t (record { answer = eventOwn w k; table = t }) z
@@ -67,7 +68,7 @@ pub opening-length : (chart : Chart) (t : List ℤ) (o : ℤ) → length ((openi
 unfolding openingStep
 opening-length chart t o = go (isUsable chart) (isInstant o)
   where
-    go : (a b : Bool) → length ((cond a (cond b (takenStep (emptyWatch o) (zeroed 0 (roomIn t * 5) t)) (refusedStep 8 (emptyWatch (pos 0)) t)) (refusedStep 14 (emptyWatch (pos 0)) t)) .table) ≡ length t
+    go : (a b : Bool) → length ((cond a (cond b (takenStep (emptyState o) (zeroed 0 (roomIn t * 5) t)) (refusedStep 8 (emptyState (pos 0)) t)) (refusedStep 14 (emptyState (pos 0)) t)) .table) ≡ length t
     go true true = length-zeroed 0 (roomIn t * 5) t (omega arith) (omega (arith, capacity-fits (length t)))
     go true false = refl
     go false b = refl

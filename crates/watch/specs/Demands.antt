@@ -19,12 +19,12 @@ use Rattle.model.specs.Order.{before, listing, Row, asRows}
 use Rattle.model.specs.Reference.{Model, Call, opening, step, run, numbersOf, rowsOf, isAt}
 use Rattle.model.specs.Statements.{_∈_, Sorted, IsRecognition, Reads}
 use Rattle.model.specs.Reference as ref
-use Rattle.table.specs.Table.{rowsIn, flat}
+use Rattle.table.specs.Table.{rowsIn, flat, roomIn}
 use Rattle.table.specs.Operators.{operatorsOf}
 use Rattle.tree.specs.Tree.{recognitionBytes}
-use Rattle.watch.specs.Steps.{roomIn, emptyWatch, openingStep, checkNumber, endPart, endRows, rowPart, takenTree, treeStep}
+use Rattle.watch.specs.Steps.{emptyWatch, openingStep, checkNumber, endPart, endRows, rowPart, takenTree, treeStep}
 use Rattle.watch.specs.Histories.{State, state, call, after, answers, opened}
-use Rattle.watch.specs.declared.Watch.{Watch}
+use Rattle.state.specs.declared.WatchState.{WatchState}
 
 -- A history: an opening of this chart, table and instant, and then these calls. The watch and table after it; and the reference model, document 01's
 -- book, which is fed the chart, the calls and the number of rows the table can hold.
@@ -33,6 +33,10 @@ history chart t o calls = after chart (opened chart t o) calls
 
 abbrev pub modelAfter : Chart → List ℤ → ℤ → List Call → Model
 modelAfter chart t o calls = run (step (operatorsOf chart) (roomIn t)) ((opening o) .state) calls
+
+-- the recognitions that the model's rows are written from, in the order of rows
+abbrev pub listed : Chart → Model → List Recognition
+listed chart m = listing (operatorsOf chart) (m .events) (m .floor) (m .openInstant)
 
 -- a table with these rows, of so many that it can hold, zeros for the others, and this tail
 abbrev pub tableOf : ℕ → List ℤ → List Row → List ℤ
@@ -43,22 +47,26 @@ tableOf room tail rs = flat rs ++ (replicate ((room - length rs) * 5) (pos 0) ++
 -- hold are those from before the opening. A row's references, followed down, give its recognition's own tree. Each call was accepted, or refused
 -- with a number, as in the book." And a call for the tree of a row writes that recognition's bytes, where the output lent is long enough:
 -- "Its length is handed back and the output past it stays."
-pub record FollowsModel (chart : Chart) (t : List ℤ) (o : ℤ) (calls : List Call) : Type 0 where
+pub record FollowsModel (chart : Chart) (t : List ℤ) (s : State) (m : Model) : Type 0 where
+  pub instant : s .watch .instant ≡ m .openInstant
+  pub floor : s .watch .floor ≡ m .floor
+  pub events : s .watch .events ≡ length (m .events)
+  pub rows : s .watch .rows ≡ length (rowsOf (operatorsOf chart) m)
+  pub pending : take (s .watch .pending) (s .watch .codes) ≡ map (λ e. e .code) (keep (isAt (m .openInstant)) (m .events))
+  pub pendingCount : s .watch .pending ≡ length (keep (isAt (m .openInstant)) (m .events))
+  pub table : s .table ≡ tableOf (roomIn t) (drop (roomIn t * 5) t) (rowsOf (operatorsOf chart) m)
+  pub trees : (us vs : List Recognition) (u : Recognition) → listed chart m ≡ us ++ u ∷ vs → Reads (rowsIn (s .watch .rows) (s .table)) (length us) u
+  pub bytes : (us vs : List Recognition) (u : Recognition) (out : List ℕ) → listed chart m ≡ us ++ u ∷ vs → length (recognitionBytes u) ≤ length out → treeStep chart (s .watch) (s .table) (length us) out ≡ takenTree (recognitionBytes u) out
+
+-- of a history: its opening is accepted, its state follows the model, and so does each of its answers
+pub record HistoryFollows (chart : Chart) (t : List ℤ) (o : ℤ) (calls : List Call) : Type 0 where
   pub accepted : (openingStep chart t o) .answer .refusal ≡ 0
-  pub instant : (history chart t o calls) .watch .instant ≡ (modelAfter chart t o calls) .openInstant
-  pub floor : (history chart t o calls) .watch .floor ≡ (modelAfter chart t o calls) .floor
-  pub events : (history chart t o calls) .watch .events ≡ length ((modelAfter chart t o calls) .events)
-  pub rows : (history chart t o calls) .watch .rows ≡ length (rowsOf (operatorsOf chart) (modelAfter chart t o calls))
-  pub pending : take ((history chart t o calls) .watch .pending) ((history chart t o calls) .watch .codes) ≡ map (λ e. e .code) (keep (isAt ((modelAfter chart t o calls) .openInstant)) ((modelAfter chart t o calls) .events))
-  pub pendingCount : (history chart t o calls) .watch .pending ≡ length (keep (isAt ((modelAfter chart t o calls) .openInstant)) ((modelAfter chart t o calls) .events))
-  pub table : (history chart t o calls) .table ≡ tableOf (roomIn t) (drop (roomIn t * 5) t) (rowsOf (operatorsOf chart) (modelAfter chart t o calls))
-  pub trees : (us vs : List Recognition) (u : Recognition) → listing (operatorsOf chart) ((modelAfter chart t o calls) .events) ((modelAfter chart t o calls) .floor) ((modelAfter chart t o calls) .openInstant) ≡ us ++ u ∷ vs → Reads (rowsIn ((history chart t o calls) .watch .rows) ((history chart t o calls) .table)) (length us) u
-  pub bytes : (us vs : List Recognition) (u : Recognition) (out : List ℕ) → listing (operatorsOf chart) ((modelAfter chart t o calls) .events) ((modelAfter chart t o calls) .floor) ((modelAfter chart t o calls) .openInstant) ≡ us ++ u ∷ vs → length (recognitionBytes u) ≤ length out → treeStep chart ((history chart t o calls) .watch) ((history chart t o calls) .table) (length us) out ≡ takenTree (recognitionBytes u) out
+  pub follows : FollowsModel chart t (history chart t o calls) (modelAfter chart t o calls)
   pub numbers : answers chart (opened chart t o) calls ≡ numbersOf (step (operatorsOf chart) (roomIn t)) ((opening o) .state) calls
 
 -- Demand 3, for every chart that 14 lets through, every table, every opening instant in range and every list of calls
 abbrev pub Demand3 : Type 0
-Demand3 = (chart : Chart) → isUsable chart ≡ true → (t : List ℤ) (o : ℤ) → isInstant o ≡ true → (calls : List Call) → FollowsModel chart t o calls
+Demand3 = (chart : Chart) → isUsable chart ≡ true → (t : List ℤ) (o : ℤ) → isInstant o ≡ true → (calls : List Call) → HistoryFollows chart t o calls
 
 -- The numbers that each call is refused with. "A refused opening (14, then 8)"
 abbrev pub openingNumbers : List ℕ
@@ -98,8 +106,8 @@ pub record Demand1 : Type 0 where
   -- 0, or a number that the call is refused with
   pub callsNumbered : (chart : Chart) (s : State) (c : Call) → (call chart s c) .answer .refusal ∈ (0 ∷ callNumbers c)
   pub openingsNumbered : (chart : Chart) (t : List ℤ) (o : ℤ) → (openingStep chart t o) .answer .refusal ∈ (0 ∷ openingNumbers)
-  pub checksNumbered : (chart : Chart) (w : Watch) (t : List ℤ) → checkNumber chart w t ∈ (0 ∷ checkNumbers)
-  pub treesNumbered : (chart : Chart) (w : Watch) (t : List ℤ) (i : ℕ) (out : List ℕ) → (treeStep chart w t i out) .answer .refusal ∈ (0 ∷ treeNumbers)
+  pub checksNumbered : (chart : Chart) (w : WatchState) (t : List ℤ) → checkNumber chart w t ∈ (0 ∷ checkNumbers)
+  pub treesNumbered : (chart : Chart) (w : WatchState) (t : List ℤ) (i : ℕ) (out : List ℕ) → (treeStep chart w t i out) .answer .refusal ∈ (0 ∷ treeNumbers)
   pub charts : (s : List ℕ) → ChartAnswered chartNumbers (readChart s)
   pub chartLines : (c : Chart) (s : List ℕ) → ChartAnswered lineNumbers (addLine c s)
   -- "Every other refusal from 8 on returns the watch given. After a refusal all lent memory holds what it held before."
@@ -107,14 +115,14 @@ pub record Demand1 : Type 0 where
   -- "A refused opening (14, then 8) returns an empty watch at instant 0"
   pub openings : (chart : Chart) (t : List ℤ) (o : ℤ) → ((openingStep chart t o) .answer .refusal ≡ 0 → ⊥) → ((openingStep chart t o) .answer .watch ≡ emptyWatch (pos 0)) × ((openingStep chart t o) .table ≡ t)
   -- "A refused read returns an empty part, and a check call beside it gives the number"
-  pub reads : (chart : Chart) (w : Watch) (t : List ℤ) (e : ℤ) → (checkNumber chart w t ≡ 0 → ⊥) → (endPart chart w t e ≡ []) × (endRows chart w t e ≡ rowPart 0 0)
+  pub reads : (chart : Chart) (w : WatchState) (t : List ℤ) (e : ℤ) → (checkNumber chart w t ≡ 0 → ⊥) → (endPart chart w t e ≡ []) × (endRows chart w t e ≡ rowPart 0 0)
   -- "a refused tree returns the number and length 0"
-  pub trees : (chart : Chart) (w : Watch) (t : List ℤ) (i : ℕ) (out : List ℕ) → ((treeStep chart w t i out) .answer .refusal ≡ 0 → ⊥) → ((treeStep chart w t i out) .answer .length ≡ 0) × ((treeStep chart w t i out) .out ≡ out)
+  pub trees : (chart : Chart) (w : WatchState) (t : List ℤ) (i : ℕ) (out : List ℕ) → ((treeStep chart w t i out) .answer .refusal ≡ 0 → ⊥) → ((treeStep chart w t i out) .answer .length ≡ 0) × ((treeStep chart w t i out) .out ≡ out)
 
 -- "The rows with a given end are handed back as that part of the caller's table": where the read is not refused the part has each row with that
 -- end, none besides, in their order.
 abbrev pub EndPartHolds : Type 0
-EndPartHolds = (chart : Chart) (w : Watch) (t : List ℤ) (e : ℤ) → checkNumber chart w t ≡ 0 → endPart chart w t e ≡ flat (keep (λ r. eqZ (r .end) e) (rowsIn (w .rows) t))
+EndPartHolds = (chart : Chart) (w : WatchState) (t : List ℤ) (e : ℤ) → checkNumber chart w t ≡ 0 → endPart chart w t e ≡ flat (keep (λ r. eqZ (r .end) e) (rowsIn (w .rows) t))
 
 -- nothing has been forgotten: no forget of the list was accepted
 abbrev pub isForget : Call → Bool
@@ -128,15 +136,15 @@ nothingForgotten chart s (c ∷ cs) = not (isForget c && eqb ((call chart s c) .
 
 -- the rows in use are as many as ts has, and are its rows; ts has each recognition over the closed instants, those before the open one, one time, none
 -- besides, in the order of rows
-pub record HoldsRecognitions (chart : Chart) (t : List ℤ) (o : ℤ) (calls : List Call) : Type 0 where
+pub record HoldsRecognitions (chart : Chart) (s : State) (m : Model) : Type 0 where
   pub ts : List Recognition
-  pub rows : (history chart t o calls) .watch .rows ≡ length ts
-  pub inUse : take ((history chart t o calls) .watch .rows * 5) ((history chart t o calls) .table) ≡ flat (asRows ts)
+  pub rows : s .watch .rows ≡ length ts
+  pub inUse : take (s .watch .rows * 5) (s .table) ≡ flat (asRows ts)
   pub increasing : Sorted before ts
-  pub members : (u : Recognition) → (u ∈ ts) ↔ (IsRecognition (operatorsOf chart) ((modelAfter chart t o calls) .events) u × T (ltZ (endOf u) ((history chart t o calls) .watch .instant)))
+  pub members : (u : Recognition) → (u ∈ ts) ↔ (IsRecognition (operatorsOf chart) (m .events) u × T (ltZ (endOf u) (s .watch .instant)))
 
 -- Demand 2: "While nothing has been forgotten, in a history as 3 has it, the table after each accepted clock mark holds, for each chart entry, the
 -- recognitions that the published definition gives for the closed instants: each of them one time, none besides, in the stated order." It is so
 -- after every call, an accepted clock mark among them, which makes its instant the open one.
 abbrev pub Demand2 : Type 0
-Demand2 = (chart : Chart) → isUsable chart ≡ true → (t : List ℤ) (o : ℤ) → isInstant o ≡ true → (calls : List Call) → nothingForgotten chart (opened chart t o) calls ≡ true → HoldsRecognitions chart t o calls
+Demand2 = (chart : Chart) → isUsable chart ≡ true → (t : List ℤ) (o : ℤ) → isInstant o ≡ true → (calls : List Call) → nothingForgotten chart (opened chart t o) calls ≡ true → HoldsRecognitions chart (history chart t o calls) (modelAfter chart t o calls)

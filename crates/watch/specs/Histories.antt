@@ -6,15 +6,15 @@ use lib.IntN.{ℤ}
 use Rattle.chart.specs.declared.Chart.{Chart}
 use Rattle.model.specs.Reference.{Call, event, clock, forget}
 use Rattle.watch.specs.Steps.{Step, openingStep, eventStep, clockStep, forgetStep}
-use Rattle.watch.specs.declared.Watch.{Watch}
+use Rattle.state.specs.declared.WatchState.{WatchState}
 
 -- what a call hands back to the next one
 pub record State : Type 0 where
-  pub watch : Watch
+  pub watch : WatchState
   pub table : List ℤ
 
 abbrev pub state : Step → State
-state s = record { watch = s .answer .watch; table = s .table }
+state s = record { watch = s .answer .watch .state; table = s .table }
 
 -- one call
 unfoldable pub call : Chart → State → Call → Step

@@ -1,19 +1,14 @@
 // The chronicle watch: a watch by value, its calls, and the caller's table lent to each of them.
 ghost use mathlib.Core.Path.{_≡_};
-ghost use Prim.Native.Nat.{_<_};
-ghost use Rattle.watch.specs.Steps.{emptyWatch, openingStep, checkNumber, withEvent, eventOwn, eventStep, closedNumber, closedTable, marked, clockOwn, clockStep, raised, forgetOwn, forgetStep, endRows, endPart, treeOwn, treeStep};
+ghost use Rattle.watch.specs.Steps.{answered, emptyWatch, openingStep, checkNumber, eventOwn, eventStep, clockOwn, clockStep, forgetOwn, forgetStep, endRows, endPart, treeOwn, treeStep};
 use chart::Chart;
+use state::WatchState;
 
-// A watch: open instant, floor, count of events, count of rows, and the events of the open instant: how many, and their codes in
-// their order with zeros behind them.
+// A watch. What it holds is declared below, so that the crates that close, forget and check are handed it as one value; in C's layout it is
+// the same as its state.
 #[repr(C)]
 pub struct Watch {
-    pub instant: i32,
-    pub floor: i32,
-    pub events: usize,
-    pub rows: usize,
-    pub pending: usize,
-    pub codes: [u8; 64],
+    pub state: WatchState,
 }
 
 // What a call answers: the refusal's number, 0 for none, and the new watch.
@@ -37,20 +32,26 @@ pub struct TreeAnswer {
     pub length: usize,
 }
 
-fn empty_watch(instant: i32) -> Watch
-    ensures { λ r. ⌜ r ≡ emptyWatch instant ⌝ }
+// The answer of a call that is taken.
+fn taken(state: WatchState) -> Answer
+    ensures { λ r. ⌜ r ≡ answered 0 state ⌝ }
 {
-    Watch {
-        instant,
-        floor: interval::first_floor(),
-        events: 0,
-        rows: 0,
-        pending: 0,
-        codes: [0u8; 64],
+    Answer {
+        refusal: 0,
+        watch: Watch { state },
     }
 }
 
 impl Watch {
+    // A watch with no rows and no events.
+    pub fn empty(instant: i32) -> Watch
+        ensures { λ r. ⌜ r ≡ emptyWatch instant ⌝ }
+    {
+        Watch {
+            state: state::empty(instant),
+        }
+    }
+
     // Opens a watch on a lent table: all its rows are zeros then. Refused (14, 8): the empty watch at instant 0, the table as it was.
     // One look at each entry of the chart, one pass over the table.
     pub fn opening(chart: Chart, table: &mut [i32], instant: i32) -> Answer
@@ -59,100 +60,50 @@ impl Watch {
         if !chart::is_usable(chart) {
             return Answer {
                 refusal: 14,
-                watch: empty_watch(0),
+                watch: Watch::empty(0),
             };
         }
         if !interval::is_instant(instant) {
             return Answer {
                 refusal: 8,
-                watch: empty_watch(0),
+                watch: Watch::empty(0),
             };
         }
         let room = table::rows_that_fit(table.len());
         table::zero_part(table, 0, room * 5);
-        Answer {
-            refusal: 0,
-            watch: empty_watch(instant),
-        }
-    }
-
-    // The watch with one event more.
-    fn with_event(self, k: u8) -> Watch
-        requires { ⌜ (self .pending < 64) × (self .events < 1000000) ⌝ }
-        ensures { λ r. ⌜ r ≡ withEvent self k ⌝ }
-    {
-        let n = self.pending;
-        let mut next = self;
-        next.codes[n] = k;
-        next.pending = n + 1;
-        next.events = next.events + 1;
-        next
+        taken(state::empty(instant))
     }
 
     // An event of code k on a watch that is known to be consistent: 10, then 9. Constant time.
     pub fn event_unchecked(self, chart: Chart, table: &[i32], k: u8) -> Answer
-        requires { ⌜ checkNumber chart self (now table) ≡ 0 ⌝ }
-        ensures { λ r. ⌜ r ≡ eventOwn self k ⌝ }
+        requires { ⌜ checkNumber chart (self .state) (now table) ≡ 0 ⌝ }
+        ensures { λ r. ⌜ r ≡ eventOwn (self .state) k ⌝ }
     {
-        if 1000000 <= self.events {
+        let s = self.state;
+        if 1000000 <= s.events {
             return Answer {
                 refusal: 10,
                 watch: self,
             };
         }
-        if 64 <= self.pending {
+        if 64 <= s.pending {
             return Answer {
                 refusal: 9,
                 watch: self,
             };
         }
-        let next = self.with_event(k);
-        Answer {
-            refusal: 0,
-            watch: next,
-        }
-    }
-
-    // The watch after a clock mark, with n rows.
-    fn marked(self, instant: i32, n: usize) -> Watch
-        ensures { λ r. ⌜ r ≡ marked self instant n ⌝ }
-    {
-        Watch {
-            instant,
-            floor: self.floor,
-            events: self.events,
-            rows: n,
-            pending: 0,
-            codes: [0u8; 64],
-        }
-    }
-
-    // The watch after a forget, with n rows.
-    fn raised(self, floor: i32, n: usize) -> Watch
-        ensures { λ r. ⌜ r ≡ raised self floor n ⌝ }
-    {
-        let mut next = self;
-        next.floor = floor;
-        next.rows = n;
-        next
+        taken(s.with_event(k))
     }
 
     // The number that calls on this watch, chart and table are refused with first: 14, 13, or 0. One look at each entry and each row.
     pub fn check(self, chart: Chart, table: &[i32]) -> u32
-        ensures { λ r. ⌜ r ≡ checkNumber chart self (now (table .entry)) ⌝ }
+        ensures { λ r. ⌜ r ≡ checkNumber chart (self .state) (now (table .entry)) ⌝ }
     {
         if !chart::is_usable(chart) {
             return 14;
         }
-        if !consistency::is_consistent(
-            chart,
-            self.instant,
-            self.floor,
-            self.events,
-            self.rows,
-            self.pending,
-            table,
-        ) {
+        let s = self.state;
+        if !consistency::is_consistent(chart, s, table) {
             return 13;
         }
         0
@@ -160,7 +111,7 @@ impl Watch {
 
     // An event of code k at the open instant: 14, 13, 10, 9. A check, then constant time.
     pub fn event(self, chart: Chart, table: &[i32], k: u8) -> Answer
-        ensures { λ r. ⌜ r ≡ (eventStep chart self (now (table .entry)) k) .answer ⌝ }
+        ensures { λ r. ⌜ r ≡ (eventStep chart (self .state) (now (table .entry)) k) .answer ⌝ }
     {
         let n = self.check(chart, table);
         if n != 0 {
@@ -174,7 +125,7 @@ impl Watch {
 
     // A clock mark: closes the open instant and opens `instant`: 14, 13, 8, 12. A check, then closing.
     pub fn clock(self, chart: Chart, table: &mut [i32], instant: i32) -> Answer
-        ensures { λ r. ⌜ (r ≡ (clockStep chart self (now (table .entry)) instant) .answer) × (now (table .exit) ≡ (clockStep chart self (now (table .entry)) instant) .table) ⌝ }
+        ensures { λ r. ⌜ (r ≡ (clockStep chart (self .state) (now (table .entry)) instant) .answer) × (now (table .exit) ≡ (clockStep chart (self .state) (now (table .entry)) instant) .table) ⌝ }
     {
         let n = self.check(chart, table);
         if n != 0 {
@@ -188,43 +139,30 @@ impl Watch {
 
     // A clock mark on a watch that is known to be consistent. With nothing pending it looks at each entry of the chart; otherwise see closing::close.
     pub fn clock_unchecked(self, chart: Chart, table: &mut [i32], instant: i32) -> Answer
-        requires { ⌜ checkNumber chart self (now table) ≡ 0 ⌝ }
-        ensures { λ r. ⌜ (r ≡ (clockOwn chart self (now (table .entry)) instant) .answer) × (now (table .exit) ≡ (clockOwn chart self (now (table .entry)) instant) .table) ⌝ }
+        requires { ⌜ checkNumber chart (self .state) (now table) ≡ 0 ⌝ }
+        ensures { λ r. ⌜ (r ≡ (clockOwn chart (self .state) (now (table .entry)) instant) .answer) × (now (table .exit) ≡ (clockOwn chart (self .state) (now (table .entry)) instant) .table) ⌝ }
     {
-        if interval::is_mark_refused(self.instant, instant) {
+        let s = self.state;
+        if interval::is_mark_refused(s.instant, instant) {
             return Answer {
                 refusal: 8,
                 watch: self,
             };
         }
         let room = table::rows_that_fit(table.len());
-        let n = self.closed(chart, table);
+        let n = closing::close(chart, s, table);
         if room < n {
             return Answer {
                 refusal: 12,
                 watch: self,
             };
         }
-        Answer {
-            refusal: 0,
-            watch: self.marked(instant, n),
-        }
-    }
-
-    // Closes the open instant: the number of rows then, or one more than the table holds and the table as it was.
-    fn closed(self, chart: Chart, table: &mut [i32]) -> usize
-        requires { ⌜ checkNumber chart self (now table) ≡ 0 ⌝ }
-        ensures { λ r. ⌜ (r ≡ closedNumber chart self (now (table .entry))) × (now (table .exit) ≡ closedTable chart self (now (table .entry))) ⌝ }
-    {
-        let pending = self.pending;
-        let first = self.events - pending + 1;
-        let codes = self.codes;
-        closing::close(chart, table, self.rows, self.instant, first, pending, codes)
+        taken(s.marked(instant, n))
     }
 
     // A forget: raises the floor to f: 14, 13, 11. A check, then one walk of the rows.
     pub fn forget(self, chart: Chart, table: &mut [i32], f: i32) -> Answer
-        ensures { λ r. ⌜ (r ≡ (forgetStep chart self (now (table .entry)) f) .answer) × (now (table .exit) ≡ (forgetStep chart self (now (table .entry)) f) .table) ⌝ }
+        ensures { λ r. ⌜ (r ≡ (forgetStep chart (self .state) (now (table .entry)) f) .answer) × (now (table .exit) ≡ (forgetStep chart (self .state) (now (table .entry)) f) .table) ⌝ }
     {
         let n = self.check(chart, table);
         if n != 0 {
@@ -238,34 +176,32 @@ impl Watch {
 
     // A forget on a watch that is known to be consistent. One walk of the rows.
     pub fn forget_unchecked(self, chart: Chart, table: &mut [i32], f: i32) -> Answer
-        requires { ⌜ checkNumber chart self (now table) ≡ 0 ⌝ }
-        ensures { λ r. ⌜ (r ≡ (forgetOwn chart self (now (table .entry)) f) .answer) × (now (table .exit) ≡ (forgetOwn chart self (now (table .entry)) f) .table) ⌝ }
+        requires { ⌜ checkNumber chart (self .state) (now table) ≡ 0 ⌝ }
+        ensures { λ r. ⌜ (r ≡ (forgetOwn chart (self .state) (now (table .entry)) f) .answer) × (now (table .exit) ≡ (forgetOwn chart (self .state) (now (table .entry)) f) .table) ⌝ }
     {
-        if interval::is_forget_refused(self.floor, self.instant, f) {
+        let s = self.state;
+        if interval::is_forget_refused(s.floor, s.instant, f) {
             return Answer {
                 refusal: 11,
                 watch: self,
             };
         }
-        let n = forgetting::forget(chart, table, self.rows, f);
-        Answer {
-            refusal: 0,
-            watch: self.raised(f, n),
-        }
+        let n = forgetting::forget(chart, s, table, f);
+        taken(s.raised(f, n))
     }
 
     // The rows that end at `end`, by their numbers, which a host in C can take; refused (14, 13): no row, both numbers 0. A check, then
     // two binary searches.
     pub fn rows_ending_at(self, chart: Chart, table: &[i32], end: i32) -> Part
-        ensures { λ r. ⌜ r ≡ endRows chart self (now (table .entry)) end ⌝ }
+        ensures { λ r. ⌜ r ≡ endRows chart (self .state) (now (table .entry)) end ⌝ }
     {
         let n = self.check(chart, table);
         if n != 0 {
             return Part { first: 0, count: 0 };
         }
-        let rows = self.rows;
-        let first = forgetting::ending_before(table, rows, end);
-        let past = forgetting::ending_by(table, rows, end);
+        let s = self.state;
+        let first = table::ending_before(table, s.rows, end);
+        let past = table::ending_by(table, s.rows, end);
         Part {
             first,
             count: past - first,
@@ -274,7 +210,7 @@ impl Watch {
 
     // The rows that end at `end`, as that part of the lent table; refused (14, 13): an empty part. A check, then two binary searches.
     pub fn rows_ending<'a>(self, chart: Chart, table: &'a [i32], end: i32) -> &'a [i32]
-        ensures { λ r. ⌜ now r ≡ endPart chart self (now (table .entry)) end ⌝ }
+        ensures { λ r. ⌜ now r ≡ endPart chart (self .state) (now (table .entry)) end ⌝ }
     {
         let part = self.rows_ending_at(chart, table, end);
         let from = part.first * 5;
@@ -285,7 +221,7 @@ impl Watch {
     // Writes the tree of row i at the front of the output: 14, 13, 15, 16. A check; then the tree's bytes are counted, with at most one
     // reference followed for each byte of the output and one more; then each byte is written once.
     pub fn tree(self, chart: Chart, table: &[i32], i: usize, out: &mut [u8]) -> TreeAnswer
-        ensures { λ r. ⌜ (r ≡ (treeStep chart self (now (table .entry)) i (now (out .entry))) .answer) × (now (out .exit) ≡ (treeStep chart self (now (table .entry)) i (now (out .entry))) .out) ⌝ }
+        ensures { λ r. ⌜ (r ≡ (treeStep chart (self .state) (now (table .entry)) i (now (out .entry))) .answer) × (now (out .exit) ≡ (treeStep chart (self .state) (now (table .entry)) i (now (out .entry))) .out) ⌝ }
     {
         let n = self.check(chart, table);
         if n != 0 {
@@ -300,10 +236,11 @@ impl Watch {
     // The same without the check, on a watch that is known to be consistent. The bytes are counted first, so that a refusal leaves the output
     // as it was.
     fn tree_unchecked(self, chart: Chart, table: &[i32], i: usize, out: &mut [u8]) -> TreeAnswer
-        requires { ⌜ checkNumber chart self (now table) ≡ 0 ⌝ }
-        ensures { λ r. ⌜ (r ≡ (treeOwn chart self (now (table .entry)) i (now (out .entry))) .answer) × (now (out .exit) ≡ (treeOwn chart self (now (table .entry)) i (now (out .entry))) .out) ⌝ }
+        requires { ⌜ checkNumber chart (self .state) (now table) ≡ 0 ⌝ }
+        ensures { λ r. ⌜ (r ≡ (treeOwn chart (self .state) (now (table .entry)) i (now (out .entry))) .answer) × (now (out .exit) ≡ (treeOwn chart (self .state) (now (table .entry)) i (now (out .entry))) .out) ⌝ }
     {
-        let rows = self.rows;
+        let s = self.state;
+        let rows = s.rows;
         if rows <= i {
             return TreeAnswer {
                 refusal: 15,

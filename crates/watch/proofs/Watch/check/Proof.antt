@@ -8,7 +8,6 @@ use mir.Val.{SFits}
 use Rattle.interval.proofs.Machine.{same32}
 use Rattle.chart.specs.Charts.{isUsable}
 use Rattle.consistency.specs.Consistency.{areConsistent}
-use Rattle.watch.specs.Steps.{isWatchConsistent}
 use Rattle.watch.proofs.Calls.{check-14, check-13, check-0}
 use Rattle.watch.proofs.Watch.check.Statement.{statement}
 use Rattle.watch.proofs.Watch.check.Tie as tie
@@ -16,13 +15,13 @@ use Rattle.watch.proofs.Watch.check.Tie as tie
 usable : (c : tie.Else1) → isUsable (c .before .before .args .chart) ≡ true
 usable c = sym (c .before .is-usable .ensures) ∙ not-false _ (c .if1 .left)
 
-consistent : (c : tie.After-is-consistent) → let g = c .before .before .before .before .before .args in isWatchConsistent (g .chart) (g .self) (g .table .now) ≡ c .is-consistent .result
+consistent : (c : tie.After-is-consistent) → let g = c .before .before .before .before .before .args in areConsistent (g .chart) (g .self .state) (g .table .now) ≡ c .is-consistent .result
 consistent c =
     let s = c .before .before in
     let g = s .before .before .before .args in
-    let instant : SFits w32 (g .self .instant) = record { sfits = s .struct-told .given .0 .1 } in
-    let floor : SFits w32 (g .self .floor) = record { sfits = s .struct-told .given .1 .0 .1 } in
-    sym (c .is-consistent .ensures ∙ ap₂ (λ a b. areConsistent (g .chart) a b (g .self .events) (g .self .rows) (g .self .pending) (g .table .now)) (same32 _ instant) (same32 _ floor))
+    let instant : SFits w32 (g .self .state .instant) = record { sfits = s .struct-told .given .0 .1 } in
+    let floor : SFits w32 (g .self .state .floor) = record { sfits = s .struct-told .given .1 .0 .1 } in
+    sym (c .is-consistent .ensures ∙ ap₂ (λ a b. areConsistent (g .chart) a b (g .self .state .events) (g .self .state .rows) (g .self .state .pending) (g .table .now)) (same32 _ instant) (same32 _ floor))
 
 is-usable-requires : tie.Need-is-usable-requires
 is-usable-requires c κs = search needs

@@ -8,19 +8,22 @@ use mir.Syntax.{w32}
 use mir.Val.{SFits}
 use Rattle.interval.specs.Instants.{isMarkRefused}
 use Rattle.interval.proofs.Machine.{same32}
-use Rattle.watch.specs.Steps.{answered, roomIn, closedNumber, marked}
+use Rattle.table.specs.Table.{roomIn}
+use Rattle.closing.specs.Closed.{closedNumber}
+use Rattle.state.specs.State.{marked}
+use Rattle.watch.specs.Steps.{answered}
 use Rattle.watch.proofs.Calls.{clock-8, clock-12, clock-taken}
 use Rattle.watch.proofs.Watch.clock_unchecked.Statement.{statement}
 use Rattle.watch.proofs.Watch.clock_unchecked.Tie as tie
 
 -- whether the mark is refused
-early : (c : tie.After-is-mark-refused) → let g = c .before .before .args in isMarkRefused (g .self .instant) (g .instant) ≡ c .is-mark-refused .result
+early : (c : tie.After-is-mark-refused) → let g = c .before .before .args in isMarkRefused (g .self .state .instant) (g .instant) ≡ c .is-mark-refused .result
 early c =
     let s = c .before .before in
-    let now : SFits w32 (s .args .self .instant) = record { sfits = c .before .struct-told .given .0 .1 } in
+    let now : SFits w32 (s .args .self .state .instant) = record { sfits = c .before .struct-told .given .0 .1 } in
     sym (c .is-mark-refused .ensures ∙ ap₂ isMarkRefused (same32 _ now) (same32 _ (s .fits .instant)))
 
-in-time : (c : tie.Else1) → let g = c .before .before .before .args in isMarkRefused (g .self .instant) (g .instant) ≡ false
+in-time : (c : tie.Else1) → let g = c .before .before .before .args in isMarkRefused (g .self .state .instant) (g .instant) ≡ false
 in-time c = early (c .before) ∙ c .if1 .left
 
 is-mark-refused-requires : tie.Need-is-mark-refused-requires
@@ -29,7 +32,7 @@ is-mark-refused-requires c κs = search needs
 returns : tie.Need-returns
 returns c =
     let g = c .before .before .before .args in
-    let e = clock-8 (g .chart) (g .self) (g .table .now) (g .instant) (early (c .before) ∙ c .if1 .taken) in
+    let e = clock-8 (g .chart) (g .self .state) (g .table .now) (g .instant) (early (c .before) ∙ c .if1 .taken) in
     (sym (ap (λ x. x .answer) e), sym (ap (λ x. x .table) e))
 
 rows-that-fit-requires : tie.Need-rows-that-fit-requires
@@ -47,8 +50,8 @@ returns-2 c =
     let r = k .before .before in
     let l = r .before .before in
     let g = l .before .before .args in
-    let h : roomIn (g .table .now) < closedNumber (g .chart) (g .self) (g .table .now) = omega (arith, c .if2 .taken, r .rows-that-fit .ensures, k .closed .ensures .0) in
-    let q = clock-12 (g .chart) (g .self) (g .table .now) (g .instant) (in-time (r .before)) h in
+    let h : roomIn (g .table .now) < closedNumber (g .chart) (g .self .state) (g .table .now) = omega (arith, c .if2 .taken, r .rows-that-fit .ensures, k .closed .ensures .0) in
+    let q = clock-12 (g .chart) (g .self .state) (g .table .now) (g .instant) (in-time (r .before)) h in
     (sym (ap (λ x. x .answer) (q .0)), k .closed .ensures .1 ∙ q .1 ∙ sym (ap (λ x. x .table) (q .0)))
 
 marked-requires : tie.Need-marked-requires
@@ -64,9 +67,9 @@ returns-3 c =
     let l = r .before .before in
     let s = l .before .before in
     let g = s .args in
-    let h : closedNumber (g .chart) (g .self) (g .table .now) ≤ roomIn (g .table .now) = omega (arith, c .before .if2 .left, r .rows-that-fit .ensures, k .closed .ensures .0) in
-    let e = clock-taken (g .chart) (g .self) (g .table .now) (g .instant) (in-time (r .before)) h in
-    (ap (answered 0) (c .marked .ensures ∙ ap₂ (λ a n. marked (g .self) a n) (same32 _ (s .fits .instant)) (k .closed .ensures .0)) ∙ sym (ap (λ x. x .answer) e), k .closed .ensures .1 ∙ sym (ap (λ x. x .table) e))
+    let h : closedNumber (g .chart) (g .self .state) (g .table .now) ≤ roomIn (g .table .now) = omega (arith, c .before .if2 .left, r .rows-that-fit .ensures, k .closed .ensures .0) in
+    let e = clock-taken (g .chart) (g .self .state) (g .table .now) (g .instant) (in-time (r .before)) h in
+    (ap (answered 0) (c .marked .ensures ∙ ap₂ (λ a n. marked (g .self .state) a n) (same32 _ (s .fits .instant)) (k .closed .ensures .0)) ∙ sym (ap (λ x. x .answer) e), k .closed .ensures .1 ∙ sym (ap (λ x. x .table) e))
 
 pub clock-unchecked-spec : {M : Type 1} → statement M
 clock-unchecked-spec =

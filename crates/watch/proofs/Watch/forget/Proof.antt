@@ -18,8 +18,8 @@ unfolding forgetStep
 returns c =
     let k = c .before in
     let g = k .before .before .args in
-    let e = check-refused (g .chart) (g .self) (g .table .now) (forgetOwn (g .chart) (g .self) (g .table .now) (g .f)) (λ z. c .if1 .taken (k .check .ensures ∙ z)) in
-    (ap (λ n. answered n (g .self)) (k .check .ensures) ∙ sym (ap (λ s. s .answer) e), sym (ap (λ s. s .table) e))
+    let e = check-refused (g .chart) (g .self .state) (g .table .now) (forgetOwn (g .chart) (g .self .state) (g .table .now) (g .f)) (λ z. c .if1 .taken (k .check .ensures ∙ z)) in
+    (ap (λ n. answered n (g .self .state)) (k .check .ensures) ∙ sym (ap (λ s. s .answer) e), sym (ap (λ s. s .table) e))
 
 forget-unchecked-requires : tie.Need-forget-unchecked-requires
 forget-unchecked-requires c κs = search needs
@@ -35,7 +35,7 @@ returns-2 c =
     let g = s .args in
     let i = same32 _ (s .fits .f) in
     let own = c .before .forget-unchecked .ensures in
-    let e = check-passed (g .chart) (g .self) (g .table .now) (forgetOwn (g .chart) (g .self) (g .table .now) (g .f)) (sym (d .before .check .ensures) ∙ d .if1 .left) in
+    let e = check-passed (g .chart) (g .self .state) (g .table .now) (forgetOwn (g .chart) (g .self .state) (g .table .now) (g .f)) (sym (d .before .check .ensures) ∙ d .if1 .left) in
     (simp i at (own .0) ∙ sym (ap (λ x. x .answer) e), simp i at (own .1) ∙ sym (ap (λ x. x .table) e))
 
 pub forget-spec : {M : Type 1} → statement M

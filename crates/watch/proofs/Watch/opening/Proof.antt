@@ -9,7 +9,8 @@ use lib.ListN.{length}
 use Rattle.table.specs.Table.{zeroed}
 use Rattle.model.proofs.Capacity.{capacity-fits}
 use Rattle.interval.proofs.Machine.{same32}
-use Rattle.watch.specs.Steps.{answered, emptyWatch}
+use Rattle.state.specs.State.{emptyState}
+use Rattle.watch.specs.Steps.{answered}
 use Rattle.watch.proofs.Calls.{opening-14, opening-8, opening-taken}
 use Rattle.watch.proofs.Watch.opening.Statement.{statement}
 use Rattle.watch.proofs.Watch.opening.Tie as tie
@@ -72,7 +73,7 @@ returns-3 c =
     let u = i .before .before in
     let g = u .before .args in
     let e = opening-taken (g .chart) (g .table .now) (g .instant) (sym (u .is-usable .ensures) ∙ not-false _ (i .before .if1 .left)) (instant i ∙ not-false _ (r .before .if2 .left)) in
-    let w = c .empty-watch3 .ensures ∙ ap emptyWatch (same32 _ (u .before .fits .instant)) in
+    let w = c .empty-watch3 .ensures ∙ ap emptyState (same32 _ (u .before .fits .instant)) in
     (ap (answered 0) w ∙ sym (ap (λ s. s .answer) e), z .zero-part .ensures ∙ ap (λ n. zeroed 0 (n * 5) (g .table .now)) (r .rows-that-fit .ensures) ∙ sym (ap (λ s. s .table) e))
 
 pub opening-spec : {M : Type 1} → statement M

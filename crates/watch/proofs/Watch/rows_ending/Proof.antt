@@ -8,11 +8,11 @@ use Rattle.watch.proofs.Reading.{InTable, part-in-table}
 use Rattle.watch.proofs.Watch.rows_ending.Statement.{statement}
 use Rattle.watch.proofs.Watch.rows_ending.Tie as tie
 
-in-table : (c : tie.After-rows-ending-at) → let g = c .before .args in InTable (g .chart) (g .self) (g .table .now) (g .end) (c .rows-ending-at .result)
+in-table : (c : tie.After-rows-ending-at) → let g = c .before .args in InTable (g .chart) (g .self .state) (g .table .now) (g .end) (c .rows-ending-at .result)
 in-table c =
     let g = c .before .args in
-    let e : c .rows-ending-at .result ≡ endRows (g .chart) (g .self) (g .table .now) (g .end) = simp (same32, c .before .fits .end) at (c .rows-ending-at .ensures) in
-    subst (InTable (g .chart) (g .self) (g .table .now) (g .end)) (sym e) (part-in-table (g .chart) (g .self) (g .table .now) (g .end))
+    let e : c .rows-ending-at .result ≡ endRows (g .chart) (g .self .state) (g .table .now) (g .end) = simp (same32, c .before .fits .end) at (c .rows-ending-at .ensures) in
+    subst (InTable (g .chart) (g .self .state) (g .table .now) (g .end)) (sym e) (part-in-table (g .chart) (g .self .state) (g .table .now) (g .end))
 
 rows-ending-at-requires : tie.Need-rows-ending-at-requires
 rows-ending-at-requires c κs = search needs

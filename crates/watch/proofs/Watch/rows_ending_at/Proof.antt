@@ -4,22 +4,22 @@ use mathlib.Core.Path.{_≡_, sym, ap₂, _∙_}
 use Prim.Native.Nat.{_-_}
 use borrow.Author.Needs.{needs}
 use Rattle.interval.proofs.Machine.{same32}
-use Rattle.forgetting.specs.Ends.{endingBefore, endingBy}
+use Rattle.table.specs.Ends.{endingBefore, endingBy}
 use Rattle.watch.specs.Steps.{checkNumber, rowPart}
 use Rattle.watch.proofs.Calls.{told}
-use Rattle.watch.proofs.Ends.{ends-low}
+use Rattle.table.proofs.EndParts.{ends-low}
 use Rattle.watch.proofs.Reading.{rows-fit, rows-read, rows-refused}
 use Rattle.watch.proofs.Watch.rows_ending_at.Statement.{statement}
 use Rattle.watch.proofs.Watch.rows_ending_at.Tie as tie
 
-passed : (c : tie.Else1) → let g = c .before .before .args in checkNumber (g .chart) (g .self) (g .table .now) ≡ 0
+passed : (c : tie.Else1) → let g = c .before .before .args in checkNumber (g .chart) (g .self .state) (g .table .now) ≡ 0
 passed c = sym (c .before .check .ensures) ∙ c .if1 .left
 
 -- the rows before and those up to the end
-before-is : (c : tie.After-ending-before) → let g = c .before .before .before .args in c .ending-before .result ≡ endingBefore (g .self .rows) (g .end) (g .table .now)
+before-is : (c : tie.After-ending-before) → let g = c .before .before .before .args in c .ending-before .result ≡ endingBefore (g .self .state .rows) (g .end) (g .table .now)
 before-is c = simp (same32, c .before .before .before .fits .end) at (c .ending-before .ensures)
 
-by-is : (c : tie.After-ending-by) → let g = c .before .before .before .before .args in c .ending-by .result ≡ endingBy (g .self .rows) (g .end) (g .table .now)
+by-is : (c : tie.After-ending-by) → let g = c .before .before .before .before .args in c .ending-by .result ≡ endingBy (g .self .state .rows) (g .end) (g .table .now)
 by-is c = simp (same32, c .before .before .before .before .fits .end) at (c .ending-by .ensures)
 
 check-requires : tie.Need-check-requires
@@ -29,27 +29,27 @@ returns : tie.Need-returns
 returns c =
     let k = c .before in
     let g = k .before .args in
-    sym (rows-refused (g .chart) (g .self) (g .table .now) (g .end) (λ z. c .if1 .taken (k .check .ensures ∙ z)))
+    sym (rows-refused (g .chart) (g .self .state) (g .table .now) (g .end) (λ z. c .if1 .taken (k .check .ensures ∙ z)))
 
 ending-before-requires : tie.Need-ending-before-requires
 ending-before-requires c κs =
     let g = c .before .before .args in
-    (rows-fit (g .chart) (g .self) (g .table .now) (passed c), (told (g .chart) (g .self) (g .table .now) (passed c)) .ready .ordered)
+    (rows-fit (g .chart) (g .self .state) (g .table .now) (passed c), (told (g .chart) (g .self .state) (g .table .now) (passed c)) .ready .ordered)
 
 ending-by-requires : tie.Need-ending-by-requires
 ending-by-requires c κs =
     let g = c .before .before .before .args in
-    (rows-fit (g .chart) (g .self) (g .table .now) (passed (c .before)), (told (g .chart) (g .self) (g .table .now) (passed (c .before))) .ready .ordered)
+    (rows-fit (g .chart) (g .self .state) (g .table .now) (passed (c .before)), (told (g .chart) (g .self .state) (g .table .now) (passed (c .before))) .ready .ordered)
 
 sub-t10 : tie.Need-sub-t10
 sub-t10 c =
     let g = c .before .before .before .before .args in
-    omega (arith, before-is (c .before), by-is c, ends-low (g .end) (g .self .rows) (g .table .now))
+    omega (arith, before-is (c .before), by-is c, ends-low (g .end) (g .self .state .rows) (g .table .now))
 
 returns-2 : tie.Need-returns-2
 returns-2 c =
     let g = c .before .before .before .before .args in
-    ap₂ (λ a b. rowPart a (b - a)) (before-is (c .before)) (by-is c) ∙ sym (rows-read (g .chart) (g .self) (g .table .now) (g .end) (passed (c .before .before)))
+    ap₂ (λ a b. rowPart a (b - a)) (before-is (c .before)) (by-is c) ∙ sym (rows-read (g .chart) (g .self .state) (g .table .now) (g .end) (passed (c .before .before)))
 
 pub rows-ending-at-spec : {M : Type 1} → statement M
 rows-ending-at-spec =

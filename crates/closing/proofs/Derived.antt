@@ -1,6 +1,6 @@
 -- What each operator's function appends is what the reference model's step derives: the rows that the searches leave out make nothing
 -- that ends at the instant.
-use Prim.Native.Nat.{ℕ, zero, suc, _+_, _-_, _≤_, _<_}
+use Prim.Native.Nat.{ℕ, zero, suc, _+_, _≤_, _<_}
 use native.Mathlib.Omega.{arith}
 use native.Mathlib.Nat.{zero-add, sub-zero}
 use mathlib.Core.Path.{_≡_, refl, sym, ap, ap₂, _∙_}
@@ -35,7 +35,7 @@ use Rattle.table.proofs.EndParts.{ends-low, ends-few}
 use Rattle.closing.specs.declared.Taken.{Taken}
 use Rattle.closing.specs.declared.Taken.the-variants.{All, Lasting}
 use Rattle.closing.specs.Added.{pendingAt, span, when, eventRow, eventRows, partRow, isLong, takenRow, takenRows, orRows, forbids, isWithin, isForbidden, absenceRow, absenceRows, topOf, pairRow, rightBy, rightFrom, pairsOf, pairsWith, nextRow, leastStart, leftBy, leftFrom, pairRows, addedRows}
-use Rattle.closing.proofs.Spans.{each-same, none-at, some-same, each-numbered, some-snoc, some-none, each-from, each-nothing, span-same, keep-keep, keep-all, some-keep, kept-ones, kept-each, some-front}
+use Rattle.closing.proofs.Spans.{each-same, some-same, each-numbered, some-snoc, some-none, each-from, each-nothing, span-same, keep-keep, keep-all, some-keep, kept-ones, kept-each, some-front}
 use Rattle.closing.proofs.Searches.{next-none, least-start}
 use Rattle.closing.proofs.Laws.{top-le, top-rest}
 

@@ -1,7 +1,7 @@
 -- The steps of the calls, by the tests that lead to each answer.
-use Prim.Native.Nat.{ℕ, _+_, _*_, _≤_, _<_}
+use Prim.Native.Nat.{ℕ, _*_, _≤_, _<_}
 use native.Mathlib.Omega.{arith}
-use mathlib.Core.Path.{_≡_, refl}
+use mathlib.Core.Path.{_≡_, refl, sym, ap, _∙_}
 use mathlib.Core.Bool.{Bool, true, false, cond}
 use borrow.Author.Tests.{leb-true, leb-false, lt-ltb, le-ltb}
 use lib.Dec.{leb}
@@ -66,14 +66,23 @@ module _ (chart : Chart) (w : WatchState) (t : List ℤ) where
   unfolding checked
   check-passed own z = let j = check-told z in rw (j .usable, j .consistent)
 
-  pub check-refused : (own : Step) → (checkNumber chart w t ≡ 0 → ⊥) → checked chart w t own ≡ refusedStep (checkNumber chart w t) w t
-  unfolding checked checkNumber
-  check-refused own d = go (isUsable chart) (areConsistent chart w t) d
-    where
-      go : (a b : Bool) → (_≡_ {A = ℕ} (cond a (cond b 0 13) 14) 0 → ⊥) → cond a (cond b own (refusedStep 13 w t)) (refusedStep 14 w t) ≡ refusedStep (cond a (cond b 0 13) 14) w t
-      go true true z = absurd (z refl)
-      go true false z = refl
-      go false b z = refl
+  -- a call whose check gives n
+  module _ (own : Step) (n : ℕ) (e : n ≡ checkNumber chart w t) where
+    pub went-on : n ≡ 0 → checked chart w t own ≡ own
+    went-on z = check-passed own (sym e ∙ z)
+
+    pub was-refused : (n ≡ 0 → ⊥) → checked chart w t own ≡ refusedStep n w t
+    unfolding checked checkNumber
+    was-refused d = go (isUsable chart) (areConsistent chart w t) e
+      where
+        go : (a b : Bool) → n ≡ cond a (cond b 0 13) 14 → cond a (cond b own (refusedStep 13 w t)) (refusedStep 14 w t) ≡ refusedStep n w t
+        go true true z = absurd (d z)
+        go true false z = rw z
+        go false b z = rw z
+
+-- what an equation of steps says of answer and table
+pub parts : {x y : Step} → x ≡ y → (y .answer ≡ x .answer) × (y .table ≡ x .table)
+parts e = (sym (ap (λ (s : Step). s .answer) e), sym (ap (λ (s : Step). s .table) e))
 
 -- what the check tells the calls that go on
 pub told : (chart : Chart) (w : WatchState) (t : List ℤ) → checkNumber chart w t ≡ 0 → consistency.Consistent chart w t

@@ -34,7 +34,7 @@ use Rattle.consistency.specs.Consistency.{areConsistent}
 use Rattle.closing.specs.Closed.{closedRows}
 use Rattle.forgetting.specs.Forgetting.{keptRows, forgottenTable}
 use Rattle.watch.specs.Steps.{Step, emptyWatch, openingStep, refusedStep, takenStep, checked, answered, eventOwn, eventStep, clockOwn, clockStep, forgetOwn, forgetStep, checkNumber, TreeStep, refusedTree, takenTree, treeOwn, treeStep}
-use Rattle.watch.specs.Histories.{State, state, call, after, answers, opened}
+use Rattle.watch.specs.Histories.{State, state, call, after, opened}
 use Rattle.state.specs.declared.WatchState.{WatchState}
 use Rattle.watch.specs.Demands.{history, modelAfter, listed, FollowsModel, isForget, nothingForgotten, HoldsRecognitions, EndPartHolds, Demand1, Demand2, Demand3}
 use Rattle.watch.proofs.Shown.{stateOf, rows-flat}

@@ -21,14 +21,13 @@ use Rattle.model.specs.Capacity.{capacity}
 use Rattle.model.specs.Reference.{Call, event, clock, forget}
 use Rattle.model.specs.RowSteps.{extendRows, closeRows, keepRows, forgetRows}
 use Rattle.table.specs.Table.{rowsIn, putRow, putRows, areZeros, zeroed}
-use Rattle.table.specs.Operators.{operatorBy, operatorsOf}
+use Rattle.table.specs.Operators.{operatorBy, operatorsOf, arityOf}
 use Rattle.consistency.specs.Consistency.{isWatchInRange, isTableRowConsistent, areConsistent}
 use Rattle.consistency.proofs.Examples as consistency
 use Rattle.consistency.proofs.Examples.{chartOf, table, minus}
-use Rattle.tree.specs.Tree.{arityOf, rowBytes, referenceBytes, treeWithin, treeBytes}
-use Rattle.state.specs.State.{withEvent, marked, raised}
+use Rattle.tree.specs.Tree.{rowBytes, referenceBytes, treeWithin, treeBytes}
 use Rattle.closing.specs.Closed.{closedRows}
-use Rattle.forgetting.specs.Forgetting.{keptRows}
+use Rattle.forgetting.specs.Forgetting.{keptRows, forgottenTable}
 use Rattle.watch.specs.Steps.{Step, TreeStep, openingStep, checkNumber, checked, eventOwn, eventStep, clockOwn, clockStep, forgetOwn, forgetStep, endPart, endRows, treeOwn, treeStep}
 use Rattle.watch.specs.Histories.{call}
 use Rattle.state.specs.declared.WatchState.{WatchState}
@@ -87,7 +86,7 @@ abbrev outOfJoint : List Check
 outOfJoint = map asCheck consistency.cases
   where
     asCheck : consistency.Case → Check
-    asCheck c = check (c .chart) (record { instant = c .instant; floor = c .floor; events = c .events; rows = c .rows; pending = c .pending; codes = replicate 64 0 }) (c .table) (cond (c .consistent) 0 13)
+    asCheck c = check (c .chart) (c .state) (c .table) (cond (c .consistent) 0 13)
 
 pub checkCases : List Check
 checkCases = charts ++ firstChart ++ outOfJoint
@@ -106,7 +105,7 @@ abbrev outcome : ℕ → WatchState → List ℤ → Outcome
 outcome n w t = record { number = n; watch = w; table = t }
 
 abbrev pub ofStep : Step → Outcome
-ofStep s = outcome (s .answer .refusal) (s .answer .watch) (s .table)
+ofStep s = outcome (s .answer .refusal) (s .answer .watch .state) (s .table)
 
 -- Openings: chart, table and instant, and what is handed back.
 pub record Opening : Type 0 where
@@ -228,7 +227,7 @@ pub callCases : List Called
 callCases = firstChecks ++ eventCalls ++ markOrder ++ marks ++ forgets
 
 pub calls : map (λ (c : Called). ofStep (call (c .chart) (record { watch = c .watch; table = c .table }) (c .call))) callCases ≡ map (λ (c : Called). c .expected) callCases
-unfolding callCases isInstant isMarkRefused isForgetRefused isRelated isForbidding hasLength split lines bytes tabbed unended text isDigit allDigits valueFrom hasLeadingZero isNumber numberOf withoutMinus withMinus instantOf words sameBytes placeOf operatorOf kindOf inRange areLower withCode eventLine withOperands secondOperand operandsLine byOperator operatorLine numbered parsedLine checkedEntry checkedLine answerTo noEntries withEntry refusedChart readLines orNoLine readChart entryFits allBelow isUsable capacity extendRows closeRows keepRows forgetRows rowsIn putRow putRows areZeros zeroed operatorBy operatorsOf isWatchInRange isTableRowConsistent areConsistent checked eventOwn eventStep closedRows clockOwn clockStep keptRows forgetOwn forgetStep call
+unfolding callCases isInstant isMarkRefused isForgetRefused isRelated isForbidding hasLength split lines bytes tabbed unended text isDigit allDigits valueFrom hasLeadingZero isNumber numberOf withoutMinus withMinus instantOf words sameBytes placeOf operatorOf kindOf inRange areLower withCode eventLine withOperands secondOperand operandsLine byOperator operatorLine numbered parsedLine checkedEntry checkedLine answerTo noEntries withEntry refusedChart readLines orNoLine readChart entryFits allBelow isUsable capacity extendRows closeRows keepRows forgetRows rowsIn putRow putRows areZeros zeroed operatorBy operatorsOf isWatchInRange isTableRowConsistent areConsistent checked eventOwn eventStep closedRows clockOwn clockStep keptRows forgottenTable forgetOwn forgetStep call
 calls = refl
 
 -- Trees of the five rows: chart, watch, row and output lent; the number, the length and the output after it.

@@ -34,8 +34,6 @@ use Rattle.closing.proofs.Entries.{closed-is}
 use Rattle.forgetting.proofs.Forgetting.{kept-is, forgotten-is}
 use Rattle.watch.specs.Histories.{call}
 use Rattle.watch.specs.Demands.{tableOf}
-use Rattle.state.specs.declared.WatchState.{WatchState}
-use Rattle.watch.specs.declared.Answer.{Answer}
 use Rattle.watch.proofs.Shown.{watchOf, stateOf, rows-flat, length-table, table-more, table-less, codes-more}
 
 -- closing appends to the rows there are

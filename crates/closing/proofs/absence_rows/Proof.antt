@@ -18,7 +18,7 @@ use Rattle.model.specs.Order.{Row}
 use Rattle.table.specs.Table.{cell}
 use Rattle.closing.specs.Added.{span, partRow, isWithin, isForbidden, absenceRow, absenceRows, topOf}
 use Rattle.closing.proofs.Laws.{within-some, forbidden-one, forbidden-on, forbidden-end, absence-same, absence-other, absence-forbidden, absence-stands, top-le}
-use Rattle.closing.proofs.Filling.{Filling, nothing, begin, turn, stop, past, over, appendable}
+use Rattle.closing.proofs.Filling.{Filling, begin, turn, stop, past, over, appendable}
 use Rattle.closing.proofs.Searches.{Found, found}
 use Rattle.closing.proofs.absence_rows.Statement.{statement}
 use Rattle.closing.proofs.absence_rows.Tie as tie

@@ -1,9 +1,8 @@
 -- `all_rows` meets its contract: what the entries left append is what all were to append.
 use Prim.Native.Nat.{ℕ, _+_, _*_, _-_, _≤_, _<_}
-use borrow.Author.Needs.{needs}
 use native.Mathlib.Numerals.{add-one}
 use native.Mathlib.Omega.{arith}
-use mathlib.Core.Path.{_≡_, refl, sym, ap, _∙_}
+use mathlib.Core.Path.{_≡_, refl, _∙_}
 use mathlib.Core.List.{List}
 use lib.IntN.{pos}
 use lib.ListN.{length, take, drop}
@@ -26,7 +25,7 @@ use Rattle.closing.specs.Closed.{closedRows}
 use Rattle.closing.proofs.Filling.{Filling, begin, ended}
 use Rattle.closing.proofs.Derived.{Grown}
 use Rattle.closing.proofs.Growth.{grown-none}
-use Rattle.closing.proofs.Entries.{eventsIn, leftRows, left-first, left-last, entry-full, entry-next}
+use Rattle.closing.proofs.Entries.{leftRows, left-first, left-last, entry-full, entry-next}
 use Rattle.closing.proofs.all_rows.Statement.{statement}
 use Rattle.closing.proofs.all_rows.Tie as tie
 

@@ -1,5 +1,4 @@
 -- `close` meets its contract: where all fit, they are there; where not, zeros take their place again.
-use Prim.Native.Nat.{_*_, _≤_}
 use borrow.Author.Needs.{needs}
 use native.Mathlib.Omega.{arith}
 use mathlib.Core.Path.{_≡_, _∙_}

@@ -1,6 +1,5 @@
 -- `event_rows` meets its contract: what the events left append is what all were to append.
 use Prim.Native.Nat.{_+_, _-_, _≤_}
-use borrow.Author.Needs.{needs}
 use native.Mathlib.Nat.{sub-zero}
 use native.Mathlib.Omega.{arith}
 use mathlib.Core.Path.{refl, _∙_}

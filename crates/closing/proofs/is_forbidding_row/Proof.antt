@@ -1,7 +1,5 @@
 -- `is_forbidding_row` meets its contract: the tests one by one.
 use borrow.Author.Needs.{needs}
-use mathlib.Core.Path.{_≡_, sym, ap, _∙_}
-use mathlib.Core.Bool.{true, false}
 use mir.Syntax.{w32}
 use mir.Val.{SFits}
 use Rattle.interval.proofs.Machine.{same32, eqZ-yes, eqZ-no}

@@ -9,7 +9,6 @@ use Rattle.interval.proofs.Machine.{same32}
 use Rattle.interval.specs.declared.Ending.{Ending}
 use Rattle.closing.specs.Added.{nextRow, leftBy, leftFrom}
 use Rattle.interval.specs.Conditions.{endingOf}
-use Rattle.closing.proofs.Searches.{next-most}
 use Rattle.closing.proofs.left_from.Statement.{statement}
 use Rattle.closing.proofs.left_from.Tie as tie
 

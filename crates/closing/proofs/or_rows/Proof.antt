@@ -1,6 +1,5 @@
 -- `or_rows` meets its contract: the left arm, and then the right arm over the rows there were before.
 use borrow.Author.Needs.{needs}
-use native.Mathlib.Omega.{arith}
 use mathlib.Core.Path.{refl}
 use lib.IntN.{natAbs}
 use Rattle.model.specs.Recognitions.{left, right}

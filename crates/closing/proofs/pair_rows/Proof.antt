@@ -1,7 +1,7 @@
 -- `pair_rows` meets its contract: what the rows r left append is what all were to append.
 use Prim.Native.Nat.{ℕ, _+_, _*_, _-_, _≤_, _<_}
 use native.Mathlib.Omega.{arith}
-use mathlib.Core.Path.{_≡_, refl, sym, ap, _∙_}
+use mathlib.Core.Path.{_≡_, refl, _∙_}
 use mathlib.Core.Bool.{true}
 use mathlib.Core.List.{List, []}
 use lib.IntN.{ℤ, natAbs}
@@ -14,7 +14,7 @@ use Rattle.interval.specs.declared.Relation.{Relation}
 use Rattle.interval.proofs.Machine.{same32}
 use Rattle.model.specs.Lists.{each}
 use Rattle.table.specs.Table.{cell}
-use Rattle.closing.specs.Added.{span, nextRow, pairsOf, pairsWith, pairRows}
+use Rattle.closing.specs.Added.{span, pairsOf, pairsWith, pairRows}
 use Rattle.closing.proofs.Filling.{Filling, begin, turn, stop, past, over, appendable}
 use Rattle.closing.proofs.Searches.{Found, found, next-least}
 use Rattle.closing.proofs.Laws.{pairs-same, pairs-with, pairs-none, left-le}

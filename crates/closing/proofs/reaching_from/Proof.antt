@@ -1,6 +1,4 @@
 -- `reaching_from` meets its contract: the rows before the first that ends at the least start or later.
-use Prim.Native.Nat.{ℕ}
-use borrow.Author.Needs.{needs}
 use native.Mathlib.Omega.{arith}
 use mir.Syntax.{w32}
 use mir.Val.{SFits}

@@ -2,7 +2,6 @@
 use borrow.Author.Needs.{needs}
 use borrow.Author.Tests.{le-leb, lt-leb}
 use mathlib.Core.Path.{_≡_, sym, ap, _∙_}
-use Rattle.interval.specs.Conditions.{endingOf}
 use Rattle.interval.specs.declared.Ending.{Ending}
 use Rattle.closing.specs.Added.{rightBy, rightFrom}
 use Rattle.closing.proofs.right_from.Statement.{statement}

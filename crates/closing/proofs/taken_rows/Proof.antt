@@ -1,6 +1,5 @@
 -- `taken_rows` meets its contract: what the rows left append is what all were to append.
 use Prim.Native.Nat.{_-_}
-use borrow.Author.Needs.{needs}
 use native.Mathlib.Omega.{arith}
 use mathlib.Core.Path.{_∙_}
 use mir.Syntax.{w32}

@@ -5,22 +5,16 @@ use Rattle.watch.specs.Steps.{eventOwn}
 use Rattle.watch.proofs.Watch.event_unchecked.Statement.{statement}
 use Rattle.watch.proofs.Watch.event_unchecked.Tie as tie
 
-returns : tie.Need-returns
-unfolding eventOwn
-returns c = simp (le-leb _ _ (c .if1 .taken))
-
-returns-2 : tie.Need-returns-2
-unfolding eventOwn
-returns-2 c = simp (lt-leb _ _ (c .before .before .if1 .left), le-leb _ _ (c .if2 .taken))
-
-with-event-requires : tie.Need-with-event-requires
-with-event-requires c κs = search needs
-
-returns-3 : tie.Need-returns-3
-unfolding eventOwn
-returns-3 c =
-    let d = c .before in
-    simp (lt-leb _ _ (d .before .before .if1 .left), lt-leb _ _ (d .if2 .left), c .with-event .ensures)
-
 pub event-unchecked-spec : {M : Type 1} → statement M
-event-unchecked-spec = tie.close (tie.spec returns returns-2 with-event-requires returns-3)
+unfolding eventOwn
+event-unchecked-spec =
+    tie.close
+    (tie.spec
+    (λ c. simp (le-leb _ _ (c .if1 .taken)))
+    (λ c. simp (lt-leb _ _ (c .before .before .if1 .left), le-leb _ _ (c .if2 .taken)))
+    (λ c κs. search needs)
+    (λ c κs. search needs)
+    (λ c.
+    let e = c .before in
+    let d = e .before in
+    simp (lt-leb _ _ (d .before .before .if1 .left), lt-leb _ _ (d .if2 .left)) (simp (e .with-event .ensures) at (c .taken .ensures))))

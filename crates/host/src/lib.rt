@@ -39,7 +39,7 @@ pub extern "C" fn chronicle_open(chart: Chart, table: &mut [i32], instant: i32) 
 // An event of a code at the open instant: 14, 13, 10, 9. A check, then constant time.
 #[no_mangle]
 pub extern "C" fn chronicle_event(watch: Watch, chart: Chart, table: &[i32], code: u8) -> Answer
-    ensures { λ r. ⌜ r ≡ (eventStep chart watch (now (table .entry)) code) .answer ⌝ }
+    ensures { λ r. ⌜ r ≡ (eventStep chart (watch .state) (now (table .entry)) code) .answer ⌝ }
 {
     watch.event(chart, table, code)
 }
@@ -52,7 +52,7 @@ pub extern "C" fn chronicle_clock(
     table: &mut [i32],
     instant: i32,
 ) -> Answer
-    ensures { λ r. ⌜ (r ≡ (clockStep chart watch (now (table .entry)) instant) .answer) × (now (table .exit) ≡ (clockStep chart watch (now (table .entry)) instant) .table) ⌝ }
+    ensures { λ r. ⌜ (r ≡ (clockStep chart (watch .state) (now (table .entry)) instant) .answer) × (now (table .exit) ≡ (clockStep chart (watch .state) (now (table .entry)) instant) .table) ⌝ }
 {
     watch.clock(chart, table, instant)
 }
@@ -65,7 +65,7 @@ pub extern "C" fn chronicle_forget(
     table: &mut [i32],
     floor: i32,
 ) -> Answer
-    ensures { λ r. ⌜ (r ≡ (forgetStep chart watch (now (table .entry)) floor) .answer) × (now (table .exit) ≡ (forgetStep chart watch (now (table .entry)) floor) .table) ⌝ }
+    ensures { λ r. ⌜ (r ≡ (forgetStep chart (watch .state) (now (table .entry)) floor) .answer) × (now (table .exit) ≡ (forgetStep chart (watch .state) (now (table .entry)) floor) .table) ⌝ }
 {
     watch.forget(chart, table, floor)
 }
@@ -73,7 +73,7 @@ pub extern "C" fn chronicle_forget(
 // The number that calls on this watch, chart and table are refused with first: 14, 13, or 0. One look at each entry and each row.
 #[no_mangle]
 pub extern "C" fn chronicle_check(watch: Watch, chart: Chart, table: &[i32]) -> u32
-    ensures { λ r. ⌜ r ≡ checkNumber chart watch (now (table .entry)) ⌝ }
+    ensures { λ r. ⌜ r ≡ checkNumber chart (watch .state) (now (table .entry)) ⌝ }
 {
     watch.check(chart, table)
 }
@@ -81,7 +81,7 @@ pub extern "C" fn chronicle_check(watch: Watch, chart: Chart, table: &[i32]) -> 
 // The rows that end at an instant: none where the check refuses. A check and two binary searches.
 #[no_mangle]
 pub extern "C" fn chronicle_rows_ending(watch: Watch, chart: Chart, table: &[i32], end: i32) -> Part
-    ensures { λ r. ⌜ r ≡ endRows chart watch (now (table .entry)) end ⌝ }
+    ensures { λ r. ⌜ r ≡ endRows chart (watch .state) (now (table .entry)) end ⌝ }
 {
     watch.rows_ending_at(chart, table, end)
 }
@@ -95,7 +95,7 @@ pub extern "C" fn chronicle_tree(
     row: usize,
     out: &mut [u8],
 ) -> TreeAnswer
-    ensures { λ r. ⌜ (r ≡ (treeStep chart watch (now (table .entry)) row (now (out .entry))) .answer) × (now (out .exit) ≡ (treeStep chart watch (now (table .entry)) row (now (out .entry))) .out) ⌝ }
+    ensures { λ r. ⌜ (r ≡ (treeStep chart (watch .state) (now (table .entry)) row (now (out .entry))) .answer) × (now (out .exit) ≡ (treeStep chart (watch .state) (now (table .entry)) row (now (out .entry))) .out) ⌝ }
 {
     watch.tree(chart, table, row, out)
 }

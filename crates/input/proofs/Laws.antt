@@ -12,7 +12,7 @@ use lib.ListN.{length, take, drop, length-take, length-drop, length-append}
 use lib.Seq.{length-take-le, take-add, take-at, drop-at, take-all, take-length}
 use Rattle.interval.proofs.Signed.{never}
 use Rattle.io.specs.Counts.{clamped}
-use Rattle.watch.specs.Steps.{roomIn}
+use Rattle.table.specs.Table.{roomIn}
 use Rattle.program.specs.Runs.{Progress, startRun, Between, fed, finished, finishedRun, printedLength, printedOutput, afterBytes, keptOf, isRefused, Reached, restLength, restMoved}
 use Rattle.program.specs.Statements.{joined, fedRun, wholeRun, listedLength, listedOutput}
 use Rattle.program.specs.declared.Run.{Run}

@@ -18,8 +18,8 @@ use Rattle.model.specs.Recognitions.{Operator, recognitionsOf, withEntries, rec
 use Rattle.model.specs.Order.{compare, listing}
 use Rattle.model.specs.Reference.{opening, eventStep, clockStep, forgetStep}
 use Rattle.table.specs.Table.{flat}
-use Rattle.table.specs.Operators.{operatorBy, operatorsOf}
-use Rattle.tree.specs.Tree.{arityOf, rowBytes, referenceBytes, treeWithin, treeBytes}
+use Rattle.table.specs.Operators.{operatorBy, operatorsOf, arityOf}
+use Rattle.tree.specs.Tree.{rowBytes, referenceBytes, treeWithin, treeBytes}
 use Rattle.log.specs.Log.{callWords, eventCall, instantCall, wordCall, fieldsCall, callOf}
 use Rattle.printing.specs.Listing.{numbersText, rowTexts}
 use Rattle.program.specs.Outcomes.{Outcome, listed, refused, callIn, openingAnswer, callAnswer, playCalls, playLog, chartLines, logLines, playLines, outcomeText, printedFor}

@@ -3,7 +3,7 @@ use Prim.Native.Nat.{ℕ, suc, _+_, _-_, _≤_, _<_, _^_}
 use native.Mathlib.Omega.{arith}
 use mathlib.Core.Path.{_≡_, sym, ap, ap₂, _∙_, subst}
 use mathlib.Core.Logic.{inl}
-use mathlib.Core.Bool.{true, false, cond}
+use mathlib.Core.Bool.{true, false, cond, Bool}
 use mathlib.Core.List.{List, [], _∷_, _++_}
 use borrow.Author.Tests.{le-leb, lt-leb, lt-ltb, eq-eqb, ne-eqb}
 use lib.Dec.{eqb}
@@ -21,60 +21,63 @@ use Rattle.chart.proofs.Lines.{line-added}
 use Rattle.log.specs.Log.{callOf}
 use Rattle.log.specs.declared.Call.{Call}
 use Rattle.log.specs.declared.Call.the-variants as log
-use Rattle.watch.specs.Steps.{Step, refusedStep, checkNumber, openingStep, eventOwn, clockOwn, clockStep, forgetOwn, forgetStep}
-use Rattle.watch.specs.declared.Watch.{Watch}
+use Rattle.watch.specs.Steps.{Step, refusedStep, checkNumber, openingStep, eventOwn, clockOwn, forgetOwn}
+use Rattle.state.specs.declared.WatchState.{WatchState}
+use Rattle.watch.specs.Histories.{State, call}
 use Rattle.watch.specs.declared.Answer.{Answer}
 use Rattle.watch.proofs.Calls.{clock-8, forget-11, opening-8}
 use Rattle.watch.proofs.Steps.{event-call, clock-call, forget-call, event-passed, clock-passed, forget-passed}
 use Rattle.program.specs.Outcomes.{callIn, isEmpty}
-use Rattle.program.specs.Runs.{Progress, refusedRun, nextRun, entryRun, chartEnd, stepped, openingLine, callStep, lineStep, afterLine, isRefused, isEarly, Holds, HasLines, restLength, restMoved}
+use Rattle.program.specs.Runs.{Progress, refusedRun, nextRun, entryRun, chartEnd, stepped, openingLine, callStep, callAt, outOfRange, lineStep, afterLine, isRefused, isEarly, Holds, HasLines, restLength, restMoved}
 use Rattle.program.specs.declared.Run.{Run}
 use Rattle.program.specs.declared.Stage.{Stage}
 use Rattle.program.specs.declared.Stage.the-variants.{Entries, Opening, Calls}
 use Rattle.program.proofs.Reaching.{read-good}
 
-abbrev step : Answer → List ℤ → Step
+abbrev pub step : Answer → List ℤ → Step
 step a t = record { answer = a; table = t }
 
 abbrev progressOf : Run → List ℤ → Progress
 progressOf r t = record { run = r; table = t }
 
 -- the calls on a consistent watch and table
-module _ (chart : Chart) (w : Watch) (t : List ℤ) (z : checkNumber chart w t ≡ 0) where
-  pub clock-out : (x : ℤ) → isInstant x ≡ false → refusedStep 8 w t ≡ clockStep chart w t x
-  clock-out x e = sym (clock-passed chart w t z x ∙ clock-8 chart w t x (refuses-mark (w .instant) x (inl e)))
+module _ (chart : Chart) (w : WatchState) (t : List ℤ) where
+  abbrev given : State
+  given = record { watch = w; table = t }
 
-  pub forget-out : (f : ℤ) → isInstant f ≡ false → refusedStep 11 w t ≡ forgetStep chart w t f
-  forget-out f e = sym (forget-passed chart w t z f ∙ forget-11 chart w t f (refuses-forget (w .floor) (w .instant) f (out-of-range e)))
+  module _ (z : checkNumber chart w t ≡ 0) where
+    -- a mark or a forget out of range, and those in it
+    pub out-at : (forget : Bool) (x : ℤ) → isInstant x ≡ false → refusedStep (outOfRange forget) w t ≡ call chart given (callAt forget x)
+    out-at true f e = sym (forget-call chart given f ∙ forget-passed chart w t z f ∙ forget-11 chart w t f (refuses-forget (w .floor) (w .instant) f (out-of-range e)))
+    out-at false x e = sym (clock-call chart given x ∙ clock-passed chart w t z x ∙ clock-8 chart w t x (refuses-mark (w .instant) x (inl e)))
 
-  pub clock-in : (x : ℤ) (a : Answer) (u : List ℤ) → (a ≡ (clockOwn chart w t x) .answer) × (u ≡ (clockOwn chart w t x) .table) → step a u ≡ clockStep chart w t x
-  clock-in x a u h = ap₂ step (h .0) (h .1) ∙ sym (clock-passed chart w t z x)
+    pub clock-at : (x : ℤ) (a : Answer) (u : List ℤ) → (a ≡ (clockOwn chart w t x) .answer) × (u ≡ (clockOwn chart w t x) .table) → step a u ≡ call chart given (callAt false x)
+    clock-at x a u h = ap₂ step (h .0) (h .1) ∙ sym (clock-call chart given x ∙ clock-passed chart w t z x)
 
-  pub forget-in : (f : ℤ) (a : Answer) (u : List ℤ) → (a ≡ (forgetOwn chart w t f) .answer) × (u ≡ (forgetOwn chart w t f) .table) → step a u ≡ forgetStep chart w t f
-  forget-in f a u h = ap₂ step (h .0) (h .1) ∙ sym (forget-passed chart w t z f)
+    pub forget-at : (f : ℤ) (a : Answer) (u : List ℤ) → (a ≡ (forgetOwn chart w t f) .answer) × (u ≡ (forgetOwn chart w t f) .table) → step a u ≡ call chart given (callAt true f)
+    forget-at f a u h = ap₂ step (h .0) (h .1) ∙ sym (forget-call chart given f ∙ forget-passed chart w t z f)
 
-  -- a line of the log after its opening
-  pub call-event : (d : Call) (k : ℕ) (a : Answer) → d ≡ log.Event k → a ≡ eventOwn w k → step a t ≡ callStep chart (record { watch = w; table = t }) d
-  unfolding callStep
-  call-event d k a e h = rw e (ap (λ x. step x t) h ∙ sym (event-passed chart w t z k) ∙ sym (event-call chart (record { watch = w; table = t }) k))
+    -- a line of the log after its opening
+    pub call-event : (d : Call) (k : ℕ) (a : Answer) → d ≡ log.Event k → a ≡ eventOwn w k → step a t ≡ callStep chart given d
+    unfolding callStep
+    call-event d k a e h = rw e (ap (λ x. step x t) h ∙ sym (event-passed chart w t z k) ∙ sym (event-call chart given k))
 
-module _ (chart : Chart) (w : Watch) (t : List ℤ) (d : Call) (a : Answer) (u : List ℤ) where
-  pub call-clock : (x : ℤ) → d ≡ log.Clock x → step a u ≡ clockStep chart w t x → step a u ≡ callStep chart (record { watch = w; table = t }) d
-  unfolding callStep
-  call-clock x e h = rw e (h ∙ sym (clock-call chart (record { watch = w; table = t }) x))
+  module _ (d : Call) where
+    pub call-clock : (x : ℤ) (s : Step) → d ≡ log.Clock x → s ≡ call chart given (callAt false x) → s ≡ callStep chart given d
+    unfolding callStep
+    call-clock x s e h = rw e h
 
-  pub call-forget : (f : ℤ) → d ≡ log.Forget f → step a u ≡ forgetStep chart w t f → step a u ≡ callStep chart (record { watch = w; table = t }) d
-  unfolding callStep
-  call-forget f e h = rw e (h ∙ sym (forget-call chart (record { watch = w; table = t }) f))
+    pub call-forget : (f : ℤ) (s : Step) → d ≡ log.Forget f → s ≡ call chart given (callAt true f) → s ≡ callStep chart given d
+    unfolding callStep
+    call-forget f s e h = rw e h
 
-module _ (chart : Chart) (w : Watch) (t : List ℤ) (d : Call) where
-  pub call-malformed : d ≡ log.Malformed → refusedStep 7 w t ≡ callStep chart (record { watch = w; table = t }) d
-  unfolding callStep
-  call-malformed e = rw e
+    pub call-malformed : d ≡ log.Malformed → refusedStep 7 w t ≡ callStep chart given d
+    unfolding callStep
+    call-malformed e = rw e
 
-  pub call-open : (o : ℤ) → d ≡ log.Open o → refusedStep 7 w t ≡ callStep chart (record { watch = w; table = t }) d
-  unfolding callStep
-  call-open o e = rw e
+    pub call-open : (o : ℤ) → d ≡ log.Open o → refusedStep 7 w t ≡ callStep chart given d
+    unfolding callStep
+    call-open o e = rw e
 
 -- what a step makes of a run, by the number of its answer
 module _ (r q : Run) (a : Answer) (u : List ℤ) (s : Step) (h : (a ≡ s .answer) × (u ≡ s .table)) where

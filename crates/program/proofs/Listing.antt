@@ -8,7 +8,7 @@ use borrow.Author.Tests.{le-leb, lt-leb}
 use lib.IntN.{ℤ}
 use lib.ListN.{length, take, drop, length-drop, length-append}
 use Rattle.printing.proofs.Laws.{length-room, output-room, length-no-room, output-no-room, front-is-text}
-use Rattle.watch.specs.Steps.{roomIn}
+use Rattle.table.specs.Table.{roomIn}
 use Rattle.program.specs.Outcomes.{printedFor}
 use Rattle.program.specs.Runs.{Progress, startRun, afterBytes, keptOf, fed, fedAll, finished, finishedRun, printedLength, printedOutput}
 use Rattle.program.specs.Statements.{joined, wholeRun, hasRoom, listedLength, listedOutput, listedTable}

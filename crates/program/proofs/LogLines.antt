@@ -36,12 +36,12 @@ unfolding isRefused callsRun
 playing-goes c w line = refl
 
 -- watch and table are consistent
-pub playing-consistent : (c : Chart) (w : Watch) (line : ℕ) (t : List ℤ) → Reached (playing c w line t) → checkNumber c w t ≡ 0
+pub playing-consistent : (c : Chart) (w : Watch) (line : ℕ) (t : List ℤ) → Reached (playing c w line t) → checkNumber c (w .state) t ≡ 0
 unfolding Holds callsRun
 playing-consistent c w line t (z, usable, h) = ap (λ s. checkNumber c (s .watch) (s .table)) (h .same) ∙ history-consistent c usable (h .before) (h .opened) (h .inRange) (h .calls)
 
 -- one line, by the answer to its call
-module _ (c : Chart) (w : Watch) (line : ℕ) (t : List ℤ) (s : List ℕ) (short : length s < 64) (a : Answer) (u : List ℤ) (e : record { answer = a; table = u } ≡ callStep c (record { watch = w; table = t }) (callOf s)) where
+module _ (c : Chart) (w : Watch) (line : ℕ) (t : List ℤ) (s : List ℕ) (short : length s < 64) (a : Answer) (u : List ℤ) (e : record { answer = a; table = u } ≡ callStep c (record { watch = w .state; table = t }) (callOf s)) where
   line-stepped : afterLine (playing c w line t) (whole s) ≡ stepped (callsRun c w line) (record { answer = a; table = u })
   unfolding lineStep callsRun callIn
   line-stepped = rw (lt-ltb (length s) 64 short) (ap (stepped (callsRun c w line)) (sym e))

@@ -24,8 +24,8 @@ use Rattle.model.specs.Reference as ref
 use Rattle.model.specs.Reference.{Model, rowsOf}
 use Rattle.model.proofs.ReferenceLaws.{run-none, run-more, numbers-more, opening-accepted, opening-refused}
 use Rattle.table.specs.Operators.{operatorsOf}
-use Rattle.table.specs.Table.{rowsIn}
-use Rattle.watch.specs.Steps.{Step, roomIn, emptyWatch, openingStep}
+use Rattle.table.specs.Table.{rowsIn, roomIn}
+use Rattle.watch.specs.Steps.{Step, holding, emptyWatch, openingStep}
 use Rattle.watch.specs.Histories.{State, call, answers, opened}
 use Rattle.watch.specs.Demands.{history, modelAfter}
 use Rattle.watch.specs.declared.Watch.{Watch}
@@ -80,11 +80,11 @@ module _ (chart : Chart) (usable : isUsable chart ≡ true) (t : List ℤ) (o : 
 
   -- the rows are its rows
   same-rows : (cs : List ref.Call) → rowsIn ((history chart t o cs) .watch .rows) ((history chart t o cs) .table) ≡ rowsOf ops (modelAfter chart t o cs)
-  same-rows cs = let d = demand-3 chart usable t o inRange cs in ap₂ rowsIn (d .rows) (d .table) ∙ watch.rows-flat (rowsOf ops (modelAfter chart t o cs)) _
+  same-rows cs = let d = demand-3 chart usable t o inRange cs .follows in ap₂ rowsIn (d .rows) (d .table) ∙ watch.rows-flat (rowsOf ops (modelAfter chart t o cs)) _
 
   -- a run after the opening and these calls
   abbrev playing : ℕ → ℕ → List ref.Call → Progress
-  playing n line cs = progress Calls n line chart ((history chart t o cs) .watch) ((history chart t o cs) .table)
+  playing n line cs = progress Calls n line chart (holding ((history chart t o cs) .watch)) ((history chart t o cs) .table)
 
   -- a line with a call of the reference model
   one-call : (n line : ℕ) (cs : List ref.Call) (c : ref.Call) (ls : List Line) → comesTo (playing 0 (line + 1) (cs ++ c ∷ [])) ls ≡ playCalls ops (roomIn t) (modelAfter chart t o (cs ++ c ∷ [])) (suc (line + 1)) ls → comesTo (stepped (playing n line cs .run) (call chart (history chart t o cs) c)) ls ≡ cond (eqb ((step (modelAfter chart t o cs) c) .number) 0) (playCalls ops (roomIn t) ((step (modelAfter chart t o cs) c) .state) (suc (suc line)) ls) (refused ((step (modelAfter chart t o cs) c) .number) (suc line))
@@ -98,7 +98,7 @@ module _ (chart : Chart) (usable : isUsable chart ≡ true) (t : List ℤ) (o : 
       r = playing n line cs .run
 
       go : (b : Bool) → comesTo (cond b (record { run = nextRun r Calls chart (x .answer .watch); table = x .table }) (record { run = refusedRun r (x .answer .refusal) (line + 1); table = x .table })) ls ≡ cond b (playCalls ops (roomIn t) ((step (modelAfter chart t o cs) c) .state) (suc (suc line)) ls) (refused (x .answer .refusal) (suc line))
-      go true = ap (λ s. comesTo (progress Calls 0 (line + 1) chart (s .watch) (s .table)) ls) (sym (after-more chart (opened chart t o) cs c)) ∙ on ∙ ap₂ (λ m k. playCalls ops (roomIn t) m (suc k) ls) (run-more step ((ref.opening o) .state) cs c) (add-one line)
+      go true = ap (λ s. comesTo (progress Calls 0 (line + 1) chart (holding (s .watch)) (s .table)) ls) (sym (after-more chart (opened chart t o) cs c)) ∙ on ∙ ap₂ (λ m k. playCalls ops (roomIn t) m (suc k) ls) (run-more step ((ref.opening o) .state) cs c) (add-one line)
       go false = comes-refused r (x .table) (x .answer .refusal) (line + 1) ls ∙ ap (refused (x .answer .refusal)) (add-one line)
 
   pub calls-play : (n line : ℕ) (cs : List ref.Call) (ls : List Line) → comesTo (playing n line cs) ls ≡ playCalls ops (roomIn t) (modelAfter chart t o cs) (suc line) ls
@@ -134,7 +134,7 @@ log-plays chart usable n line w t (l ∷ ls) = go (callIn l)
     opens : (o : ℤ) (b : Bool) → isInstant o ≡ b → comesTo (stepped r (openingStep chart t o)) ls ≡ cond (eqb ((ref.opening o) .number) 0) (playCalls (operatorsOf chart) (roomIn t) ((ref.opening o) .state) (suc (suc line)) ls) (refused ((ref.opening o) .number) (suc line))
     opens o true e =
         let h = opening-taken chart t o usable e in
-        ap (λ x. comesTo (stepped r x) ls) h ∙ ap (λ x. comesTo (progress Calls 0 (line + 1) chart (x .answer .watch) (x .table)) ls) (sym h) ∙ ap (λ s. comesTo (progress Calls 0 (line + 1) chart (s .watch) (s .table)) ls) (sym (after-none chart (opened chart t o))) ∙ calls-play chart usable t o e 0 (line + 1) [] ls ∙ rw (run-none (ref.step (operatorsOf chart) (roomIn t)) ((ref.opening o) .state), opening-accepted o e, add-one line)
+        ap (λ x. comesTo (stepped r x) ls) h ∙ ap (λ x. comesTo (progress Calls 0 (line + 1) chart (x .answer .watch) (x .table)) ls) (sym h) ∙ ap (λ s. comesTo (progress Calls 0 (line + 1) chart (holding (s .watch)) (s .table)) ls) (sym (after-none chart (opened chart t o))) ∙ calls-play chart usable t o e 0 (line + 1) [] ls ∙ rw (run-none (ref.step (operatorsOf chart) (roomIn t)) ((ref.opening o) .state), opening-accepted o e, add-one line)
     opens o false e = ap (λ x. comesTo (stepped r x) ls) (opening-8 chart t o usable e) ∙ comes-refused r t 8 (line + 1) ls ∙ rw (opening-refused o e, add-one line)
 
     go : (c : Call) → comesTo (openingLine r t c) ls ≡ cond (eqb ((openingAnswer c) .number) 0) (playCalls (operatorsOf chart) (roomIn t) ((openingAnswer c) .state) (suc (suc line)) ls) (refused ((openingAnswer c) .number) (suc line))

@@ -17,8 +17,8 @@ use Rattle.model.specs.RowSteps as rows
 use Rattle.model.proofs.Capacity.{capacity-fits}
 use Rattle.model.proofs.Theorems as model
 use Rattle.table.specs.Operators.{operatorsOf}
-use Rattle.table.specs.Table.{rowsIn}
-use Rattle.watch.specs.Steps.{Step, roomIn, openingStep}
+use Rattle.table.specs.Table.{rowsIn, roomIn}
+use Rattle.watch.specs.Steps.{Step, openingStep}
 use Rattle.watch.specs.Histories.{State, state, call}
 use Rattle.watch.proofs.History.{bounds, history-shown}
 use Rattle.watch.proofs.Lower.{usable-lower}
@@ -162,8 +162,8 @@ end-prints p out h g = go (p .run .stage) refl h
     go Calls e k =
         let same = same-listing (r .chart) (k .1) (stateOf r t) (k .2) in
         let fits = listing-fits (r .chart) (k .1) (stateOf r t) (k .2) out g in
-        let text = tableText (r .watch .rows) t in
-        let room = listingFits (r .watch .rows) t out in
+        let text = tableText (r .watch .state .rows) t in
+        let room = listingFits (r .watch .state .rows) t out in
         (rw e (length-room room text out fits ∙ ap length same), rw e (output-room room text out fits ∙ ap (λ x. x ++ drop (length x) out) same))
     go Refused e k = let f = refusal-front (r .refusal) (r .line) out (omega (arith, g)) in (rw e (f .0), rw e (f .1))
 
@@ -173,7 +173,7 @@ unfolding lengthAt outputAt
 printed-within r t out e = go (r .stage) e
   where
     go : (s : Stage) → length (outputAt s r t out) ≡ length out → lengthAt s r t out ≤ length out
-    go Entries h = front-within (listingFits (r .watch .rows) t out) (tableText (r .watch .rows) t) out h
-    go Opening h = front-within (listingFits (r .watch .rows) t out) (tableText (r .watch .rows) t) out h
-    go Calls h = front-within (listingFits (r .watch .rows) t out) (tableText (r .watch .rows) t) out h
+    go Entries h = front-within (listingFits (r .watch .state .rows) t out) (tableText (r .watch .state .rows) t) out h
+    go Opening h = front-within (listingFits (r .watch .state .rows) t out) (tableText (r .watch .state .rows) t) out h
+    go Calls h = front-within (listingFits (r .watch .state .rows) t out) (tableText (r .watch .state .rows) t) out h
     go Refused h = front-within (refusalFits out) (refusalText (r .refusal) (r .line)) out h

@@ -103,8 +103,8 @@ history-before chart s c h = refl
 
 calls-on : (r : Run) (t : List ℤ) (c : Call) → Holds Calls r t → Reached (stepped r (callStep (r .chart) (stateOf r t) c))
 unfolding callStep Holds
-calls-on r t log.Malformed (z, usable, h) = stepped-on r (refusedStep 7 (r .watch) t) usable (λ y. h)
-calls-on r t (log.Open x) (z, usable, h) = stepped-on r (refusedStep 7 (r .watch) t) usable (λ y. h)
+calls-on r t log.Malformed (z, usable, h) = stepped-on r (refusedStep 7 (r .watch .state) t) usable (λ y. h)
+calls-on r t (log.Open x) (z, usable, h) = stepped-on r (refusedStep 7 (r .watch .state) t) usable (λ y. h)
 calls-on r t (log.Event k) (z, usable, h) = stepped-on r (call (r .chart) (stateOf r t) (ref.event k)) usable (λ y. history-on (r .chart) (stateOf r t) (ref.event k) h)
 calls-on r t (log.Clock x) (z, usable, h) = stepped-on r (call (r .chart) (stateOf r t) (ref.clock x)) usable (λ y. history-on (r .chart) (stateOf r t) (ref.clock x) h)
 calls-on r t (log.Forget f) (z, usable, h) = stepped-on r (call (r .chart) (stateOf r t) (ref.forget f)) usable (λ y. history-on (r .chart) (stateOf r t) (ref.forget f) h)

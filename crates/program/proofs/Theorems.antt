@@ -6,7 +6,7 @@ use lib.IntN.{ℤ}
 use lib.ListN.{length}
 use Rattle.text.specs.Text.{lines}
 use Rattle.model.specs.Capacity.{capacity}
-use Rattle.watch.specs.Steps.{roomIn}
+use Rattle.table.specs.Table.{roomIn}
 use Rattle.program.specs.Outcomes.{outcomeText, printedFor}
 use Rattle.program.specs.Runs.{Progress, startRun, finished, resultOf}
 use Rattle.program.specs.Statements.{joined, wholeRun, ProgramHolds}

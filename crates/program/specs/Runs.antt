@@ -74,7 +74,7 @@ openingLine r t (log.Forget f) = refusedAt r t 7 (r .line + 1)
 
 -- every other log line
 abbrev pub stateOf : Run → List ℤ → State
-stateOf r t = record { watch = r .watch; table = t }
+stateOf r t = record { watch = r .watch .state; table = t }
 
 unfoldable pub callStep : Chart → State → Call → Step
 callStep c s log.Malformed = refusedStep 7 (s .watch) (s .table)
@@ -82,6 +82,15 @@ callStep c s (log.Open o) = refusedStep 7 (s .watch) (s .table)
 callStep c s (log.Event k) = call c s (model.event k)
 callStep c s (log.Clock x) = call c s (model.clock x)
 callStep c s (log.Forget f) = call c s (model.forget f)
+
+-- a mark or a forget, and the number that it is refused with where it is out of range
+abbrev pub callAt : Bool → ℤ → model.Call
+callAt true f = model.forget f
+callAt false x = model.clock x
+
+abbrev pub outOfRange : Bool → ℕ
+outOfRange true = 11
+outOfRange false = 8
 
 -- a line that lacks its byte 10 or has over 64 bytes
 unfoldable pub unformedRun : Stage → Run → Run
@@ -172,9 +181,9 @@ fedAll b (piece ∷ pieces) = fedAll (fed b piece) pieces
 -- what a finished run comes to
 unfoldable pub outcomeOf : Stage → Run → List ℤ → Outcome
 outcomeOf Refused r t = refused (r .refusal) (r .line)
-outcomeOf Entries r t = listed (rowsIn (r .watch .rows) t)
-outcomeOf Opening r t = listed (rowsIn (r .watch .rows) t)
-outcomeOf Calls r t = listed (rowsIn (r .watch .rows) t)
+outcomeOf Entries r t = listed (rowsIn (r .watch .state .rows) t)
+outcomeOf Opening r t = listed (rowsIn (r .watch .state .rows) t)
+outcomeOf Calls r t = listed (rowsIn (r .watch .state .rows) t)
 
 abbrev pub resultOf : Progress → Outcome
 resultOf p = outcomeOf (p .run .stage) (p .run) (p .table)
@@ -235,15 +244,15 @@ finishedRun r kept = cond (eqb kept 0) (endRun (r .stage) r) (unformedRun (r .st
 -- what a run prints, and how many bytes
 unfoldable pub lengthAt : Stage → Run → List ℤ → List ℕ → ℕ
 lengthAt Refused r t out = refusalLength (r .refusal) (r .line) out
-lengthAt Entries r t out = listingLength (r .watch .rows) t out
-lengthAt Opening r t out = listingLength (r .watch .rows) t out
-lengthAt Calls r t out = listingLength (r .watch .rows) t out
+lengthAt Entries r t out = listingLength (r .watch .state .rows) t out
+lengthAt Opening r t out = listingLength (r .watch .state .rows) t out
+lengthAt Calls r t out = listingLength (r .watch .state .rows) t out
 
 unfoldable pub outputAt : Stage → Run → List ℤ → List ℕ → List ℕ
 outputAt Refused r t out = refusalOutput (r .refusal) (r .line) out
-outputAt Entries r t out = listingOutput (r .watch .rows) t out
-outputAt Opening r t out = listingOutput (r .watch .rows) t out
-outputAt Calls r t out = listingOutput (r .watch .rows) t out
+outputAt Entries r t out = listingOutput (r .watch .state .rows) t out
+outputAt Opening r t out = listingOutput (r .watch .state .rows) t out
+outputAt Calls r t out = listingOutput (r .watch .state .rows) t out
 
 abbrev pub printedLength : Run → List ℤ → List ℕ → ℕ
 printedLength r t out = lengthAt (r .stage) r t out

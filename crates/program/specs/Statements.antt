@@ -7,7 +7,7 @@ use lib.Dec.{leb}
 use lib.IntN.{ℤ}
 use lib.ListN.{length, drop}
 use Rattle.printing.specs.Listing.{lengthWhere, outputWhere}
-use Rattle.watch.specs.Steps.{roomIn}
+use Rattle.table.specs.Table.{roomIn}
 use Rattle.program.specs.Outcomes.{printedFor}
 use Rattle.program.specs.Runs.{Progress, Between, startRun, fedAll, finished, printedLength, printedOutput}
 

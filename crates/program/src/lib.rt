@@ -8,10 +8,11 @@ ghost use lib.ListN.{length, drop};
 ghost use Rattle.text.specs.Text.{whole, lineSize};
 ghost use Rattle.chart.specs.Charts.{isUsable, readLines};
 ghost use Rattle.log.specs.Log.{callOf};
-ghost use Rattle.watch.specs.Steps.{checkNumber, openingStep, clockStep, forgetStep};
+ghost use Rattle.watch.specs.Steps.{checkNumber, openingStep};
+ghost use Rattle.watch.specs.Histories.{call};
 ghost use Rattle.program.specs.Outcomes.{isEmpty};
 ghost use Rattle.program.specs.Statements.{listedLength, listedTable, listedOutput};
-ghost use Rattle.program.specs.Runs.{startRun, refusedRun, nextRun, entryRun, chartEnd, unformedRun, stepped, openingLine, callStep, callsRun, afterLine, afterBytes, isEarly, isRefused, keptOf, endRun, finishedRun, Reached, Read, HasLines, HasFew, settledAt, settledGoing, restLength, restMoved, printedLength, printedOutput};
+ghost use Rattle.program.specs.Runs.{startRun, refusedRun, nextRun, entryRun, chartEnd, unformedRun, stepped, openingLine, callStep, callAt, outOfRange, callsRun, afterLine, afterBytes, isEarly, isRefused, keptOf, endRun, finishedRun, Reached, Read, HasLines, HasFew, settledAt, settledGoing, restLength, restMoved, printedLength, printedOutput};
 use chart::Chart;
 use log::Call;
 use watch::Answer;
@@ -50,14 +51,7 @@ pub fn start() -> Run
         refusal: 0,
         line: 0,
         chart: chart::no_entries(),
-        watch: Watch {
-            instant: 0,
-            floor: interval::first_floor(),
-            events: 0,
-            rows: 0,
-            pending: 0,
-            codes: [0u8; 64],
-        },
+        watch: Watch::empty(0),
     }
 }
 
@@ -152,7 +146,8 @@ impl Run {
     {
         let stage = self.stage;
         let watch = self.watch;
-        let rows = watch.rows;
+        let state = watch.state;
+        let rows = state.rows;
         match stage {
             Stage::Refused => printing::write_refusal(self.refusal, self.line, out),
             Stage::Entries => printing::write_listing(table, rows, out),
@@ -435,37 +430,39 @@ fn stopped_run(chart: Chart, watch: Watch, refusal: u32, line: u64) -> Run
 
 // A line of the log after its opening, without its byte 10, on a watch and table that are consistent.
 fn call_line(chart: Chart, watch: Watch, table: &mut [i32], s: &[u8]) -> Answer
-    requires { ⌜ checkNumber chart watch (now table) ≡ 0 ⌝ }
-    ensures { λ r. ⌜ record { answer = r; table = now (table .exit) } ≡ callStep chart (record { watch = watch; table = now (table .entry) }) (callOf (now (s .entry))) ⌝ }
+    requires { ⌜ checkNumber chart (watch .state) (now table) ≡ 0 ⌝ }
+    ensures { λ r. ⌜ record { answer = r; table = now (table .exit) } ≡ callStep chart (record { watch = watch .state; table = now (table .entry) }) (callOf (now (s .entry))) ⌝ }
 {
     let c = log::read_call(s);
     match c {
         Call::Event(k) => watch.event_unchecked(chart, table, k),
-        Call::Clock(x) => clock_at(chart, watch, table, x),
-        Call::Forget(f) => forget_at(chart, watch, table, f),
+        Call::Clock(x) => call_at(chart, watch, table, x, false),
+        Call::Forget(f) => call_at(chart, watch, table, f, true),
         Call::Malformed => Answer { refusal: 7, watch },
         Call::Open(_) => Answer { refusal: 7, watch },
     }
 }
 
-// A clock mark at a number that may be no instant.
-fn clock_at(chart: Chart, watch: Watch, table: &mut [i32], x: i64) -> Answer
-    requires { ⌜ checkNumber chart watch (now table) ≡ 0 ⌝ }
-    ensures { λ r. ⌜ record { answer = r; table = now (table .exit) } ≡ clockStep chart watch (now (table .entry)) x ⌝ }
+// A clock mark, or a forget, at a number that may be no instant.
+fn call_at(chart: Chart, watch: Watch, table: &mut [i32], x: i64, forget: bool) -> Answer
+    requires { ⌜ checkNumber chart (watch .state) (now table) ≡ 0 ⌝ }
+    ensures { λ r. ⌜ record { answer = r; table = now (table .exit) } ≡ call chart (record { watch = watch .state; table = now (table .entry) }) (callAt forget x) ⌝ }
 {
     if !interval::is_wide_instant(x) {
-        return Answer { refusal: 8, watch };
+        return Answer {
+            refusal: out_of_range(forget),
+            watch,
+        };
+    }
+    if forget {
+        return watch.forget_unchecked(chart, table, x as i32);
     }
     watch.clock_unchecked(chart, table, x as i32)
 }
 
-// A forget at a number that may be no instant.
-fn forget_at(chart: Chart, watch: Watch, table: &mut [i32], f: i64) -> Answer
-    requires { ⌜ checkNumber chart watch (now table) ≡ 0 ⌝ }
-    ensures { λ r. ⌜ record { answer = r; table = now (table .exit) } ≡ forgetStep chart watch (now (table .entry)) f ⌝ }
+// The number that a mark or a forget is refused with where it is out of range.
+fn out_of_range(forget: bool) -> u32
+    ensures { λ r. ⌜ r ≡ outOfRange forget ⌝ }
 {
-    if !interval::is_wide_instant(f) {
-        return Answer { refusal: 11, watch };
-    }
-    watch.forget_unchecked(chart, table, f as i32)
+    if forget { 11 } else { 8 }
 }

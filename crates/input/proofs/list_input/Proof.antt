@@ -3,7 +3,7 @@ use Prim.Native.Nat.{_+_, _*_, _≤_}
 use native.Mathlib.Omega.{arith}
 use lib.ListN.{length}
 use Rattle.model.proofs.Capacity.{capacity-most}
-use Rattle.watch.specs.Steps.{roomIn}
+use Rattle.table.specs.Table.{roomIn}
 use Rattle.input.proofs.Laws.{no-room, not-listed, is-listed}
 use borrow.Author.Needs.{needs}
 use Rattle.input.proofs.list_input.Statement.{statement}

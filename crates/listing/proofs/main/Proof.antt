@@ -8,7 +8,7 @@ use lib.ListN.{length, take, length-replicate}
 use lib.Seq.{length-take-le}
 use mathlib.Core.List.{List}
 use Rattle.model.proofs.Capacity.{capacity-fits, capacity-all}
-use Rattle.watch.specs.Steps.{roomIn}
+use Rattle.table.specs.Table.{roomIn}
 use Rattle.input.specs.Inputs.{ListsInput, Listing}
 use Rattle.input.specs.declared.Listed.{Listed}
 use Rattle.input.proofs.Laws.{shown}

@@ -20,14 +20,14 @@ event-unchecked-requires c κs = search needs
 enum-known-c-2 : tie.Need-enum-known-c-2
 enum-known-c-2 c = search needs
 
-clock-at-requires : tie.Need-clock-at-requires
-clock-at-requires c κs = search needs
+call-at-requires : tie.Need-call-at-requires
+call-at-requires c κs = search needs
 
 enum-known-c-3 : tie.Need-enum-known-c-3
 enum-known-c-3 c = search needs
 
-forget-at-requires : tie.Need-forget-at-requires
-forget-at-requires c κs = search needs
+call-at-requires-2 : tie.Need-call-at-requires-2
+call-at-requires-2 c κs = search needs
 
 enum-told : tie.Need-enum-told
 enum-told c = search needs
@@ -51,7 +51,7 @@ returns-2 : tie.Need-returns-2
 returns-2 c =
     let k = c .before .before .before .before in
     let fits : SFits w64 (k .c2 .given .0 .0) = record { sfits = c .before .before .before .known-told2 .given .0 .1 } in
-    call-clock _ _ _ _ _ _ _ (sym (k .before .before .read-call .ensures .0) ∙ k .c2 .given .1) (simp (same64 _ fits) at (c .before .clock-at .ensures))
+    call-clock _ _ _ _ _ _ (sym (k .before .before .read-call .ensures .0) ∙ k .c2 .given .1) (simp (same64 _ fits) at (c .before .call-at .ensures))
 
 same-length-3 : tie.Need-same-length-3
 same-length-3 c = search needs
@@ -60,7 +60,7 @@ returns-3 : tie.Need-returns-3
 returns-3 c =
     let k = c .before .before .before .before in
     let fits : SFits w64 (k .c3 .given .0 .0) = record { sfits = c .before .before .before .known-told3 .given .0 .1 } in
-    call-forget _ _ _ _ _ _ _ (sym (k .before .before .read-call .ensures .0) ∙ k .c3 .given .1) (simp (same64 _ fits) at (c .before .forget-at .ensures))
+    call-forget _ _ _ _ _ _ (sym (k .before .before .read-call .ensures .0) ∙ k .c3 .given .1) (simp (same64 _ fits) at (c .before .call-at2 .ensures))
 
 returns-4 : tie.Need-returns-4
 returns-4 c = call-malformed _ _ _ _ (sym (c .before .before .read-call .ensures .0) ∙ c .enum-told .given .1)
@@ -76,9 +76,9 @@ call-line-spec =
     enum-known-c
     event-unchecked-requires
     enum-known-c-2
-    clock-at-requires
+    call-at-requires
     enum-known-c-3
-    forget-at-requires
+    call-at-requires-2
     enum-told
     enum-told-2
     same-length

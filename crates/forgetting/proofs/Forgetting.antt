@@ -8,7 +8,6 @@ use lib.IntN.{ℤ, natAbs}
 use lib.ListN.{length, take, drop, length-map}
 use lib.Seq.{take-at}
 use Rattle.chart.specs.declared.Chart.{Chart}
-use Rattle.chart.proofs.Usable.{usable-few}
 use Rattle.state.specs.declared.WatchState.{WatchState}
 use Rattle.model.specs.Lists.{keep}
 use Rattle.model.specs.Order.{Row}
@@ -20,10 +19,11 @@ use Rattle.table.specs.Table.{cell, tableRow, rowsIn, flat, putRows, zeroed}
 use Rattle.table.specs.Operators.{operatorsOf, aritiesOf}
 use Rattle.table.specs.Ready.{Ready}
 use Rattle.table.proofs.Laws.{zeroed-same}
+use Rattle.table.proofs.Arities.{event-arity}
+use Rattle.table.proofs.Ready.{entry-low}
 use Rattle.table.proofs.Rows.{rows-none, rows-snoc, length-rows, length-flat, puts-flat, drop-puts}
 use Rattle.forgetting.specs.Forgetting.{keptRows, forgottenTable}
 use Rattle.forgetting.specs.Walk.{eventIn, plain, plainRows, withReferences, keptBy, RowsReady, Sifted}
-use Rattle.forgetting.proofs.Events.{event-told}
 
 -- rows put from place 0 on, and zeros behind them: what stood there does not matter
 take-flat : (rs : List Row) (t : List ℤ) → length rs * 5 ≤ length t → take (length rs * 5) (putRows 0 rs t) ≡ flat rs
@@ -51,17 +51,14 @@ module _ (F G : Row → Row) (test : Row → Bool) (t : List ℤ) where
       go false = refl
 
 module _ (chart : Chart) (w : WatchState) (t : List ℤ) (f : ℤ) (ready : Ready chart (w .rows) t) (arities : List ℕ) (are : arities ≡ aritiesOf chart) where
-  entry-low : (i : ℕ) → i < w .rows → natAbs (cell t i 0) < 32
-  entry-low i h = omega (arith, ready .entryBelow i h, usable-few chart (ready .usable))
-
   is-event : (i : ℕ) → i < w .rows → eventIn arities (natAbs (cell t i 0)) ≡ isEventAt (operatorsOf chart) (natAbs (cell t i 0))
-  is-event i h = rw are (event-told chart (natAbs (cell t i 0)) (ready .entryBelow i h) (entry-low i h))
+  is-event i h = rw are (sym (event-arity chart (natAbs (cell t i 0)) (ready .entryBelow i h)))
 
   pub ready-rows : RowsReady (eventIn arities) (w .rows) t
   ready-rows = record {
     few = omega (arith, ready .fit, capacity-most (length t));
     fit = omega (arith, ready .fit, capacity-fits (length t));
-    each = λ i h. record { above = ready .entryAbove i h; below = entry-low i h; left = λ e. ready .left i h (sym (is-event i h) ∙ e); right = ready .right i h };
+    each = λ i h. record { above = ready .entryAbove i h; below = entry-low ready i h; left = λ e. ready .left i h (sym (is-event i h) ∙ e); right = ready .right i h };
   }
 
   kept-same : keptBy (eventIn arities) f (rowsIn (w .rows) t) ≡ keptRows chart w t f

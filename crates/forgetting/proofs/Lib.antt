@@ -3,5 +3,4 @@ pub mod Places
 pub mod Marks
 pub mod Walk
 pub mod Restored
-pub mod Events
 pub mod Forgetting

@@ -25,11 +25,6 @@ pub renumber-some : (g : ℕ → ℕ) (z : ℤ) → ltZ z (pos 0) ≡ false → 
 renumber-some g (pos n) e = refl
 renumber-some g (negsuc n) e = never (sym e)
 
-pub refers-below : (n : ℕ) (z : ℤ) → Refers n z → ltZ z (pos 0) ≡ false → natAbs z < n
-refers-below n (pos k) (inl p) e = let z : _≡_ {A = ℕ} 0 1 = cc in absurd (omega arith)
-refers-below n (pos k) (inr p) e = p .1
-refers-below n (negsuc k) p e = never (sym e)
-
 -- two numberings that agree below i
 renumber-same : (g h : ℕ → ℕ) (i : ℕ) (z : ℤ) → Refers i z → ((j : ℕ) → j < i → g j ≡ h j) → renumber g z ≡ renumber h z
 renumber-same g h i (negsuc n) r same = refl

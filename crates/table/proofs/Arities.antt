@@ -1,65 +1,78 @@
--- The arities of a chart's entries: filled entry by entry, they are those of its operators.
-use Prim.Native.Nat.{ℕ, zero, suc, _+_, _≤_, _<_}
+-- The arities of a chart's entries: filled entry by entry, they are those of its operators, and an event's is 0.
+use Prim.Native.Nat.{ℕ, zero, suc, _+_, _-_, _≤_, _<_}
 use native.Mathlib.Omega.{arith}
-use native.Mathlib.Nat.{zero-add}
-use native.Mathlib.Decide.{ℕ-discrete}
+use native.Mathlib.Nat.{sub-zero}
+use native.Mathlib.Numerals.{add-one}
 use mathlib.Core.Path.{_≡_, refl, sym, ap, _∙_}
-use mathlib.Core.Bool.{false}
-use mathlib.Core.List.{List, [], _∷_, map}
-use lib.ListN.{length, getD, set, replicate, length-set}
-use lib.Seq.{getD-set-same, getD-set-other, ext-getD}
-use Rattle.chart.specs.Charts.{entryAt}
+use mathlib.Core.Bool.{true}
+use mathlib.Core.List.{List, [], _∷_, _++_, map}
+use lib.Dec.{eqb}
+use lib.ListN.{length, getD, set, replicate, length-append, length-map, length-replicate, replicate-append-replicate}
+use lib.Seq.{sets, sets-eq, drop-at}
+use Rattle.chart.specs.Charts.{isUsable, entryAt}
 use Rattle.chart.specs.declared.Chart.{Chart}
-use Rattle.model.specs.Lists.{numbers}
+use Rattle.chart.proofs.Usable.{usable-few}
 use Rattle.model.specs.Recognitions.{Operator, event, related, or, absence, lasting}
-use Rattle.model.specs.RowSteps.{isEventAt}
+use Rattle.model.specs.RowSteps.{isEvent, isEventAt}
 use Rattle.table.specs.Operators.{entryOperator, operatorsOf, arityOf, aritiesOf}
-use Rattle.table.proofs.Operators.{operator-at}
+use Rattle.table.proofs.Operators.{operatorsFrom, operators-all, length-operators}
 
-made-at : {A : Type 0} (f : ℕ → A) (d : A) (a n k : ℕ) → k < n → getD (map f (numbers a n)) k d ≡ f (a + k)
-made-at f d a zero k h = absurd (omega arith)
-made-at f d a (suc n) zero h = let e : a ≡ a + 0 = omega arith in ap f e
-made-at f d a (suc n) (suc k) h = let e : suc a + k ≡ a + suc k = omega arith in made-at f d (suc a) n k (omega arith) ∙ ap f e
+-- the zeros behind tell nothing of an entry
+padded-at : (l : List ℕ) (n k : ℕ) → getD (l ++ replicate n 0) k 0 ≡ getD l k 0
+padded-at [] zero k = refl
+padded-at [] (suc n) zero = refl
+padded-at [] (suc n) (suc k) = padded-at [] n k
+padded-at (x ∷ l) n zero = refl
+padded-at (x ∷ l) n (suc k) = padded-at l n k
 
-arity-at : (chart : Chart) (k : ℕ) → k < 32 → getD (aritiesOf chart) k 0 ≡ arityOf (entryOperator (entryAt chart k))
+pub same-arity : (chart : Chart) (k : ℕ) → getD (aritiesOf chart) k 0 ≡ getD (map arityOf (operatorsOf chart)) k 0
 unfolding aritiesOf
-arity-at chart k h =
-    let f : ℕ → ℕ = λ n. arityOf (entryOperator (entryAt chart n)) in
-    made-at f 0 0 32 k h ∙ ap f (zero-add k)
+same-arity chart k = padded-at (map arityOf (operatorsOf chart)) (32 - chart .count) k
 
-pub same-arity : (chart : Chart) (k : ℕ) → k < chart .count → k < 32 → getD (aritiesOf chart) k 0 ≡ getD (map arityOf (operatorsOf chart)) k 0
-same-arity chart k h l =
-    let look : List Operator → ℕ → ℕ = λ ops n. getD (map arityOf ops) n 0 in
-    arity-at chart k l ∙ sym (operator-at look arityOf 0 (record { none = λ n. refl; first = λ op ops. refl; later = λ op ops n. refl }) chart k h)
-
--- a row that is written with references is no event's
-pub no-event : (ops : List Operator) (n : ℕ) → (getD (map arityOf ops) n 0 ≡ 0 → ⊥) → isEventAt ops n ≡ false
+-- an event's row is written with no reference, and no other is so
+pub event-none : (o : Operator) → isEvent o ≡ eqb (arityOf o) 0
 unfolding arityOf
-no-event [] n h = refl
-no-event (event k ∷ ops) zero h = absurd (h refl)
-no-event (related c a b ∷ ops) zero h = refl
-no-event (or a b ∷ ops) zero h = refl
-no-event (absence c a b ∷ ops) zero h = refl
-no-event (lasting c a d ∷ ops) zero h = refl
-no-event (op ∷ ops) (suc n) h = no-event ops n h
+event-none (event k) = refl
+event-none (related c a b) = refl
+event-none (or a b) = refl
+event-none (absence c a b) = refl
+event-none (lasting c a d) = refl
 
--- the arities of the first n entries
-pub record Filled (chart : Chart) (n : ℕ) (arities : List ℕ) : Type 0 where
-  pub size : length arities ≡ 32
-  pub told : (k : ℕ) → k < n → getD arities k 0 ≡ getD (aritiesOf chart) k 0
+event-at : (ops : List Operator) (n : ℕ) → n < length ops → isEventAt ops n ≡ eqb (getD (map arityOf ops) n 0) 0
+event-at [] n h = absurd (omega arith)
+event-at (o ∷ ops) zero h = event-none o
+event-at (o ∷ ops) (suc n) h = event-at ops n (omega arith)
+
+pub event-arity : (chart : Chart) (n : ℕ) → n < chart .count → isEventAt (operatorsOf chart) n ≡ eqb (getD (aritiesOf chart) n 0) 0
+event-arity chart n h = event-at (operatorsOf chart) n (rw (length-operators chart) h) ∙ ap (λ a. eqb a 0) (sym (same-arity chart n))
+
+-- the arities from entry n on, and an array that is filled up to there
+abbrev pub aritiesFrom : Chart → ℕ → List ℕ
+aritiesFrom chart n = map arityOf (operatorsFrom chart n (chart .count - n))
+
+abbrev pub Filled : Chart → ℕ → List ℕ → Type 0
+Filled chart n arities = sets arities n (aritiesFrom chart n) ≡ aritiesOf chart
+
+sets-zeros : (l : List ℕ) (k n : ℕ) → length l + k ≡ n → sets (replicate n 0) 0 l ≡ l ++ replicate k 0
+sets-zeros l k n e =
+    let zs = replicate (length l) zero in
+    rw (← e, ← replicate-append-replicate (length l) k zero) (
+    sets-eq l (zs ++ replicate k 0) 0 (simp (length-append, length-replicate) (omega arith))
+    ∙ ap (_++_ l) (drop-at zs (replicate k 0) (0 + length l) (simp length-replicate (omega arith))))
 
 module _ (chart : Chart) where
-  pub filled-none : Filled chart 0 (replicate 32 0)
-  filled-none = record { size = refl; told = λ k h. absurd (omega arith) }
+  pub filled-none : isUsable chart ≡ true → Filled chart 0 (replicate 32 0)
+  unfolding aritiesOf
+  filled-none u =
+      rw (sub-zero (chart .count), ← operators-all chart) (sets-zeros (map arityOf (operatorsOf chart)) (32 - chart .count) 32 (omega (arith, usable-few chart u, length-map (operatorsOf chart) arityOf, length-operators chart)))
 
   module _ (n : ℕ) (arities : List ℕ) (w : Filled chart n arities) where
-    pub filled-more : n < 32 → (a : ℕ) → a ≡ arityOf (entryOperator (entryAt chart n)) → Filled chart (n + 1) (set arities n a)
-    filled-more h a e = record { size = length-set arities n a ∙ w .size; told = λ k l. go k l (ℕ-discrete k n) }
-      where
-        go : (k : ℕ) → k < n + 1 → Dec (k ≡ n) → getD (set arities n a) k 0 ≡ getD (aritiesOf chart) k 0
-        go k l (yes q) = rw q (getD-set-same arities n a 0 (omega (arith, w .size)) ∙ e ∙ sym (arity-at chart n h))
-        go k l (no q) = getD-set-other arities n k a 0 q ∙ w .told k (omega arith)
+    pub filled-more : n < chart .count → (a : ℕ) → a ≡ arityOf (entryOperator (entryAt chart n)) → Filled chart (n + 1) (set arities n a)
+    filled-more h a e =
+        let k : chart .count - n ≡ suc (chart .count - suc n) = omega arith in
+        rw (add-one n, e) (rw k at w)
 
-    pub filled-all : 32 ≤ n → arities ≡ aritiesOf chart
-    unfolding aritiesOf
-    filled-all h = ext-getD 0 arities (aritiesOf chart) (w .size) (λ k l. w .told k (omega (arith, w .size)))
+    pub filled-all : chart .count ≤ n → arities ≡ aritiesOf chart
+    filled-all h =
+        let k : chart .count - n ≡ 0 = omega arith in
+        rw k at w

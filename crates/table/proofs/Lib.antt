@@ -5,3 +5,4 @@ pub mod Operators
 pub mod Ends
 pub mod Arities
 pub mod EndParts
+pub mod Ready

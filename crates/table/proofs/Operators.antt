@@ -4,6 +4,7 @@ use native.Mathlib.Omega.{arith}
 use native.Mathlib.Nat.{add-zero, zero-add}
 use mathlib.Core.Path.{_≡_, refl, sym, ap, _∙_}
 use mathlib.Core.List.{List, [], _∷_, map}
+use lib.ListN.{length}
 use Rattle.chart.specs.Operators.{kindOf, shapeOf}
 use Rattle.chart.specs.Charts.{entryAt}
 use Rattle.chart.specs.declared.Chart.{Chart}
@@ -61,6 +62,13 @@ operatorsFrom c i k = map (λ n. entryOperator (entryAt c n)) (numbers i k)
 pub operators-all : (c : Chart) → operatorsOf c ≡ operatorsFrom c 0 (c .count)
 unfolding operatorsOf
 operators-all c = refl
+
+length-from : (c : Chart) (i k : ℕ) → length (operatorsFrom c i k) ≡ k
+length-from c i zero = refl
+length-from c i (suc k) = ap suc (length-from c (suc i) k)
+
+pub length-operators : (c : Chart) → length (operatorsOf c) ≡ c .count
+length-operators c = ap length (operators-all c) ∙ length-from c 0 (c .count)
 
 -- `look` looks up operator n of a list and hands back `of` it, or `past` where there is none
 pub record Lookup {A : Type 0} (look : List Operator → ℕ → A) (of : Operator → A) (past : A) : Type 0 where

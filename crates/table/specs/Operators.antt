@@ -1,6 +1,7 @@
 -- A chart value's operators, as the reference model has them.
-use Prim.Native.Nat.{ℕ}
-use mathlib.Core.List.{List, map}
+use Prim.Native.Nat.{ℕ, _-_}
+use mathlib.Core.List.{List, _++_, map}
+use lib.ListN.{replicate}
 use Rattle.chart.specs.Operators.{kindOf}
 use Rattle.chart.specs.Charts.{entryAt}
 use Rattle.chart.specs.declared.Chart.{Chart}
@@ -34,6 +35,6 @@ arityOf (or a b) = 2
 arityOf (absence c a b) = 1
 arityOf (lasting c a d) = 1
 
--- the arity of each of the 32 entries
+-- the arities of the chart's operators, in an array of 32: zeros follow
 unfoldable pub aritiesOf : Chart → List ℕ
-aritiesOf chart = map (λ n. arityOf (entryOperator (entryAt chart n))) (numbers 0 32)
+aritiesOf chart = map arityOf (operatorsOf chart) ++ replicate (32 - chart .count) 0

@@ -1,6 +1,6 @@
 -- The caller's table. Document 01, "Instants, events, rows": "A row is five signed 32-bit numbers: entry, left, right, start, end.
 -- Rows are numbered from 0."
-use Prim.Native.Nat.{ℕ, zero, suc, _+_, _*_, _-_}
+use Prim.Native.Nat.{ℕ, suc, _+_, _*_, _-_}
 use mathlib.Core.Bool.{Bool, cond}
 use mathlib.Core.List.{List, [], _∷_, _++_, map}
 use lib.Dec.{ltb}

@@ -7,6 +7,7 @@ ghost use Prim.Native.Nat.{_+_, _*_, _≤_};
 ghost use lib.IntN.{pos};
 ghost use lib.ListN.{length};
 ghost use lib.Signed.{leZ};
+ghost use Rattle.chart.specs.Charts.{isUsable};
 ghost use Rattle.model.specs.Capacity.{capacity};
 ghost use Rattle.table.specs.Table.{storedRow, modelRow, putRow, fill, areZeros, zeroed};
 ghost use Rattle.table.specs.Operators.{entryOperator, arityOf, aritiesOf};
@@ -152,13 +153,15 @@ fn count_ending(table: &[i32], rows: usize, e: i32, included: bool) -> usize
     low
 }
 
-// How many references the rows of each entry are written with; an event's row has none. One look at each entry.
+// How many references the rows of each entry are written with; an event's row has none. One look at each entry in use.
 pub fn arities_of(chart: Chart) -> [u8; 32]
+    requires { ⌜ isUsable chart ≡ true ⌝ }
     ensures { λ r. ⌜ r ≡ aritiesOf chart ⌝ }
 {
     let mut arities = [0u8; 32];
+    let count = chart.count;
     let mut n: usize = 0;
-    while n < 32 {
+    while n < count {
         let e = chart.entries[n];
         arities[n] = arity_of(e);
         n += 1;

@@ -3,31 +3,30 @@ use Prim.Native.Nat.{ℕ, zero, suc, _≤_, _<_}
 use native.Mathlib.Omega.{arith}
 use mathlib.Core.Path.{_≡_, refl, ap, _∙_}
 use mathlib.Core.Bool.{true, false}
-use mathlib.Core.Logic.{inl, inr}
 use mathlib.Core.List.{List, map}
 use lib.IntN.{ℤ, pos, negsuc, natAbs}
 use lib.ListN.{length}
 use lib.Signed.{leZ, ltZ}
+use borrow.Author.Tests.{le-ltb, ne-eqb}
 use mir.Syntax.{w32}
 use mir.Val.{SFits, toZ, ofZ}
 use Rattle.interval.proofs.Signed.{never, signed}
 use Rattle.interval.proofs.Machine.{same32, pos-of}
 use Rattle.chart.specs.declared.Chart.{Chart}
-use Rattle.chart.proofs.Usable.{usable-few}
 use Rattle.model.proofs.Capacity.{capacity-most, capacity-fits}
 use Rattle.table.specs.Table.{cell}
 use Rattle.table.specs.Operators.{operatorsOf, arityOf, aritiesOf}
 use Rattle.table.specs.Ready.{Ready, Refers}
-use Rattle.table.proofs.Arities.{same-arity, no-event}
+use Rattle.table.proofs.Arities.{same-arity, event-arity}
+use Rattle.table.proofs.Ready.{entry-low, refers-below}
 use Rattle.tree.specs.declared.Node.{Node}
 use Rattle.tree.specs.Tree.{arityAt, rowBytes, referenceBytes, treeWithin, treeOver, treeBytes}
 use Rattle.tree.specs.Following.{nodeAt, rowsTo, Followable}
 
 -- references
 refers-lower : (i : ℕ) (z : ℤ) → Refers i z → rowsTo z ≤ i
-refers-lower i (pos j) (inl e) = let c : _≡_ {A = ℕ} 0 1 = cc in absurd (omega arith)
-refers-lower i (pos j) (inr h) = omega arith
-refers-lower i (negsuc n) h = omega arith
+refers-lower i (pos j) r = refers-below i (pos j) r (le-ltb j 0 (omega arith))
+refers-lower i (negsuc n) r = omega arith
 
 pub rows-to : (z : ℤ) → leZ (pos 0) z ≡ true → rowsTo z ≡ suc (natAbs z)
 rows-to (pos i) e = refl
@@ -66,12 +65,6 @@ row-bytes arities t z w i h =
 
 -- a row in use, as a reference
 module _ (chart : Chart) (rows : ℕ) (t : List ℤ) (ready : Ready chart rows t) (i : ℕ) (low : i < rows) where
-  entry-low : (j : ℕ) → j < rows → natAbs (cell t j 0) < 32
-  entry-low j h = omega (arith, ready .entryBelow j h, usable-few chart (ready .usable))
-
-  arity-same : (j : ℕ) → j < rows → arityAt (aritiesOf chart) t j ≡ arityAt (map arityOf (operatorsOf chart)) t j
-  arity-same j h = same-arity chart (natAbs (cell t j 0)) (ready .entryBelow j h) (entry-low j h)
-
   pub row-fits : SFits w32 (pos i)
   row-fits = record { sfits = omega (arith, ready .fit, capacity-most (length t)) }
 
@@ -79,8 +72,8 @@ module _ (chart : Chart) (rows : ℕ) (t : List ℤ) (ready : Ready chart rows t
   followable = record {
     fit = omega (arith, ready .fit, capacity-fits (length t));
     entryAbove = λ j h. ready .entryAbove j (omega arith);
-    entryBelow = λ j h. entry-low j (omega arith);
-    left = λ j h d. refers-lower j (cell t j 1) (ready .left j (omega arith) (no-event (operatorsOf chart) (natAbs (cell t j 0)) (λ e. d (arity-same j (omega arith) ∙ e))));
+    entryBelow = λ j h. entry-low ready j (omega arith);
+    left = λ j h d. refers-lower j (cell t j 1) (ready .left j (omega arith) (event-arity chart (natAbs (cell t j 0)) (ready .entryBelow j (omega arith)) ∙ ne-eqb _ 0 d));
     right = λ j h. refers-lower j (cell t j 2) (ready .right j (omega arith));
   }
 
@@ -88,7 +81,7 @@ module _ (chart : Chart) (rows : ℕ) (t : List ℤ) (ready : Ready chart rows t
   pub row-reference : (arities : List ℕ) → arities ≡ aritiesOf chart → Followable arities t (toZ w32 i) × (referenceBytes (treeOver arities t) (toZ w32 i) ≡ treeBytes (operatorsOf chart) t i)
   unfolding referenceBytes treeBytes
   row-reference arities e =
-      rw (e, same32 (pos i) row-fits) (followable, same-trees (aritiesOf chart) (map arityOf (operatorsOf chart)) t (pos i) followable (λ j h. arity-same j (omega arith)) (suc i) (suc i) i (omega arith) (omega arith) (omega arith))
+      rw (e, same32 (pos i) row-fits) (followable, same-trees (aritiesOf chart) (map arityOf (operatorsOf chart)) t (pos i) followable (λ j h. same-arity chart (natAbs (cell t j 0))) (suc i) (suc i) i (omega arith) (omega arith) (omega arith))
 
 -- l is lower than z, and may be followed
 abbrev pub Follows : List ℕ → List ℤ → ℤ → ℤ → Type 0

@@ -14,8 +14,9 @@ use Rattle.interval.proofs.Machine.{same32}
 use Rattle.table.specs.declared.Row.{Row}
 use Rattle.table.specs.Table.{putRow}
 use Rattle.table.specs.Ready.{Refers}
+use Rattle.table.proofs.Ready.{refers-below}
 use Rattle.forgetting.specs.Walk.{shiftAt, HasMark}
-use Rattle.forgetting.proofs.References.{refers-below, moved-event, moved-other}
+use Rattle.forgetting.proofs.References.{moved-event, moved-other}
 use Rattle.forgetting.proofs.Marks.{pos-above}
 use Rattle.forgetting.proofs.move_row.Statement.{statement}
 use Rattle.forgetting.proofs.move_row.Tie as tie

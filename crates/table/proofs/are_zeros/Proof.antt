@@ -36,17 +36,8 @@ both-true false = refl
 loop-holds : tie.Need-loop-holds Inv-loop μ-loop
 loop-holds c = (omega arith, omega arith, refl)
 
-add-i : tie.Need-add-i Inv-loop μ-loop
-add-i c = omega arith
-
 mul-if1 : tie.Need-mul-if1 Inv-loop μ-loop
 mul-if1 c = let l = c .before in omega (arith, l .before .good .0 .1)
-
-shared-slice-copy-out-if1 : tie.Need-shared-slice-copy-out-if1 Inv-loop μ-loop
-shared-slice-copy-out-if1 c = omega arith
-
-loop-less : tie.Need-loop-less Inv-loop μ-loop
-loop-less c = omega arith
 
 loop-again : tie.Need-loop-again Inv-loop μ-loop
 loop-again c =
@@ -54,9 +45,6 @@ loop-again c =
     let g = l .before .args in
     let not = zeros-not (l .loop .i) (g .e) (g .t .now) (omega arith) (omega arith) (eqZ-no _ (pos 0) (fits (c .before)) zero-fits (c .if1 .taken)) in
     (omega arith, omega arith, sym (both-false (l .loop .zeros)) ∙ ap (λ b. l .loop .zeros && b) (sym not) ∙ l .loop .inv .2)
-
-loop-less-2 : tie.Need-loop-less-2 Inv-loop μ-loop
-loop-less-2 c = omega arith
 
 loop-again-2 : tie.Need-loop-again-2 Inv-loop μ-loop
 loop-again-2 c =
@@ -79,11 +67,11 @@ are-zeros-spec =
     Inv-loop
     μ-loop
     loop-holds
-    add-i
+    (λ c. omega arith)
     mul-if1
-    shared-slice-copy-out-if1
-    loop-less
+    (λ c. omega arith)
+    (λ c. omega arith)
     loop-again
-    loop-less-2
+    (λ c. omega arith)
     loop-again-2
     returns)

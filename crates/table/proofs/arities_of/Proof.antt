@@ -1,43 +1,23 @@
--- `arities_of` meets its contract: each turn sets the arity of one entry.
+-- `arities_of` meets its contract: each turn puts the arity of one entry where it belongs.
 use Prim.Native.Nat.{_-_, _≤_}
 use native.Mathlib.Omega.{arith}
 use borrow.Author.Needs.{needs}
+use Rattle.chart.proofs.Usable.{usable-few}
 use Rattle.table.proofs.Arities.{Filled, filled-none, filled-more, filled-all}
 use Rattle.table.proofs.arities_of.Statement.{statement}
 use Rattle.table.proofs.arities_of.Tie as tie
 
 abbrev Inv-loop : tie.InvT-loop
-Inv-loop chart arities₀ n₀ arities n = (n ≤ 32) × Filled chart n arities
+Inv-loop chart arities₀ count n₀ arities n = (n ≤ count) × (count ≤ 32) × Filled chart n arities
 
 abbrev μ-loop : tie.MeasureT-loop
-μ-loop chart arities₀ n₀ arities n = 32 - n
-
-loop-holds : tie.Need-loop-holds Inv-loop μ-loop
-loop-holds c = (omega arith, filled-none _)
-
-mul-e : tie.Need-mul-e Inv-loop μ-loop
-mul-e c = omega arith
-
-element-copy-out-e : tie.Need-element-copy-out-e Inv-loop μ-loop
-element-copy-out-e c = omega arith
-
-arity-of-requires : tie.Need-arity-of-requires Inv-loop μ-loop
-arity-of-requires c κs = search needs
-
-array-write-arities : tie.Need-array-write-arities Inv-loop μ-loop
-array-write-arities c = omega arith
-
-add-n : tie.Need-add-n Inv-loop μ-loop
-add-n c = omega arith
-
-loop-less : tie.Need-loop-less Inv-loop μ-loop
-loop-less c = omega arith
+μ-loop chart arities₀ count n₀ arities n = count - n
 
 loop-again : tie.Need-loop-again Inv-loop μ-loop
-loop-again c = (omega arith, filled-more _ _ _ (c .before .before .before .loop .inv .1) (omega arith) _ (c .arity-of .ensures))
-
-returns : tie.Need-returns Inv-loop μ-loop
-returns c = filled-all _ _ _ (c .before .loop .inv .1) (omega arith)
+loop-again c =
+    let i = c .before .before in
+    let w = i .before .loop .inv in
+    (omega (arith, i .loop-test .taken), w .1, filled-more _ _ _ (w .2) (i .loop-test .taken) _ (c .arity-of .ensures))
 
 pub arities-of-spec : {M : Type 1} → statement M
 arities-of-spec =
@@ -45,12 +25,12 @@ arities-of-spec =
     (tie.spec
     Inv-loop
     μ-loop
-    loop-holds
-    mul-e
-    element-copy-out-e
-    arity-of-requires
-    array-write-arities
-    add-n
-    loop-less
+    (λ c. (omega arith, usable-few _ (c .pre), filled-none _ (c .pre)))
+    (λ c. omega arith)
+    (λ c. omega arith)
+    (λ c κs. search needs)
+    (λ c. omega arith)
+    (λ c. omega arith)
+    (λ c. omega arith)
     loop-again
-    returns)
+    (λ c. filled-all _ _ _ (c .before .loop .inv .2) (c .loop-test .left)))

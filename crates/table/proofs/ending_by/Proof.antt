@@ -4,11 +4,5 @@ use borrow.Author.Needs.{needs}
 use Rattle.table.proofs.ending_by.Statement.{statement}
 use Rattle.table.proofs.ending_by.Tie as tie
 
-count-ending-requires : tie.Need-count-ending-requires
-count-ending-requires c κs = search needs
-
-returns : tie.Need-returns
-returns c = simp (same32, c .before .fits .e) at (c .count-ending .ensures)
-
 pub ending-by-spec : {M : Type 1} → statement M
-ending-by-spec = tie.close (tie.spec count-ending-requires returns)
+ending-by-spec = tie.close (tie.spec (λ c κs. search needs) (λ c. simp (same32, c .before .fits .e) at (c .count-ending .ensures)))

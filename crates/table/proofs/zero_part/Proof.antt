@@ -2,7 +2,6 @@
 use Prim.Native.Nat.{_-_, _≤_}
 use mathlib.Core.Path.{_≡_, sym, ap, _∙_}
 use native.Mathlib.Omega.{arith}
-use borrow.Author.Needs.{needs}
 use lib.IntN.{pos}
 use lib.ListN.{length, set}
 use Rattle.table.specs.Table.{zeroed}
@@ -31,9 +30,6 @@ slice-set-of-t c = omega (arith, kept (c .before))
 add-i : tie.Need-add-i Inv-loop μ-loop
 add-i c = let l = c .before in omega (arith, l .before .good .0 .0)
 
-loop-less : tie.Need-loop-less Inv-loop μ-loop
-loop-less c = omega arith
-
 loop-again : tie.Need-loop-again Inv-loop μ-loop
 loop-again c =
     let l = c .before in
@@ -58,7 +54,7 @@ zero-part-spec =
     mul-t
     slice-set-of-t
     add-i
-    loop-less
+    (λ c. omega arith)
     loop-again
     same-length
     returns)

@@ -8,6 +8,8 @@ use borrow.Author.Tests.{ltb-true, le-ltb, le-leb}
 use lib.Dec.{eqb, ltb, leb}
 use lib.IntN.{ℤ, pos, negsuc, natAbs}
 use lib.Signed.{ltZ, leZ}
+use mir.Syntax.{w32}
+use mir.Val.{SFits}
 use Rattle.interval.specs.Instants.{eqZ, least, greatest}
 use Rattle.interval.specs.Conditions.{hasLength}
 use Rattle.interval.specs.declared.LengthTest.{LengthTest}
@@ -28,8 +30,8 @@ use Rattle.table.specs.declared.Row as stored
 use Rattle.table.proofs.Rows.{row-at}
 use Rattle.table.proofs.Operators.{operator-is, Lookup, operator-at, operator-past}
 use Rattle.consistency.specs.Consistency.{isTableRowConsistent}
-use Rattle.consistency.specs.Rows.{limitsOf, exchanged, partAt, isWithin, isAfterLast, isEventRow, meetsCondition, spansParts, isSingleRow, isArmRow, isPairRow, agreesBy, isRowOf}
-use Rattle.consistency.proofs.Tests.{not-least}
+use Rattle.consistency.specs.Rows.{limitsOf, exchanged, partAt, lastEnd, isWithin, isEventRow, meetsCondition, spansParts, isSingleRow, isArmRow, isPairRow, agreesBy, isRowOf}
+use Rattle.consistency.proofs.Tests.{isAfterLast, after-last, not-least}
 
 -- Booleans
 and-false : (a : Bool) → (a && false) ≡ false
@@ -126,7 +128,7 @@ module _ (chart : Chart) (count : ℕ) (rs : List Row) (i : ℕ) (r : Row) where
   no-operator = operator-past (agreesAt count rs i r) (agrees count rs i r) false lookup chart
 
 -- the rows of a table
-ordered-is : (rows : ℕ) (t : List ℤ) (i : ℕ) → i < rows → isOrdered (rowsIn rows t) i ≡ isAfterLast t i (storedRow t i)
+ordered-is : (rows : ℕ) (t : List ℤ) (i : ℕ) → i < rows → isOrdered (rowsIn rows t) i ≡ isAfterLast t i (cell t i 4)
 unfolding isAfterLast
 ordered-is rows t zero h = refl
 ordered-is rows t (suc i) h = ap₂ (λ p q. leZ (p .end) (q .end)) (row-at rows i t (omega arith)) (row-at rows (suc i) t h)
@@ -142,18 +144,18 @@ module _ (chart : Chart) (w : WatchState) (t : List ℤ) (i : ℕ) where
 
   module _ (here : i < w .rows) where
     -- the same over the row's numbers
-    pub row-told : isRowConsistent (operatorsOf chart) (w .floor) (w .instant) (w .events) (rowsIn (w .rows) t) i ≡ (leZ (w .floor) (cell t i 3) && (ltZ (cell t i 4) (w .instant) && (isAfterLast t i (storedRow t i) && agreesAt (w .events) (rowsIn (w .rows) t) i (tableRow t i) (operatorsOf chart) (natAbs (cell t i 0)))))
+    pub row-told : isRowConsistent (operatorsOf chart) (w .floor) (w .instant) (w .events) (rowsIn (w .rows) t) i ≡ (leZ (w .floor) (cell t i 3) && (ltZ (cell t i 4) (w .instant) && (isAfterLast t i (cell t i 4) && agreesAt (w .events) (rowsIn (w .rows) t) i (tableRow t i) (operatorsOf chart) (natAbs (cell t i 0)))))
     row-told = simp (row-at (w .rows) i t here, ordered-is (w .rows) t i here)
 
     pub row-unknown : chart .count ≤ natAbs (cell t i 0) → isTableRowConsistent chart w t i ≡ false
     unfolding isTableRowConsistent
     row-unknown h = simp (row-told, no-operator chart (w .events) (rowsIn (w .rows) t) i (tableRow t i) (natAbs (cell t i 0)) h, and-false)
 
-    pub row-is : isUsable chart ≡ true → leZ (pos 0) (cell t i 0) ≡ true → natAbs (cell t i 0) < chart .count → isTableRowConsistent chart w t i ≡ isRowOf (entryAt chart (natAbs (cell t i 0))) (limitsOf w) t i (storedRow t i)
+    pub row-is : isUsable chart ≡ true → SFits w32 (cell t i 4) → leZ (pos 0) (cell t i 0) ≡ true → natAbs (cell t i 0) < chart .count → isTableRowConsistent chart w t i ≡ isRowOf (entryAt chart (natAbs (cell t i 0))) (limitsOf w (lastEnd t i)) t i (storedRow t i)
     unfolding isTableRowConsistent isRowOf isWithin
-    row-is u e h =
+    row-is u f e h =
         let n = natAbs (cell t i 0) in
         let m = entryAt chart n in
         let rs = rowsIn (w .rows) t in
         let fits : inRange (kindOf (m .op)) (m .a) (m .b) ≡ true = fits-range n m (usable-fits chart u n h) in
-        simp (e, row-told, at-entry chart (w .events) rs i (tableRow t i) n h, agrees-is (w .events) rs t i (λ j g. row-at (w .rows) j t (omega arith)) (storedRow t i) (kindOf (m .op)) (m .a) (m .b) fits, and-group)
+        simp (e, row-told, after-last t i (cell t i 4) f, at-entry chart (w .events) rs i (tableRow t i) n h, agrees-is (w .events) rs t i (λ j g. row-at (w .rows) j t (omega arith)) (storedRow t i) (kindOf (m .op)) (m .a) (m .b) fits, and-group)

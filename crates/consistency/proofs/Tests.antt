@@ -1,5 +1,5 @@
 -- The tests of one row, by the ways the code goes through them.
-use Prim.Native.Nat.{ℕ, zero, suc, _-_, _<_, _^_}
+use Prim.Native.Nat.{ℕ, zero, suc, _+_, _<_, _^_}
 use mathlib.Core.Path.{_≡_, refl, sym, _∙_}
 use mathlib.Core.Bool.{Bool, true, false, not}
 use mathlib.Core.List.{List}
@@ -10,10 +10,12 @@ use lib.Signed.{ltZ, leZ, mag}
 use mir.Syntax.{w32}
 use mir.Val.{SFits}
 use Rattle.interval.proofs.Signed.{signed}
+use Rattle.interval.proofs.Machine.{fits32}
 use Rattle.model.specs.Order.{none}
 use Rattle.table.specs.Table.{cell}
 use Rattle.table.specs.declared.Row.{Row}
-use Rattle.consistency.specs.Rows.{isAfterLast}
+use Rattle.consistency.specs.Rows.{lastEnd}
+use Rattle.consistency.specs.declared.Limits.{Limits}
 
 -- a test that a function made, whose result r is a
 pub failed : {a r : Bool} → r ≡ a → not r ≡ true → a ≡ false
@@ -29,11 +31,19 @@ not-below a b e = omega (arith, signed)
 pub not-least : (a b : ℤ) → ltZ a b ≡ true → leZ b a ≡ false
 not-least a b e = omega (arith, signed)
 
--- the row before row i
-pub after-last : (t : List ℤ) (i : ℕ) (r : Row) → (i ≡ 0 → ⊥) → isAfterLast t i r ≡ leZ (cell t (i - 1) 4) (r .end)
-unfolding isAfterLast
-after-last t zero r h = absurd (h refl)
-after-last t (suc i) r h = let p : suc i - 1 ≡ i = omega arith in rw p
+-- row i is not before the row before it; the same by the number the code holds
+unfoldable pub isAfterLast : List ℤ → ℕ → ℤ → Bool
+isAfterLast t zero e = true
+isAfterLast t (suc i) e = leZ (cell t i 4) e
+
+pub after-last : (t : List ℤ) (i : ℕ) (e : ℤ) → SFits w32 e → leZ (lastEnd t i) e ≡ isAfterLast t i e
+unfolding lastEnd isAfterLast
+after-last t zero e f = omega (arith, signed, fits32 e f)
+after-last t (suc i) e f = refl
+
+pub last-next : (t : List ℤ) (i : ℕ) → lastEnd t (i + 1) ≡ cell t i 4
+unfolding lastEnd
+last-next t i = let p : i + 1 ≡ suc i = omega arith in rw p
 
 pub none-fits : SFits w32 none
 none-fits = record { sfits = omega arith }
@@ -49,6 +59,11 @@ pub record Numbers (r : Row) : Type 0 where
 pub numbers : {A B C D E F : Type 0} (r : Row) → ((A × (mag (r .entry) < 2 ^ 31)) × ((B × (mag (r .left) < 2 ^ 31)) × ((C × (mag (r .right) < 2 ^ 31)) × ((D × (mag (r .start) < 2 ^ 31)) × ((E × (mag (r .end) < 2 ^ 31)) × F))))) → Numbers r
 numbers r f = record { entry = record { sfits = f .0 .1 }; left = record { sfits = f .1 .0 .1 }; right = record { sfits = f .1 .1 .0 .1 }; start = record { sfits = f .1 .1 .1 .0 .1 }; end = record { sfits = f .1 .1 .1 .1 .0 .1 } }
 
--- and of two numbers in front of others
-pub first-two : {A B C : Type 0} (x y : ℤ) → ((A × (mag x < 2 ^ 31)) × ((B × (mag y < 2 ^ 31)) × C)) → (SFits w32 x) × (SFits w32 y)
-first-two x y f = (record { sfits = f .0 .1 }, record { sfits = f .1 .0 .1 })
+-- and of limits, in front of a count
+pub record Instants (l : Limits) : Type 0 where
+  pub instant : SFits w32 (l .instant)
+  pub floor : SFits w32 (l .floor)
+  pub last : SFits w32 (l .last)
+
+pub instants : {A B C D : Type 0} (l : Limits) → ((A × (mag (l .instant) < 2 ^ 31)) × ((B × (mag (l .floor) < 2 ^ 31)) × ((C × (mag (l .last) < 2 ^ 31)) × D))) → Instants l
+instants l f = record { instant = record { sfits = f .0 .1 }; floor = record { sfits = f .1 .0 .1 }; last = record { sfits = f .1 .1 .0 .1 } }

@@ -27,7 +27,7 @@ use Rattle.table.specs.Operators.{operatorsOf}
 use Rattle.table.specs.Ready.{Ready, EndBefore}
 use Rattle.table.proofs.Rows.{row-at}
 use Rattle.consistency.specs.Consistency.{isWatchInRange, isTableRowConsistent, areConsistent}
-use Rattle.consistency.specs.Rows.{isAfterLast}
+use Rattle.consistency.proofs.Tests.{isAfterLast}
 use Rattle.consistency.proofs.Rows.{and-group, no-operator, row-above, row-told}
 use Rattle.consistency.proofs.Ready.{Shape, shape-at}
 
@@ -42,7 +42,7 @@ module _ (chart : Chart) (w : WatchState) (t : List ℤ) where
   record Told (i : ℕ) : Type 0 where
     entry : leZ (pos 0) (cell t i 0) ≡ true
     ended : ltZ (cell t i 4) (w .instant) ≡ true
-    after : isAfterLast t i (storedRow t i) ≡ true
+    after : isAfterLast t i (cell t i 4) ≡ true
     agreed : agreesAt (w .events) rs i (tableRow t i) (operatorsOf chart) (natAbs (cell t i 0)) ≡ true
 
   module _ (all : allBelow (w .rows) (isTableRowConsistent chart w t) ≡ true) where
@@ -51,7 +51,7 @@ module _ (chart : Chart) (w : WatchState) (t : List ℤ) where
     told i h =
         let e = at-place (w .rows) (isTableRowConsistent chart w t) all i h in
         let a = leZ (pos 0) (cell t i 0) in
-        let q = all4 (leZ (w .floor) (cell t i 3)) (ltZ (cell t i 4) (w .instant)) (isAfterLast t i (storedRow t i)) (agreesAt (w .events) rs i (tableRow t i) (operatorsOf chart) (natAbs (cell t i 0))) (sym (row-told chart w t i h) ∙ and-second a _ e) in
+        let q = all4 (leZ (w .floor) (cell t i 3)) (ltZ (cell t i 4) (w .instant)) (isAfterLast t i (cell t i 4)) (agreesAt (w .events) rs i (tableRow t i) (operatorsOf chart) (natAbs (cell t i 0))) (sym (row-told chart w t i h) ∙ and-second a _ e) in
         record { entry = row-above chart w t i e; ended = q .1; after = q .2; agreed = q .3 }
 
     shape : (i : ℕ) → i < w .rows → Shape rs i (tableRow t i) (isEventAt (operatorsOf chart) (natAbs (cell t i 0)))

@@ -6,7 +6,7 @@ use mathlib.Core.Path.{_≡_}
 use mathlib.Core.Bool.{Bool, true, cond, _&&_, _||_}
 use mathlib.Core.List.{List}
 use lib.Dec.{eqb, ltb, leb}
-use lib.IntN.{ℤ, pos, natAbs}
+use lib.IntN.{ℤ, pos, negsuc, natAbs}
 use lib.ListN.{length}
 use lib.Signed.{leZ, ltZ}
 use Rattle.interval.specs.Instants.{eqZ, least, greatest}
@@ -23,8 +23,16 @@ use Rattle.table.specs.Table.{cell, storedRow}
 use Rattle.table.specs.declared.Row.{Row}
 use Rattle.consistency.specs.declared.Limits.{Limits}
 
-abbrev pub limitsOf : WatchState → Limits
-limitsOf w = record { instant = w .instant; floor = w .floor; events = w .events }
+abbrev pub leastNumber : ℤ
+leastNumber = negsuc 2147483647
+
+-- the end of the row before row i; before row 0, no end is less
+unfoldable pub lastEnd : List ℤ → ℕ → ℤ
+lastEnd t zero = leastNumber
+lastEnd t (suc i) = cell t i 4
+
+abbrev pub limitsOf : WatchState → ℤ → Limits
+limitsOf w last = record { instant = w .instant; floor = w .floor; last = last; events = w .events }
 
 -- row i lies in the table, and the entries of the rows before it are no negative numbers
 pub record Reached (i : ℕ) (t : List ℤ) : Type 0 where
@@ -39,12 +47,7 @@ unfoldable pub partAt : List ℤ → ℕ → ℤ → ℕ → ℕ
 partAt t i z a = cond (leZ (pos 0) z && (ltb (natAbs z) i && eqb (natAbs (cell t (natAbs z) 0)) a)) (natAbs z) i
 
 unfoldable pub isWithin : Limits → Row → Bool
-isWithin l r = leZ (l .floor) (r .start) && ltZ (r .end) (l .instant)
-
--- its end is not before that of the row before it
-unfoldable pub isAfterLast : List ℤ → ℕ → Row → Bool
-isAfterLast t zero r = true
-isAfterLast t (suc i) r = leZ (cell t i 4) (r .end)
+isWithin l r = leZ (l .floor) (r .start) && (ltZ (r .end) (l .instant) && leZ (l .last) (r .end))
 
 unfoldable pub isEventRow : ℕ → Row → Bool
 isEventRow events r = leZ (pos 1) (r .left) && (leb (natAbs (r .left)) events && (eqZ (r .right) none && eqZ (r .start) (r .end)))
@@ -83,4 +86,4 @@ agreesBy Arms k a b events t i r = isArmRow k a b t i r
 agreesBy Double k a b events t i r = isPairRow k a b t i r
 
 unfoldable pub isRowOf : Entry → Limits → List ℤ → ℕ → Row → Bool
-isRowOf e l t i r = isWithin l r && (isAfterLast t i r && agreesBy (shapeOf (kindOf (e .op))) (kindOf (e .op)) (e .a) (e .b) (l .events) t i r)
+isRowOf e l t i r = isWithin l r && agreesBy (shapeOf (kindOf (e .op))) (kindOf (e .op)) (e .a) (e .b) (l .events) t i r

@@ -11,7 +11,7 @@ ghost use Rattle.chart.specs.Operators.{kindOf, shapeOf};
 ghost use Rattle.model.specs.Capacity.{capacity};
 ghost use Rattle.model.specs.Order.{none};
 ghost use Rattle.consistency.specs.Consistency.{areInstantsInRange, areCountsInRange, isWatchInRange, isTableRowConsistent, areConsistent};
-ghost use Rattle.consistency.specs.Rows.{limitsOf, Reached, exchanged, partAt, isWithin, isAfterLast, isEventRow, meetsCondition, spansParts, isSingleRow, isArmRow, isPairRow, agreesBy, isRowOf};
+ghost use Rattle.consistency.specs.Rows.{leastNumber, limitsOf, Reached, exchanged, partAt, isWithin, isEventRow, meetsCondition, spansParts, isSingleRow, isArmRow, isPairRow, agreesBy, isRowOf};
 use chart::Chart;
 use chart::Entry;
 use chart::operator::Kind;
@@ -19,10 +19,11 @@ use chart::operator::Shape;
 use state::WatchState;
 use table::Row;
 
-// The numbers of a watch that its rows are held against.
+// What a row is held against: the numbers of the watch, and the end of the row before it.
 struct Limits {
     instant: i32,
     floor: i32,
+    last: i32,
     events: usize,
 }
 
@@ -75,8 +76,8 @@ fn are_rows_consistent(chart: Chart, state: WatchState, t: &[i32]) -> bool
     requires { ⌜ (isUsable chart ≡ true) × (state .rows ≤ capacity (length (now t))) ⌝ }
     ensures { λ r. ⌜ r ≡ allBelow (state .rows) (isTableRowConsistent chart state (now (t .entry))) ⌝ }
 {
-    let limits = limits_of(state);
     let count = chart.count;
+    let mut limits = limits_of(state);
     let mut i: usize = 0;
     while i < state.rows {
         let row = table::row_at(t, i);
@@ -92,17 +93,20 @@ fn are_rows_consistent(chart: Chart, state: WatchState, t: &[i32]) -> bool
         if !is_row_of(e, limits, t, i, row) {
             return false;
         }
+        limits.last = row.end;
         i += 1;
     }
     true
 }
 
+// The limits of row 0: no end is before the least number.
 fn limits_of(state: WatchState) -> Limits
-    ensures { λ r. ⌜ r ≡ limitsOf state ⌝ }
+    ensures { λ r. ⌜ r ≡ limitsOf state leastNumber ⌝ }
 {
     Limits {
         instant: state.instant,
         floor: state.floor,
+        last: -2147483648,
         events: state.events,
     }
 }
@@ -115,30 +119,18 @@ fn is_row_of(e: Entry, limits: Limits, t: &[i32], i: usize, row: Row) -> bool
     if !is_within(limits, row) {
         return false;
     }
-    if !is_after_last(t, i, row) {
-        return false;
-    }
     agrees(e, limits.events, t, i, row)
 }
 
-// Whether a row starts at the floor or later and ends before the open instant.
+// Whether a row starts at the floor or later, and ends before the open instant and no earlier than the row before it.
 fn is_within(limits: Limits, row: Row) -> bool
     ensures { λ r. ⌜ r ≡ isWithin limits row ⌝ }
 {
     let end = row.end;
-    interval::is_no_later(limits.floor, row.start) && interval::is_before(end, limits.instant)
-}
-
-// Whether the row before row i, where there is one, ends no later than row i.
-fn is_after_last(t: &[i32], i: usize, row: Row) -> bool
-    requires { ⌜ Reached i (now t) ⌝ }
-    ensures { λ r. ⌜ r ≡ isAfterLast (now (t .entry)) i row ⌝ }
-{
-    if i == 0 {
-        return true;
+    if !interval::is_no_later(limits.floor, row.start) {
+        return false;
     }
-    let last = table::row_at(t, i - 1);
-    interval::is_no_later(last.end, row.end)
+    interval::is_before(end, limits.instant) && interval::is_no_later(limits.last, end)
 }
 
 // Whether a row's references, start, end and condition are as its entry's operator has them. By the shape, so that a new operator adds a case to

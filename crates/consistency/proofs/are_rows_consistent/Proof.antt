@@ -16,16 +16,17 @@ use Rattle.chart.proofs.Usable.{usable-few}
 use Rattle.model.proofs.Capacity.{capacity-fits}
 use Rattle.table.specs.Table.{cell}
 use Rattle.consistency.specs.Consistency.{isTableRowConsistent}
-use Rattle.consistency.proofs.Tests.{failed, passed, numbers, not-below}
+use Rattle.consistency.specs.Rows.{limitsOf, lastEnd}
+use Rattle.consistency.proofs.Tests.{failed, passed, numbers, not-below, last-next}
 use Rattle.consistency.proofs.Rows.{row-above, row-negative, row-unknown, row-is}
 use Rattle.consistency.proofs.are_rows_consistent.Statement.{statement}
 use Rattle.consistency.proofs.are_rows_consistent.Tie as tie
 
 abbrev Inv-loop : tie.InvT-loop
-Inv-loop state t chart limits count i₀ i = (i ≤ state .rows) × (allBelow i (isTableRowConsistent chart state t) ≡ true)
+Inv-loop state t chart count limits₀ i₀ limits i = (i ≤ state .rows) × (allBelow i (isTableRowConsistent chart state t) ≡ true) × (limits ≡ limitsOf state (lastEnd t i))
 
 abbrev μ-loop : tie.MeasureT-loop
-μ-loop state t chart limits count i₀ i = state .rows - i
+μ-loop state t chart count limits₀ i₀ limits i = state .rows - i
 
 -- the row read, and its entry
 room : (c : tie.Then1 Inv-loop μ-loop) → let l = c .before .before in l .loop .i * 5 + 5 ≤ length (l .before .before .args .t .now)
@@ -52,8 +53,8 @@ tested c =
     let e = d .before .before in
     let l = e .before .before .before .before in
     let s = l .before .before in
-    let same = row-is (s .args .t1) (s .args .state) (s .args .t .now) (l .loop .i) (e .before .before .if1 .taken) (s .pre .0) (above (d .before)) (rw (read e) at (d .if3 .left)) in
-    (simp (l .before .limits-of .ensures, e .before .row-at .ensures) at (simp (read e) at (c .is-row-of .ensures))) ∙ sym same
+    let same = row-is (s .args .t1) (s .args .state) (s .args .t .now) (l .loop .i) (e .before .before .if1 .taken) (s .pre .0) (rw (e .before .row-at .ensures) at ((numbers (e .before .row-at .result) (e .struct-told .given)) .end)) (above (d .before)) (rw (read e) at (d .if3 .left)) in
+    (simp (l .loop .inv .2, e .before .row-at .ensures) at (simp (read e) at (c .is-row-of .ensures))) ∙ sym same
 
 returns : tie.Need-returns Inv-loop μ-loop
 returns c =
@@ -82,14 +83,24 @@ returns-4 c =
     let all : l .loop .i ≡ l .before .before .args .state .rows = omega arith in
     sym (rw all at (l .loop .inv .1))
 
+again : tie.Need-loop-again Inv-loop μ-loop
+again c =
+    let d = c .before in
+    let l = d .before .before .before .before .before .before .before .before .before in
+    let r = d .before .before .before .before .before in
+    let f = numbers (r .before .row-at .result) (r .struct-told .given) in
+    let next : lastEnd (l .before .before .args .t .now) (l .loop .i + 1) ≡ toZ w32 (ofZ w32 (r .before .row-at .result .end)) = last-next _ (l .loop .i) ∙ sym (same32 _ (f .end) ∙ ap (λ q. q .end) (r .before .row-at .ensures)) in
+    (omega arith, one-more (l .loop .i) _ (l .loop .inv .1) (passed (tested (d .before)) (d .if4 .left)), rw (l .loop .inv .2, next))
+
 pub are-rows-consistent-spec : {M : Type 1} → statement M
+unfolding lastEnd
 are-rows-consistent-spec =
     tie.close
     (tie.spec
     Inv-loop
     μ-loop
     (λ c κs. search needs)
-    (λ c. (omega arith, none-below _))
+    (λ c. (omega arith, none-below _, c .limits-of .ensures))
     (λ c κs. room c)
     returns
     (λ c. let f = (numbers (c .before .before .row-at .result) (c .before .struct-told .given)) .entry in simp (same32, f) (cast-up _ f (rw (sym (read (c .before)) ∙ same32 _ f) at (above c))))
@@ -100,5 +111,5 @@ are-rows-consistent-spec =
     (λ c. let h = c .before .before .before .before .before .before .before in let l = h .before .before in sym (not-all (l .before .before .args .state .rows) _ (l .loop .i) (h .if1 .taken) (failed (tested (c .before)) (c .if4 .taken))))
     (λ c. omega arith)
     (λ c. omega arith)
-    (λ c. let l = c .before .before .before .before .before .before .before .before .before in (omega arith, one-more (l .loop .i) _ (l .loop .inv .1) (passed (tested (c .before)) (c .if4 .left))))
+    again
     returns-4)

@@ -8,16 +8,9 @@ use Rattle.consistency.proofs.is_row_of.Tie as tie
 returns-2 : tie.Need-returns-2
 unfolding isRowOf
 returns-2 c =
-    let d = c .before .before in
-    simp (passed (d .before .is-within .ensures) (d .if1 .left), failed (c .before .is-after-last .ensures) (c .if2 .taken))
-
-returns-3 : tie.Need-returns-3
-unfolding isRowOf
-returns-3 c =
-    let e = c .before in
-    let d = e .before .before in
-    simp (passed (d .before .is-within .ensures) (d .if1 .left), passed (e .before .is-after-last .ensures) (e .if2 .left), c .agrees .ensures)
+    let d = c .before in
+    simp (passed (d .before .is-within .ensures) (d .if1 .left), c .agrees .ensures)
 
 pub is-row-of-spec : {M : Type 1} → statement M
 unfolding isRowOf
-is-row-of-spec = tie.close (tie.spec (λ c κs. search needs) (λ c. simp (failed (c .before .is-within .ensures) (c .if1 .taken))) (λ c κs. search needs) returns-2 (λ c κs. search needs) returns-3)
+is-row-of-spec = tie.close (tie.spec (λ c κs. search needs) (λ c. simp (failed (c .before .is-within .ensures) (c .if1 .taken))) (λ c κs. search needs) returns-2)

@@ -32,6 +32,7 @@ use Rattle.watch.specs.declared.Watch.{Watch}
 use Rattle.watch.proofs.Calls.{opening-8, opening-taken}
 use Rattle.watch.proofs.Demands.{demand-3}
 use Rattle.watch.proofs.Steps.{after-none, after-more, answers-more}
+use Rattle.table.proofs.Tables as tables
 use Rattle.watch.proofs.Shown as watch
 use Rattle.log.specs.declared.Call.{Call}
 use Rattle.log.specs.declared.Call.the-variants as log
@@ -80,7 +81,7 @@ module _ (chart : Chart) (usable : isUsable chart ≡ true) (t : List ℤ) (o : 
 
   -- the rows are its rows
   same-rows : (cs : List ref.Call) → rowsIn ((history chart t o cs) .watch .rows) ((history chart t o cs) .table) ≡ rowsOf ops (modelAfter chart t o cs)
-  same-rows cs = let d = demand-3 chart usable t o inRange cs .follows in ap₂ rowsIn (d .rows) (d .table) ∙ watch.rows-flat (rowsOf ops (modelAfter chart t o cs)) _
+  same-rows cs = let d = demand-3 chart usable t o inRange cs .follows in ap₂ rowsIn (d .rows) (d .table) ∙ tables.rows-flat (rowsOf ops (modelAfter chart t o cs)) _
 
   -- a run after the opening and these calls
   abbrev playing : ℕ → ℕ → List ref.Call → Progress

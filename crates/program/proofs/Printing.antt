@@ -21,7 +21,8 @@ use Rattle.table.specs.Table.{rowsIn, roomIn}
 use Rattle.watch.specs.Steps.{Step, openingStep}
 use Rattle.watch.specs.Histories.{State, state, call}
 use Rattle.watch.proofs.History.{bounds, history-shown}
-use Rattle.watch.proofs.Lower.{usable-lower}
+use Rattle.table.proofs.Lower.{usable-lower}
+use Rattle.table.proofs.Tables as tables
 use Rattle.watch.proofs.Shown as watch
 use Rattle.watch.proofs.Steps.{opening-length}
 use Rattle.log.specs.declared.Call.{Call}
@@ -58,7 +59,7 @@ module _ (chart : Chart) (usable : isUsable chart ≡ true) (s : State) (h : OfH
   same-length : length (s .table) ≡ length (h .before)
   same-length =
       let g = capacity-fits (length (h .before)) in
-      ap (λ x. length (x .table)) is-shown ∙ watch.length-table room tail (m .rows) few ∙ omega (arith, g, length-drop (room * 5) (h .before))
+      ap (λ x. length (x .table)) is-shown ∙ tables.length-table room tail (m .rows) few ∙ omega (arith, g, length-drop (room * 5) (h .before))
 
   rows-few : s .watch .rows ≤ roomIn (s .table)
   rows-few = subst (λ n. s .watch .rows ≤ capacity n) (sym same-length) (subst (λ x. x .watch .rows ≤ room) (sym is-shown) few)
@@ -68,7 +69,7 @@ module _ (chart : Chart) (usable : isUsable chart ≡ true) (s : State) (h : OfH
   same-listing =
       ap (λ x. tableText (x .watch .rows) (x .table)) is-shown
       ∙ table-listing (m .rows) _
-      ∙ ap listingText (sym (ap (λ x. rowsIn (x .watch .rows) (x .table)) is-shown ∙ watch.rows-flat (m .rows) _))
+      ∙ ap listingText (sym (ap (λ x. rowsIn (x .watch .rows) (x .table)) is-shown ∙ tables.rows-flat (m .rows) _))
 
   pub listing-fits : (out : List ℕ) → 40 + roomIn (s .table) * 81 ≤ length out → listingFits (s .watch .rows) (s .table) out ≡ true
   listing-fits out g =

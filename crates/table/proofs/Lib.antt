@@ -6,3 +6,5 @@ pub mod Ends
 pub mod Arities
 pub mod EndParts
 pub mod Ready
+pub mod Tables
+pub mod Lower

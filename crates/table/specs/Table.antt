@@ -74,3 +74,7 @@ areZeros a e t = every (λ z. eqZ z (pos 0)) (part a e t)
 
 unfoldable pub zeroed : ℕ → ℕ → List ℤ → List ℤ
 zeroed a e t = take a t ++ (replicate (e - a) (pos 0) ++ drop e t)
+
+-- a table with these rows, of so many that it can hold, zeros for the others, and this tail
+abbrev pub tableOf : ℕ → List ℤ → List Row → List ℤ
+tableOf room tail rs = flat rs ++ (replicate ((room - length rs) * 5) (pos 0) ++ tail)

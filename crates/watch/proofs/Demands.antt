@@ -37,9 +37,10 @@ use Rattle.watch.specs.Steps.{Step, emptyWatch, openingStep, refusedStep
 use Rattle.watch.specs.Histories.{State, state, call, after, opened}
 use Rattle.state.specs.declared.WatchState.{WatchState}
 use Rattle.watch.specs.Demands.{history, modelAfter, listed, FollowsModel, isForget, nothingForgotten, HoldsRecognitions, EndPartHolds, Demand1, Demand2, Demand3}
-use Rattle.watch.proofs.Shown.{stateOf, rows-flat}
+use Rattle.table.proofs.Tables.{rows-flat}
+use Rattle.watch.proofs.Shown.{stateOf}
 use Rattle.watch.proofs.History.{history-shown, history-consistent}
-use Rattle.watch.proofs.Lower.{usable-lower}
+use Rattle.table.proofs.Lower.{usable-lower}
 use Rattle.watch.proofs.Calls.{told, opening-taken}
 use Rattle.table.proofs.EndParts.{end-part}
 use Rattle.watch.proofs.Numbers.{calls-numbered, openings-numbered, checks-numbered, trees-numbered, charts-answered, lines-answered}

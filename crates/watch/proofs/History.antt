@@ -24,7 +24,7 @@ use Rattle.model.proofs.ReferenceLaws.{run-none, run-on, run-more, numbers-none
 use Rattle.model.proofs.Steps.{consistent-told}
 use Rattle.model.proofs.Theorems as model
 use Rattle.table.specs.Operators.{operatorsOf}
-use Rattle.table.specs.Table.{areZeros, zeroed, roomIn}
+use Rattle.table.specs.Table.{areZeros, zeroed, roomIn, tableOf}
 use Rattle.table.proofs.Laws.{zeroed-is}
 use Rattle.table.proofs.Rows.{flat-none, entry-flat}
 use Rattle.consistency.proofs.Theorems.{model-consistent}
@@ -32,10 +32,10 @@ use Rattle.state.specs.State.{emptyState}
 use Rattle.consistency.specs.Consistency.{areConsistent}
 use Rattle.watch.specs.Steps.{checkNumber}
 use Rattle.watch.specs.Histories.{state, call, after, answers, opened}
-use Rattle.watch.specs.Demands.{tableOf}
-use Rattle.watch.proofs.Shown.{watchOf, stateOf, rows-flat, length-table, zeros-behind}
+use Rattle.table.proofs.Tables.{rows-flat, length-table, zeros-behind}
+use Rattle.watch.proofs.Shown.{watchOf, stateOf}
 use Rattle.watch.proofs.Stepping.{stepOf, call-shown}
-use Rattle.watch.proofs.Lower.{usable-lower}
+use Rattle.table.proofs.Lower.{usable-lower}
 use Rattle.watch.proofs.Calls.{opening-taken, check-0}
 
 -- what being consistent tells of the numbers of rows and of pending events

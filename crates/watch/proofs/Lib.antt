@@ -1,6 +1,5 @@
 pub mod Shown
 pub mod Stepping
-pub mod Lower
 pub mod History
 pub mod Numbers
 pub mod Demands

@@ -23,7 +23,7 @@ use Rattle.model.specs.RowSteps.{closeRows, forgetRows, isLate, renumberedBy, n
 use Rattle.model.proofs.History.{keep-length}
 use Rattle.model.proofs.RowStepLaws as laws
 use Rattle.model.proofs.Steps.{close-more, forget-kept}
-use Rattle.table.specs.Table.{putRows, roomIn}
+use Rattle.table.specs.Table.{putRows, roomIn, tableOf}
 use Rattle.table.specs.Operators.{operatorsOf}
 use Rattle.consistency.specs.Consistency.{areConsistent}
 use Rattle.state.specs.State.{withEvent, marked, raised}
@@ -33,8 +33,8 @@ use Rattle.watch.specs.Steps.{Step, takenStep, answered, checked, eventO
 use Rattle.closing.proofs.Entries.{closed-is}
 use Rattle.forgetting.proofs.Forgetting.{kept-is, forgotten-is}
 use Rattle.watch.specs.Histories.{call}
-use Rattle.watch.specs.Demands.{tableOf}
-use Rattle.watch.proofs.Shown.{watchOf, stateOf, rows-flat, length-table, table-more, table-less, codes-more}
+use Rattle.table.proofs.Tables.{rows-flat, length-table, table-more, table-less}
+use Rattle.watch.proofs.Shown.{watchOf, stateOf, codes-more}
 
 -- closing appends to the rows there are
 close-appends : (o : ℤ) (es : List Event) (ops : List Operator) (rs : List Row) → closeRows o es ops rs ≡ rs ++ drop (length rs) (closeRows o es ops rs)

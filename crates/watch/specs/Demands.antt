@@ -19,7 +19,7 @@ use Rattle.model.specs.Order.{before, listing, Row, asRows}
 use Rattle.model.specs.Reference.{Model, Call, opening, step, run, numbersOf, rowsOf, isAt}
 use Rattle.model.specs.Statements.{_∈_, Sorted, IsRecognition, Reads}
 use Rattle.model.specs.Reference as ref
-use Rattle.table.specs.Table.{rowsIn, flat, roomIn}
+use Rattle.table.specs.Table.{rowsIn, flat, roomIn, tableOf}
 use Rattle.table.specs.Operators.{operatorsOf}
 use Rattle.tree.specs.Tree.{recognitionBytes}
 use Rattle.watch.specs.Steps.{emptyWatch, openingStep, checkNumber, endPart, endRows, rowPart, takenTree, treeStep}
@@ -37,10 +37,6 @@ modelAfter chart t o calls = run (step (operatorsOf chart) (roomIn t)) ((opening
 -- the recognitions that the model's rows are written from, in the order of rows
 abbrev pub listed : Chart → Model → List Recognition
 listed chart m = listing (operatorsOf chart) (m .events) (m .floor) (m .openInstant)
-
--- a table with these rows, of so many that it can hold, zeros for the others, and this tail
-abbrev pub tableOf : ℕ → List ℤ → List Row → List ℤ
-tableOf room tail rs = flat rs ++ (replicate ((room - length rs) * 5) (pos 0) ++ tail)
 
 -- "After every such list, the empty one too, the watch has the book's open instant, floor, count of events, number of rows and events of the open
 -- instant in their order. The rows in use are the book's, number for number; the others are zeros; the numbers after the last row the table can

@@ -7,14 +7,8 @@ use borrow.Author.Needs.{needs}
 use Rattle.input.proofs.is_interrupted.Statement.{statement}
 use Rattle.input.proofs.is_interrupted.Tie as tie
 
-errno-requires : tie.Need-errno-requires
-errno-requires c κs = search needs
-
-returns : tie.Need-returns
-returns c = λ z. below _ ∙ simp (same64 _ (c .before .before .fits .got)) at (c .before .if1 .taken)
-
-returns-2 : tie.Need-returns-2
-returns-2 c = λ z. never z
-
 pub is-interrupted-spec : {M : Type 1} → statement M
-is-interrupted-spec = tie.close (tie.spec errno-requires returns returns-2)
+is-interrupted-spec = tie.close (tie.spec
+    (λ c κs. search needs)
+    (λ c. λ z. below _ ∙ simp (same64 _ (c .before .before .fits .got)) at (c .before .if1 .taken))
+    (λ c. λ z. never z))

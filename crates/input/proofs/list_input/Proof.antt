@@ -12,36 +12,6 @@ use Rattle.input.proofs.list_input.Tie as tie
 roomy : (c : tie.Else1) → let s = c .before .before .before in 40 + roomIn (s .args .table .now) * 81 ≤ length (s .args .out .now)
 roomy c = rw (← c .before .rows-that-fit .ensures) (c .if1 .left)
 
-rows-that-fit-requires : tie.Need-rows-that-fit-requires
-rows-that-fit-requires c κs = search needs
-
-mul-if1 : tie.Need-mul-if1
-mul-if1 c = omega (arith, c .rows-that-fit .ensures, capacity-most (length (c .before .before .args .table .now)))
-
-add-if1 : tie.Need-add-if1
-add-if1 c = omega (arith, c .rows-that-fit .ensures, capacity-most (length (c .before .before .args .table .now)))
-
-returns : tie.Need-returns
-returns c = no-room _ _ (rw (← c .before .rows-that-fit .ensures) (c .if1 .taken))
-
-play-input-requires : tie.Need-play-input-requires
-play-input-requires c κs = search needs
-
-same-length : tie.Need-same-length
-same-length c = search needs
-
-returns-2 : tie.Need-returns-2
-returns-2 c = not-listed _ _ (roomy (c .before .before .before .before)) _ _ (c .before .before .play-input .ensures) (c .if2 .taken)
-
-print-requires : tie.Need-print-requires
-print-requires c κs = search needs
-
-same-length-2 : tie.Need-same-length-2
-same-length-2 c = search needs
-
-same-length-3 : tie.Need-same-length-3
-same-length-3 c = search needs
-
 returns-3 : tie.Need-returns-3
 returns-3 c =
     let p = c .before .before .print .ensures in
@@ -49,17 +19,11 @@ returns-3 c =
     is-listed _ _ (roomy (e .before .before .before .before)) _ _ (e .before .before .play-input .ensures) _ _ (e .if2 .left) (p .0) (p .1)
 
 pub list-input-spec : {M : Type 1} → statement M
-list-input-spec =
-    tie.close
-    (tie.spec
-    rows-that-fit-requires
-    mul-if1
-    add-if1
-    returns
-    play-input-requires
-    same-length
-    returns-2
-    print-requires
-    same-length-2
-    same-length-3
-    returns-3)
+list-input-spec = tie.close (tie.spec
+    (λ c κs. search needs)
+    (λ c. omega (arith, c .rows-that-fit .ensures, capacity-most (length (c .before .before .args .table .now))))
+    (λ c. omega (arith, c .rows-that-fit .ensures, capacity-most (length (c .before .before .args .table .now))))
+    (λ c. no-room _ _ (rw (← c .before .rows-that-fit .ensures) (c .if1 .taken)))
+    (λ c κs. search needs) (λ c. search needs)
+    (λ c. not-listed _ _ (roomy (c .before .before .before .before)) _ _ (c .before .before .play-input .ensures) (c .if2 .taken))
+    (λ c κs. search needs) (λ c. search needs) (λ c. search needs) returns-3)

@@ -24,21 +24,6 @@ within c =
 counted : (c : tie.After-count) → let s = c .before .before .before .before in c .count .result ≡ clamped (s .args .got) (length (drop (s .args .kept) (s .args .buf .now)))
 counted c = simp (part-from, same64 _ (c .before .before .before .before .fits .got)) at (c .count .ensures .1)
 
-sub-count : tie.Need-sub-count
-sub-count c = search needs
-
-part-count-start : tie.Need-part-count-start
-part-count-start c = search needs
-
-part-count-end : tie.Need-part-count-end
-part-count-end c = search needs
-
-count-requires : tie.Need-count-requires
-count-requires c κs = search needs
-
-same-length : tie.Need-same-length
-same-length c = search needs
-
 returns : tie.Need-returns
 returns c =
     let k = c .before in
@@ -51,12 +36,6 @@ play-piece-requires c κs =
     let s = c .before .before .before .before .before .before .before in
     (omega (arith, within k, s .pre .0), s .pre .1, lines-fewer _ _ _ (omega (arith, within k)) (s .pre .2))
 
-same-length-2 : tie.Need-same-length-2
-same-length-2 c = search needs
-
-same-length-3 : tie.Need-same-length-3
-same-length-3 c = search needs
-
 returns-2 : tie.Need-returns-2
 returns-2 c =
     let pp = c .before .before .before .play-piece .ensures in
@@ -67,16 +46,6 @@ returns-2 c =
     (came-turned _ _ (s .args .kept) x _ _ _ _ _ (counted k) (c .before .before .before .before .before .before .if1 .left) (pp .0) (pp .2) (pp .3), fed-reached _ _ piece (s .pre .1) (pp .0), fed-lines _ _ (s .args .kept) _ _ x refl (within k) (pp .0), pp .1, λ z. sym (pp .2) ∙ z)
 
 pub play-got-spec : {M : Type 1} → statement M
-play-got-spec =
-    tie.close
-    (tie.spec
-    sub-count
-    part-count-start
-    part-count-end
-    count-requires
-    same-length
-    returns
-    play-piece-requires
-    same-length-2
-    same-length-3
-    returns-2)
+play-got-spec = tie.close (tie.spec
+    (λ c. search needs) (λ c. search needs) (λ c. search needs) (λ c κs. search needs) (λ c. search needs) returns play-piece-requires
+    (λ c. search needs) (λ c. search needs) returns-2)

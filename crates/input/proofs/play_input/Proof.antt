@@ -1,5 +1,5 @@
 -- `play_input` meets its contract: what it has after each turn is what some pieces come to.
-use Prim.Native.Nat.{_+_, _-_, _*_, _≤_, _<_}
+use Prim.Native.Nat.{_+_, _*_, _≤_, _<_}
 use mathlib.Core.Path.{_≡_, refl, sym, ap, _∙_, subst}
 use mathlib.Core.Bool.{false}
 use native.Mathlib.Omega.{arith}
@@ -19,20 +19,11 @@ Inv-loop table₀ buf₀ run₀ kept₀ turns₀ table buf run kept turns = (len
 abbrev μ-loop : tie.MeasureT-loop
 μ-loop table₀ buf₀ run₀ kept₀ turns₀ table buf run kept turns = turns
 
-large-buffer-requires : tie.Need-large-buffer-requires Inv-loop μ-loop
-large-buffer-requires c κs = search needs
-
-start-requires : tie.Need-start-requires Inv-loop μ-loop
-start-requires c κs = search needs
-
 loop-holds : tie.Need-loop-holds Inv-loop μ-loop
 loop-holds c =
     let s = c .before .before in
     let e = sym (c .start .ensures) in
     (refl, c .before .large-buffer .ensures, subst (λ r. Reached (record { run = r; table = s .args .table .now })) e (start-reached _), ap (λ r. isRefused (r .stage)) (c .start .ensures) ∙ start-goes, omega (arith, ap (λ r. r .line) (c .start .ensures), start-line), omega arith, fed-none _ _ (c .before .large-buffer .result) (c .start .ensures))
-
-slice-aggregate-take-piece : tie.Need-slice-aggregate-take-piece Inv-loop μ-loop
-slice-aggregate-take-piece c = c .before .before .before .loop .inv .1
 
 take-piece-requires : tie.Need-take-piece-requires Inv-loop μ-loop
 take-piece-requires c κs =
@@ -45,20 +36,11 @@ end-of-requires c κs =
     let l = c .before .before .before .before .before .before .before in
     (lines-of _ _ (λ z. omega (arith, k .ensures .2 z, l .loop .inv .4)), reached-few _ (k .ensures .1))
 
-same-length : tie.Need-same-length Inv-loop μ-loop
-same-length c = c .before .before .before .before .take-piece .kept .1 .0 ∙ c .before .before .before .before .before .before .before .before .loop .inv .0
-
 returns : tie.Need-returns Inv-loop μ-loop
 returns c =
     let k = c .before .before .before .before .take-piece in
     let v = c .before .before .before .before .before .before .before .before .loop .inv in
     ends _ _ _ _ _ (omega (arith, k .ensures .3, k .kept .1 .1 .0, v .1)) (fed-on _ _ _ _ _ (v .6) (k .ensures .0)) (c .end-of .ensures)
-
-sub-turns : tie.Need-sub-turns Inv-loop μ-loop
-sub-turns c = omega arith
-
-loop-less : tie.Need-loop-less Inv-loop μ-loop
-loop-less c = omega arith
 
 loop-again : tie.Need-loop-again Inv-loop μ-loop
 loop-again c =
@@ -67,28 +49,11 @@ loop-again c =
     let going = k .ensures .4 (c .before .if1 .left) in
     (k .kept .1 .0 ∙ v .0, v .1 ∙ sym (k .kept .1 .1 .0), k .ensures .1, going, omega (arith, k .ensures .2 going, v .4, c .before .before .before .before .before .before .before .loop-test .taken), k .ensures .3, fed-on _ _ _ _ _ (v .6) (k .ensures .0))
 
-same-length-2 : tie.Need-same-length-2 Inv-loop μ-loop
-same-length-2 c = c .before .loop .inv .0
-
-returns-2 : tie.Need-returns-2 Inv-loop μ-loop
-returns-2 c = unread _ _ _ _ (c .before .loop .inv .6) refl refl
-
 pub play-input-spec : {M : Type 1} → statement M
-play-input-spec =
-    tie.close
-    (tie.spec
-    Inv-loop
-    μ-loop
-    large-buffer-requires
-    start-requires
-    loop-holds
-    slice-aggregate-take-piece
-    take-piece-requires
-    end-of-requires
-    same-length
-    returns
-    sub-turns
-    loop-less
-    loop-again
-    same-length-2
-    returns-2)
+play-input-spec = tie.close (tie.spec
+    Inv-loop μ-loop (λ c κs. search needs) (λ c κs. search needs) loop-holds
+    (λ c. c .before .before .before .loop .inv .1)
+    take-piece-requires end-of-requires
+    (λ c. c .before .before .before .before .take-piece .kept .1 .0 ∙ c .before .before .before .before .before .before .before .before .loop .inv .0)
+    returns (λ c. omega arith) (λ c. omega arith) loop-again (λ c. c .before .loop .inv .0)
+    (λ c. unread _ _ _ _ (c .before .loop .inv .6) refl refl))

@@ -9,32 +9,6 @@ use borrow.Author.Needs.{needs}
 use Rattle.input.proofs.play_piece.Statement.{statement}
 use Rattle.input.proofs.play_piece.Tie as tie
 
-add-end : tie.Need-add-end
-add-end c = search needs
-
-slice-reshare-prefix-feed : tie.Need-slice-reshare-prefix-feed
-slice-reshare-prefix-feed c = search needs
-
-slice-aggregate-feed : tie.Need-slice-aggregate-feed
-slice-aggregate-feed c = sym (length-take-le _ _ (c .before .before .before .pre .0))
-
-feed-requires : tie.Need-feed-requires
-feed-requires c κs =
-    let s = c .before .before .before in
-    (s .pre .1, subst (λ m. HasLines (s .args .run) (m + 1)) (sym (length-take-le _ _ (s .pre .0))) (s .pre .2))
-
-keep-rest-requires : tie.Need-keep-rest-requires
-keep-rest-requires c κs = search needs
-
-is-refused-requires : tie.Need-is-refused-requires
-is-refused-requires c κs = search needs
-
-same-length : tie.Need-same-length
-same-length c = search needs
-
-same-length-2 : tie.Need-same-length-2
-same-length-2 c = search needs
-
 returns : tie.Need-returns
 returns c =
     let fe = c .before .before .before .before .before .before .before .feed .ensures in
@@ -43,15 +17,8 @@ returns c =
     (piece-fed _ _ _ _ (s .pre .0) _ _ _ _ _ (fe .0) (fe .1) (fe .2) (kr .0) (kr .1), subst (λ m. m < 64) (sym (kr .0)) (rest-few _ _ _ _ (s .pre .0) (fe .2)), c .is-refused .ensures, refl)
 
 pub play-piece-spec : {M : Type 1} → statement M
-play-piece-spec =
-    tie.close
-    (tie.spec
-    add-end
-    slice-reshare-prefix-feed
-    slice-aggregate-feed
-    feed-requires
-    keep-rest-requires
-    is-refused-requires
-    same-length
-    same-length-2
-    returns)
+play-piece-spec = tie.close (tie.spec
+    (λ c. search needs) (λ c. search needs)
+    (λ c. sym (length-take-le _ _ (c .before .before .before .pre .0)))
+    (λ c κs. let s = c .before .before .before in (s .pre .1, subst (λ m. HasLines (s .args .run) (m + 1)) (sym (length-take-le _ _ (s .pre .0))) (s .pre .2)))
+    (λ c κs. search needs) (λ c κs. search needs) (λ c. search needs) (λ c. search needs) returns)

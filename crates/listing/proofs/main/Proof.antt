@@ -36,47 +36,9 @@ module _ (c : tie.Else1) where
   front : (n ≤ length written) × Listing 3000 (take n written)
   front = printed _ _ _ _ _ (c .before .before .before .list-input .ensures) (c .if1 .left) (simp length-replicate) (simp length-replicate (omega arith))
 
-slice-aggregate-list-input : tie.Need-slice-aggregate-list-input
-slice-aggregate-list-input c = search needs
-
-slice-aggregate-list-input-2 : tie.Need-slice-aggregate-list-input-2
-slice-aggregate-list-input-2 c = search needs
-
-list-input-requires : tie.Need-list-input-requires
-list-input-requires c κs = search needs
-
-slice-aggregate-say-not-read : tie.Need-slice-aggregate-say-not-read
-slice-aggregate-say-not-read c = search needs
-
-say-not-read-requires : tie.Need-say-not-read-requires
-say-not-read-requires c κs = search needs
-
-returns : tie.Need-returns
-returns c = search needs
-
-array-share-prefix-out : tie.Need-array-share-prefix-out
-array-share-prefix-out c = front c .0
-
-slice-aggregate-write : tie.Need-slice-aggregate-write
-slice-aggregate-write c = sym (length-take-le _ _ (front (c .before) .0))
-
-write-requires : tie.Need-write-requires
-write-requires c κs = front (c .before) .1
-
-returns-2 : tie.Need-returns-2
-returns-2 c = search needs
-
 pub main-spec : {M : Type 1} → statement M
-main-spec =
-    tie.close
-    (tie.spec
-    slice-aggregate-list-input
-    slice-aggregate-list-input-2
-    list-input-requires
-    slice-aggregate-say-not-read
-    say-not-read-requires
-    returns
-    array-share-prefix-out
-    slice-aggregate-write
-    write-requires
-    returns-2)
+main-spec = tie.close (tie.spec
+    (λ c. search needs) (λ c. search needs) (λ c κs. search needs) (λ c. search needs) (λ c κs. search needs) (λ c. search needs)
+    (λ c. front c .0)
+    (λ c. sym (length-take-le _ _ (front (c .before) .0)))
+    (λ c κs. front (c .before) .1) (λ c. search needs))

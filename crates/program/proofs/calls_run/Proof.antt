@@ -4,9 +4,6 @@ use Rattle.program.specs.Runs.{callsRun}
 use Rattle.program.proofs.calls_run.Statement.{statement}
 use Rattle.program.proofs.calls_run.Tie as tie
 
-returns : tie.Need-returns
-unfolding callsRun
-returns c = refl
-
 pub calls-run-spec : {M : Type 1} → statement M
-calls-run-spec = tie.close (tie.spec returns)
+unfolding callsRun
+calls-run-spec = tie.close (tie.spec (λ c. refl))

@@ -7,18 +7,12 @@ use Rattle.program.proofs.Lines.{entries-few, opening-usable, line-room
 use Rattle.program.proofs.early_line.Statement.{statement}
 use Rattle.program.proofs.early_line.Tie as tie
 
-enum-told : tie.Need-enum-told
-enum-told c = search needs
-
 entries-line-requires : tie.Need-entries-line-requires
 unfolding isRefused
 entries-line-requires c κs =
     let s = c .before .before .before in
     let e = c .enum-told .given .1 in
     (line-room (s .args .run) Entries (s .pre .1) e refl, entries-few (s .args .run) (s .args .table .now) (s .pre .0) e)
-
-enum-told-2 : tie.Need-enum-told-2
-enum-told-2 c = search needs
 
 opening-line-requires : tie.Need-opening-line-requires
 unfolding isRefused
@@ -27,43 +21,16 @@ opening-line-requires c κs =
     let e = c .before .enum-told2 .given .1 in
     (line-room (s .args .run) Opening (s .pre .1) e refl, opening-usable (s .args .run) (s .args .table .now) (s .pre .0) e)
 
-enum-told-3 : tie.Need-enum-told-3
-enum-told-3 c = search needs
-
-enum-told-4 : tie.Need-enum-told-4
-enum-told-4 c = search needs
-
-returns : tie.Need-returns
-returns c = at-entries _ _ _ _ (c .before .enum-told .given .1) (c .entries-line .ensures)
-
-same-length : tie.Need-same-length
-same-length c = search needs
-
 returns-2 : tie.Need-returns-2
 returns-2 c =
     let k = c .before .before .before in
     at-opening _ _ _ _ _ (k .enum-told2 .given .1) (k .before .before .before .pre .3) (c .before .opening-line .ensures)
 
-returns-3 : tie.Need-returns-3
-unfolding isEarly
-returns-3 c = let s = c .before .before .before in not-early (s .args .run) Calls (s .pre .2) (c .enum-told3 .given .1) refl
-
-returns-4 : tie.Need-returns-4
-unfolding isEarly
-returns-4 c = let s = c .before .before .before in not-early (s .args .run) Refused (s .pre .2) (c .enum-told4 .given .1) refl
-
 pub early-line-spec : {M : Type 1} → statement M
-early-line-spec =
-    tie.close
-    (tie.spec
-    enum-told
-    entries-line-requires
-    enum-told-2
-    opening-line-requires
-    enum-told-3
-    enum-told-4
-    returns
-    same-length
-    returns-2
-    returns-3
-    returns-4)
+unfolding isEarly
+early-line-spec = tie.close (tie.spec
+    (λ c. search needs) entries-line-requires (λ c. search needs) opening-line-requires (λ c. search needs) (λ c. search needs)
+    (λ c. at-entries _ _ _ _ (c .before .enum-told .given .1) (c .entries-line .ensures))
+    (λ c. search needs) returns-2
+    (λ c. let s = c .before .before .before in not-early (s .args .run) Calls (s .pre .2) (c .enum-told3 .given .1) refl)
+    (λ c. let s = c .before .before .before in not-early (s .args .run) Refused (s .pre .2) (c .enum-told4 .given .1) refl))

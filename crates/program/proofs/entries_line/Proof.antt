@@ -4,17 +4,11 @@ use Rattle.program.proofs.Lines.{no-entry, chart-ends, entry-refused, e
 use Rattle.program.proofs.entries_line.Statement.{statement}
 use Rattle.program.proofs.entries_line.Tie as tie
 
-refused-run-requires : tie.Need-refused-run-requires
-refused-run-requires c κs = search needs
-
 returns : tie.Need-returns
 returns c =
     let d = c .before in
     let g = d .before .before .before .before .before .before .args in
     no-entry (g .run) _ (g .s .now) (d .before .before .if1 .taken) (d .if2 .taken) (c .refused-run .ensures)
-
-next-run-requires : tie.Need-next-run-requires
-next-run-requires c κs = search needs
 
 returns-2 : tie.Need-returns-2
 returns-2 c =
@@ -22,24 +16,12 @@ returns-2 c =
     let g = d .before .before .before .before .before .before .args in
     chart-ends (g .run) _ (g .s .now) (d .before .before .if1 .taken) (d .if2 .left) (c .next-run .ensures)
 
-add-line-requires : tie.Need-add-line-requires
-add-line-requires c κs = search needs
-
-cast-refused-run : tie.Need-cast-refused-run
-cast-refused-run c = search needs
-
-refused-run-requires-2 : tie.Need-refused-run-requires-2
-refused-run-requires-2 c κs = search needs
-
 returns-3 : tie.Need-returns-3
 returns-3 c =
     let d = c .before .before in
     let a = d .before .before in
     let s = a .before .before .before .before .before in
     entry-refused _ _ _ _ (s .pre .1) (a .add-line .ensures) (a .before .if1 .left) (d .if3 .taken) (c .refused-run2 .ensures)
-
-next-run-requires-2 : tie.Need-next-run-requires-2
-next-run-requires-2 c κs = search needs
 
 returns-4 : tie.Need-returns-4
 returns-4 c =
@@ -49,16 +31,6 @@ returns-4 c =
     entry-taken _ _ _ _ (s .pre .1) (a .add-line .ensures) (a .before .if1 .left) (d .if3 .left) (c .next-run2 .ensures)
 
 pub entries-line-spec : {M : Type 1} → statement M
-entries-line-spec =
-    tie.close
-    (tie.spec
-    refused-run-requires
-    returns
-    next-run-requires
-    returns-2
-    add-line-requires
-    cast-refused-run
-    refused-run-requires-2
-    returns-3
-    next-run-requires-2
-    returns-4)
+entries-line-spec = tie.close (tie.spec
+    (λ c κs. search needs) returns (λ c κs. search needs) returns-2 (λ c κs. search needs) (λ c. search needs) (λ c κs. search needs)
+    returns-3 (λ c κs. search needs) returns-4)

@@ -19,9 +19,6 @@ Inv-loop table₀ s chart watch₀ line₀ at₀ size₀ table watch line at siz
 abbrev μ-loop : tie.MeasureT-loop
 μ-loop table₀ s chart watch₀ line₀ at₀ size₀ table watch line at size = length s - at
 
-line-size-requires : tie.Need-line-size-requires Inv-loop μ-loop
-line-size-requires c κs = search needs
-
 loop-holds : tie.Need-loop-holds Inv-loop μ-loop
 loop-holds c =
     let s = c .before .before .before .before in
@@ -30,31 +27,10 @@ loop-holds c =
 add-end : tie.Need-add-end Inv-loop μ-loop
 add-end c = let l = c .before in omega (arith, next-inside _ _ _ _ _ (l .loop .inv .2) (l .loop .inv .1), l .before .before .before .before .before .good .1 .1 .0)
 
-sub-end : tie.Need-sub-end Inv-loop μ-loop
-sub-end c = omega (arith, c .loop-test .taken)
-
-sub-call-line : tie.Need-sub-call-line Inv-loop μ-loop
-sub-call-line c = omega (arith, c .before .loop-test .taken)
-
-part-call-line-start : tie.Need-part-call-line-start Inv-loop μ-loop
-part-call-line-start c = omega arith
-
-part-call-line-end : tie.Need-part-call-line-end Inv-loop μ-loop
-part-call-line-end c = let l = c .before .before in omega (arith, next-inside _ _ _ _ _ (l .loop .inv .2) (l .loop .inv .1))
-
-call-line-requires : tie.Need-call-line-requires Inv-loop μ-loop
-call-line-requires c κs = let l = c .before .before .before in playing-consistent _ _ _ _ (l .loop .inv .2 .reached)
-
 add-stopped-run : tie.Need-add-stopped-run Inv-loop μ-loop
 add-stopped-run c =
     let l = c .before .before .before .before .before .before in
     record { fits = line-room _ _ _ _ _ _ _ _ _ (l .loop .inv .2) (omega (arith, c .before .before .before .before .before .loop-test .taken, next-inside _ _ _ _ _ (l .loop .inv .2) (l .loop .inv .1))) (l .before .before .before .before .before .pre .2) }
-
-stopped-run-requires : tie.Need-stopped-run-requires Inv-loop μ-loop
-stopped-run-requires c κs = search needs
-
-same-length : tie.Need-same-length Inv-loop μ-loop
-same-length c = let l = c .before .before .before .before .before .before .before in c .before .before .before .call-line .kept .1 .1 .0 ∙ l .loop .inv .0
 
 returns : tie.Need-returns Inv-loop μ-loop
 returns c =
@@ -76,18 +52,6 @@ add-line c =
 add-at : tie.Need-add-at Inv-loop μ-loop
 add-at c = let l = c .before .before .before .before .before .before .before in omega (arith, next-inside _ _ _ _ _ (l .loop .inv .2) (l .loop .inv .1), l .before .before .before .before .before .good .1 .1 .0)
 
-sub-line-size : tie.Need-sub-line-size Inv-loop μ-loop
-sub-line-size c = let l = c .before .before .before .before .before .before .before in next-inside _ _ _ _ _ (l .loop .inv .2) (l .loop .inv .1)
-
-part-line-size-start : tie.Need-part-line-size-start Inv-loop μ-loop
-part-line-size-start c = let l = c .before .before .before .before .before .before .before in omega (arith, next-inside _ _ _ _ _ (l .loop .inv .2) (l .loop .inv .1))
-
-part-line-size-end : tie.Need-part-line-size-end Inv-loop μ-loop
-part-line-size-end c = search needs
-
-line-size-requires-2 : tie.Need-line-size-requires-2 Inv-loop μ-loop
-line-size-requires-2 c κs = search needs
-
 loop-less : tie.Need-loop-less Inv-loop μ-loop
 loop-less c = let l = c .before .before .before .before .before .before .before .before .before in omega (arith, c .before .before .before .before .before .before .before .before .loop-test .taken, next-inside _ _ _ _ _ (l .loop .inv .2) (l .loop .inv .1))
 
@@ -99,12 +63,6 @@ loop-again c =
     let h = l .loop .inv .2 in
     (k .kept .1 .1 .0 ∙ l .loop .inv .0, simp part-from at (c .line-size2 .ensures), read-next _ _ _ _ _ h (l .loop .inv .1) some _ (line-taken _ _ _ _ _ (next-short _ _ _ _ _ h (l .loop .inv .1) some) _ _ (k .ensures) (c .before .before .before .if1 .left)))
 
-calls-run-requires : tie.Need-calls-run-requires Inv-loop μ-loop
-calls-run-requires c κs = search needs
-
-same-length-2 : tie.Need-same-length-2 Inv-loop μ-loop
-same-length-2 c = c .before .before .loop .inv .0
-
 returns-2 : tie.Need-returns-2 Inv-loop μ-loop
 returns-2 c =
     let l = c .before .before in
@@ -114,31 +72,18 @@ returns-2 c =
     (subst (λ x. Read (record { run = x; table = s .args .table .now }) (record { run = c .calls-run .result; table = t }) (l .loop .at) (s .args .s .now)) (sym (is-playing _ _ (s .pre .1) (s .pre .0))) r, λ z. sym (l .loop .inv .1) ∙ c .before .loop-test .left)
 
 pub feed-calls-spec : {M : Type 1} → statement M
-feed-calls-spec =
-    tie.close
-    (tie.spec
-    Inv-loop
-    μ-loop
-    line-size-requires
-    loop-holds
-    add-end
-    sub-end
-    sub-call-line
-    part-call-line-start
-    part-call-line-end
-    call-line-requires
-    add-stopped-run
-    stopped-run-requires
-    same-length
-    returns
-    add-line
-    add-at
-    sub-line-size
-    part-line-size-start
-    part-line-size-end
-    line-size-requires-2
-    loop-less
-    loop-again
-    calls-run-requires
-    same-length-2
+feed-calls-spec = tie.close (tie.spec
+    Inv-loop μ-loop (λ c κs. search needs) loop-holds add-end
+    (λ c. omega (arith, c .loop-test .taken))
+    (λ c. omega (arith, c .before .loop-test .taken))
+    (λ c. omega arith)
+    (λ c. let l = c .before .before in omega (arith, next-inside _ _ _ _ _ (l .loop .inv .2) (l .loop .inv .1)))
+    (λ c κs. let l = c .before .before .before in playing-consistent _ _ _ _ (l .loop .inv .2 .reached))
+    add-stopped-run (λ c κs. search needs)
+    (λ c. let l = c .before .before .before .before .before .before .before in c .before .before .before .call-line .kept .1 .1 .0 ∙ l .loop .inv .0)
+    returns add-line add-at
+    (λ c. let l = c .before .before .before .before .before .before .before in next-inside _ _ _ _ _ (l .loop .inv .2) (l .loop .inv .1))
+    (λ c. let l = c .before .before .before .before .before .before .before in omega (arith, next-inside _ _ _ _ _ (l .loop .inv .2) (l .loop .inv .1)))
+    (λ c. search needs) (λ c κs. search needs) loop-less loop-again (λ c κs. search needs)
+    (λ c. c .before .before .loop .inv .0)
     returns-2)

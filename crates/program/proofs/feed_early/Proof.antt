@@ -19,18 +19,6 @@ Inv-loop table₀ s next₀ at₀ size₀ table next at size = (length table ≡
 abbrev μ-loop : tie.MeasureT-loop
 μ-loop table₀ s next₀ at₀ size₀ table next at size = length s - at
 
-line-size-requires : tie.Need-line-size-requires Inv-loop μ-loop
-line-size-requires c κs = search needs
-
-loop-holds : tie.Need-loop-holds Inv-loop μ-loop
-loop-holds c = let s = c .before .before in (refl, c .line-size .ensures, read-none _ _ (s .pre .0))
-
-is-early-requires : tie.Need-is-early-requires Inv-loop μ-loop
-is-early-requires c κs = search needs
-
-same-length : tie.Need-same-length Inv-loop μ-loop
-same-length c = c .before .before .before .loop .inv .0
-
 returns : tie.Need-returns Inv-loop μ-loop
 returns c =
     let l = c .before .before .before in
@@ -39,18 +27,6 @@ returns c =
 
 add-end : tie.Need-add-end Inv-loop μ-loop
 add-end c = let l = c .before .before .before in omega (arith, next-inside _ _ _ _ _ (l .loop .inv .2) (l .loop .inv .1), l .before .before .before .good .1 .1 .0)
-
-sub-end : tie.Need-sub-end Inv-loop μ-loop
-sub-end c = let l = c .before .before .before in omega (arith, c .before .before .loop-test .taken)
-
-sub-early-line : tie.Need-sub-early-line Inv-loop μ-loop
-sub-early-line c = let l = c .before .before .before .before in omega (arith, c .before .before .before .loop-test .taken)
-
-part-early-line-start : tie.Need-part-early-line-start Inv-loop μ-loop
-part-early-line-start c = omega arith
-
-part-early-line-end : tie.Need-part-early-line-end Inv-loop μ-loop
-part-early-line-end c = let l = c .before .before .before .before in omega (arith, next-inside _ _ _ _ _ (l .loop .inv .2) (l .loop .inv .1))
 
 early-line-requires : tie.Need-early-line-requires Inv-loop μ-loop
 early-line-requires c κs =
@@ -62,18 +38,6 @@ early-line-requires c κs =
 add-at : tie.Need-add-at Inv-loop μ-loop
 add-at c = let l = c .before .before .before .before .before .before .before in omega (arith, next-inside _ _ _ _ _ (l .loop .inv .2) (l .loop .inv .1), l .before .before .before .good .1 .1 .0)
 
-sub-line-size : tie.Need-sub-line-size Inv-loop μ-loop
-sub-line-size c = let l = c .before .before .before .before .before .before .before in next-inside _ _ _ _ _ (l .loop .inv .2) (l .loop .inv .1)
-
-part-line-size-start : tie.Need-part-line-size-start Inv-loop μ-loop
-part-line-size-start c = let l = c .before .before .before .before .before .before .before in omega (arith, next-inside _ _ _ _ _ (l .loop .inv .2) (l .loop .inv .1))
-
-part-line-size-end : tie.Need-part-line-size-end Inv-loop μ-loop
-part-line-size-end c = search needs
-
-line-size-requires-2 : tie.Need-line-size-requires-2 Inv-loop μ-loop
-line-size-requires-2 c κs = search needs
-
 loop-less : tie.Need-loop-less Inv-loop μ-loop
 loop-less c = let l = c .before .before .before .before .before .before .before .before .before in omega (arith, c .before .before .before .before .before .before .before .before .loop-test .taken, next-inside _ _ _ _ _ (l .loop .inv .2) (l .loop .inv .1))
 
@@ -83,35 +47,19 @@ loop-again c =
     let k = c .before .before .before .early-line in
     (k .kept .1 .0 ∙ l .loop .inv .0, simp part-from at (c .line-size2 .ensures), read-next _ _ _ _ _ (l .loop .inv .2) (l .loop .inv .1) (c .before .before .before .before .before .before .before .before .loop-test .taken) _ (k .ensures))
 
-same-length-2 : tie.Need-same-length-2 Inv-loop μ-loop
-same-length-2 c = c .before .loop .inv .0
-
-returns-2 : tie.Need-returns-2 Inv-loop μ-loop
-returns-2 c = let l = c .before in (l .loop .inv .2, λ z. sym (l .loop .inv .1) ∙ c .loop-test .left)
-
 pub feed-early-spec : {M : Type 1} → statement M
-feed-early-spec =
-    tie.close
-    (tie.spec
-    Inv-loop
-    μ-loop
-    line-size-requires
-    loop-holds
-    is-early-requires
-    same-length
-    returns
-    add-end
-    sub-end
-    sub-early-line
-    part-early-line-start
-    part-early-line-end
-    early-line-requires
-    add-at
-    sub-line-size
-    part-line-size-start
-    part-line-size-end
-    line-size-requires-2
-    loop-less
-    loop-again
-    same-length-2
-    returns-2)
+feed-early-spec = tie.close (tie.spec
+    Inv-loop μ-loop (λ c κs. search needs)
+    (λ c. let s = c .before .before in (refl, c .line-size .ensures, read-none _ _ (s .pre .0)))
+    (λ c κs. search needs)
+    (λ c. c .before .before .before .loop .inv .0)
+    returns add-end
+    (λ c. let l = c .before .before .before in omega (arith, c .before .before .loop-test .taken))
+    (λ c. let l = c .before .before .before .before in omega (arith, c .before .before .before .loop-test .taken))
+    (λ c. omega arith)
+    (λ c. let l = c .before .before .before .before in omega (arith, next-inside _ _ _ _ _ (l .loop .inv .2) (l .loop .inv .1)))
+    early-line-requires add-at
+    (λ c. let l = c .before .before .before .before .before .before .before in next-inside _ _ _ _ _ (l .loop .inv .2) (l .loop .inv .1))
+    (λ c. let l = c .before .before .before .before .before .before .before in omega (arith, next-inside _ _ _ _ _ (l .loop .inv .2) (l .loop .inv .1)))
+    (λ c. search needs) (λ c κs. search needs) loop-less loop-again (λ c. c .before .loop .inv .0)
+    (λ c. let l = c .before in (l .loop .inv .2, λ z. sym (l .loop .inv .1) ∙ c .loop-test .left)))

@@ -27,33 +27,6 @@ size c =
     let h = inside c in
     ap length (l .loop .inv .0) ∙ moved-length (g .from) (l .loop .i) (g .buf .now) (omega (arith, h))
 
-returns : tie.Need-returns Inv-loop μ-loop
-returns c = rest-outside _ _ _ (c .if1 .taken)
-
-returns-2 : tie.Need-returns-2 Inv-loop μ-loop
-returns-2 c = rest-none _ _ _ (c .before .if1 .left) (c .if2 .taken)
-
-sub-n : tie.Need-sub-n Inv-loop μ-loop
-sub-n c = let h = c .if2 .left in omega (arith, h)
-
-loop-holds : tie.Need-loop-holds Inv-loop μ-loop
-loop-holds c = (refl, omega arith)
-
-add-buf : tie.Need-add-buf Inv-loop μ-loop
-add-buf c = record { fits = omega (arith, inside c, c .before .before .before .before .good .0 .0) }
-
-slice-read-buf : tie.Need-slice-read-buf Inv-loop μ-loop
-slice-read-buf c = omega (arith, inside (c .before), size (c .before))
-
-slice-write-buf : tie.Need-slice-write-buf Inv-loop μ-loop
-slice-write-buf c = omega (arith, inside (c .before), size (c .before))
-
-add-i : tie.Need-add-i Inv-loop μ-loop
-add-i c = record { fits = omega (arith, inside (c .before), c .before .before .before .before .before .good .0 .0) }
-
-loop-less : tie.Need-loop-less Inv-loop μ-loop
-loop-less c = let t = c .before .loop-test .taken in omega (arith, t)
-
 loop-again : tie.Need-loop-again Inv-loop μ-loop
 loop-again c =
     let l = c .before .before in
@@ -77,20 +50,15 @@ returns-3 c =
     rest-moved (g .from) (g .to) (g .buf .now) (l .loop .buf) (d .before .if1 .left) (l .loop .inv .0 ∙ ap (λ n. movedTo (g .from) n (g .buf .now)) all)
 
 pub keep-rest-spec : {M : Type 1} → statement M
-keep-rest-spec =
-    tie.close
-    (tie.spec
-    Inv-loop
-    μ-loop
-    returns
-    returns-2
-    sub-n
-    loop-holds
-    add-buf
-    slice-read-buf
-    slice-write-buf
-    add-i
-    loop-less
-    loop-again
-    same-length
-    returns-3)
+keep-rest-spec = tie.close (tie.spec
+    Inv-loop μ-loop
+    (λ c. rest-outside _ _ _ (c .if1 .taken))
+    (λ c. rest-none _ _ _ (c .before .if1 .left) (c .if2 .taken))
+    (λ c. let h = c .if2 .left in omega (arith, h))
+    (λ c. (refl, omega arith))
+    (λ c. record { fits = omega (arith, inside c, c .before .before .before .before .good .0 .0) })
+    (λ c. omega (arith, inside (c .before), size (c .before)))
+    (λ c. omega (arith, inside (c .before), size (c .before)))
+    (λ c. record { fits = omega (arith, inside (c .before), c .before .before .before .before .before .good .0 .0) })
+    (λ c. let t = c .before .loop-test .taken in omega (arith, t))
+    loop-again same-length returns-3)

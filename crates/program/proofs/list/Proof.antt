@@ -1,5 +1,5 @@
 -- `list` meets its contract: the run of one piece.
-use Prim.Native.Nat.{_+_, _-_}
+use Prim.Native.Nat.{_+_}
 use mathlib.Core.Path.{sym, ap, _∙_, subst}
 use native.Mathlib.Omega.{arith}
 use lib.ListN.{length}
@@ -18,41 +18,11 @@ ready c =
     let e = sym (c .start .ensures) in
     (subst (λ r. Reached (record { run = r; table = s .args .table .now })) e (start-reached (s .args .table .now)), subst (λ r. HasLines r (length (s .args .input .now) + 1)) e (start-lines _ (omega (arith, s .good .0))))
 
-rows-that-fit-requires : tie.Need-rows-that-fit-requires
-rows-that-fit-requires c κs = search needs
-
-mul-if1 : tie.Need-mul-if1
-mul-if1 c = let s = c .before .before .before in omega (arith, c .rows-that-fit .ensures, capacity-most (length (s .args .table .now)))
-
-add-if1 : tie.Need-add-if1
-add-if1 c = let s = c .before .before .before in omega (arith, c .rows-that-fit .ensures, capacity-most (length (s .args .table .now)))
-
-returns : tie.Need-returns
-returns c = list-none _ _ _ (rw (← c .before .rows-that-fit .ensures) (c .if1 .taken))
-
-start-requires : tie.Need-start-requires
-start-requires c κs = search needs
-
-feed-requires : tie.Need-feed-requires
-feed-requires c κs = ready (c .before)
-
-sub-finish : tie.Need-sub-finish
-sub-finish c = search needs
-
 finish-requires : tie.Need-finish-requires
 finish-requires c κs =
     let k = ready (c .before .before .before .before .before) in
     let e = c .before .before .before .feed .ensures .0 in
     (bytes-lines _ _ _ (k .1) e, bytes-few _ _ _ (k .0) e)
-
-print-requires : tie.Need-print-requires
-print-requires c κs = search needs
-
-same-length : tie.Need-same-length
-same-length c = search needs
-
-same-length-2 : tie.Need-same-length-2
-same-length-2 c = search needs
 
 returns-2 : tie.Need-returns-2
 returns-2 c =
@@ -69,18 +39,10 @@ returns-2 c =
     (p .0 ∙ ap (λ r. printedLength r (fe .last .1 .0) (s .args .out .now)) fi ∙ g .0, g .1, p .1 ∙ ap (λ r. printedOutput r (fe .last .1 .0) (s .args .out .now)) fi ∙ g .2)
 
 pub list-spec : {M : Type 1} → statement M
-list-spec =
-    tie.close
-    (tie.spec
-    rows-that-fit-requires
-    mul-if1
-    add-if1
-    returns
-    start-requires
-    feed-requires
-    sub-finish
-    finish-requires
-    print-requires
-    same-length
-    same-length-2
-    returns-2)
+list-spec = tie.close (tie.spec
+    (λ c κs. search needs)
+    (λ c. let s = c .before .before .before in omega (arith, c .rows-that-fit .ensures, capacity-most (length (s .args .table .now))))
+    (λ c. let s = c .before .before .before in omega (arith, c .rows-that-fit .ensures, capacity-most (length (s .args .table .now))))
+    (λ c. list-none _ _ _ (rw (← c .before .rows-that-fit .ensures) (c .if1 .taken)))
+    (λ c κs. search needs) (λ c κs. ready (c .before)) (λ c. search needs) finish-requires (λ c κs. search needs) (λ c. search needs)
+    (λ c. search needs) returns-2)

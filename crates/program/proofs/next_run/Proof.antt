@@ -5,12 +5,6 @@ use borrow.Author.Needs.{needs}
 use Rattle.program.proofs.next_run.Statement.{statement}
 use Rattle.program.proofs.next_run.Tie as tie
 
-add-t5 : tie.Need-add-t5
-add-t5 c = search needs
-
-returns : tie.Need-returns
-unfolding nextRun
-returns c = refl
-
 pub next-run-spec : {M : Type 1} → statement M
-next-run-spec = tie.close (tie.spec add-t5 returns)
+unfolding nextRun
+next-run-spec = tie.close (tie.spec (λ c. search needs) (λ c. refl))

@@ -25,68 +25,17 @@ opened c =
     let same = same32 _ (fits d) in
     (simp (wide, same) at (c .opening .ensures .0), simp (wide, same) at (c .opening .ensures .1))
 
-is-wide-instant-requires : tie.Need-is-wide-instant-requires
-is-wide-instant-requires c κs = search needs
-
-add-refused-run : tie.Need-add-refused-run
-add-refused-run c = search needs
-
-refused-run-requires : tie.Need-refused-run-requires
-refused-run-requires c κs = search needs
-
 returns : tie.Need-returns
 returns c =
     let d = c .before .before in
     let s = d .before .before in
     open-out (s .args .run) _ (s .args .table .now) (s .args .o) (s .pre .1) (known (d .before) ∙ not-true _ (d .if1 .taken)) (c .refused-run .ensures)
 
-cast-opening : tie.Need-cast-opening
-cast-opening c = let d = c .before .before in subst (SFits w32) (sym (same64 _ (d .before .before .fits .o))) (fits d)
-
-opening-requires : tie.Need-opening-requires
-opening-requires c κs = search needs
-
-add-refused-run-2 : tie.Need-add-refused-run-2
-add-refused-run-2 c = search needs
-
-refused-run-requires-2 : tie.Need-refused-run-requires-2
-refused-run-requires-2 c κs = search needs
-
-same-length : tie.Need-same-length
-same-length c = search needs
-
-returns-2 : tie.Need-returns-2
-returns-2 c =
-    let d = c .before .before in
-    let o = d .before .before .before in
-    step-refused _ _ _ _ _ (opened o) (d .if2 .taken) (c .refused-run2 .ensures)
-
-next-run-requires : tie.Need-next-run-requires
-next-run-requires c κs = search needs
-
-same-length-2 : tie.Need-same-length-2
-same-length-2 c = search needs
-
-returns-3 : tie.Need-returns-3
-returns-3 c =
-    let d = c .before .before in
-    let o = d .before .before .before in
-    step-taken _ _ _ _ _ (opened o) (d .if2 .left) (c .next-run .ensures)
-
 pub open-at-spec : {M : Type 1} → statement M
-open-at-spec =
-    tie.close
-    (tie.spec
-    is-wide-instant-requires
-    add-refused-run
-    refused-run-requires
-    returns
-    cast-opening
-    opening-requires
-    add-refused-run-2
-    refused-run-requires-2
-    same-length
-    returns-2
-    next-run-requires
-    same-length-2
-    returns-3)
+open-at-spec = tie.close (tie.spec
+    (λ c κs. search needs) (λ c. search needs) (λ c κs. search needs) returns
+    (λ c. let d = c .before .before in subst (SFits w32) (sym (same64 _ (d .before .before .fits .o))) (fits d))
+    (λ c κs. search needs) (λ c. search needs) (λ c κs. search needs) (λ c. search needs)
+    (λ c. let d = c .before .before in let o = d .before .before .before in step-refused _ _ _ _ _ (opened o) (d .if2 .taken) (c .refused-run2 .ensures))
+    (λ c κs. search needs) (λ c. search needs)
+    (λ c. let d = c .before .before in let o = d .before .before .before in step-taken _ _ _ _ _ (opened o) (d .if2 .left) (c .next-run .ensures)))

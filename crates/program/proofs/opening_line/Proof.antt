@@ -8,54 +8,6 @@ use Rattle.program.proofs.Lines.{opening-open, opening-malformed, openi
 use Rattle.program.proofs.opening_line.Statement.{statement}
 use Rattle.program.proofs.opening_line.Tie as tie
 
-read-call-requires : tie.Need-read-call-requires
-read-call-requires c κs = search needs
-
-enum-known-c : tie.Need-enum-known-c
-enum-known-c c = search needs
-
-open-at-requires : tie.Need-open-at-requires
-open-at-requires c κs = search needs
-
-enum-told : tie.Need-enum-told
-enum-told c = search needs
-
-add-refused-run : tie.Need-add-refused-run
-add-refused-run c = search needs
-
-refused-run-requires : tie.Need-refused-run-requires
-refused-run-requires c κs = search needs
-
-enum-told-2 : tie.Need-enum-told-2
-enum-told-2 c = search needs
-
-add-refused-run-2 : tie.Need-add-refused-run-2
-add-refused-run-2 c = search needs
-
-refused-run-requires-2 : tie.Need-refused-run-requires-2
-refused-run-requires-2 c κs = search needs
-
-enum-told-3 : tie.Need-enum-told-3
-enum-told-3 c = search needs
-
-add-refused-run-3 : tie.Need-add-refused-run-3
-add-refused-run-3 c = search needs
-
-refused-run-requires-3 : tie.Need-refused-run-requires-3
-refused-run-requires-3 c κs = search needs
-
-enum-told-4 : tie.Need-enum-told-4
-enum-told-4 c = search needs
-
-add-refused-run-4 : tie.Need-add-refused-run-4
-add-refused-run-4 c = search needs
-
-refused-run-requires-4 : tie.Need-refused-run-requires-4
-refused-run-requires-4 c κs = search needs
-
-same-length : tie.Need-same-length
-same-length c = search needs
-
 returns : tie.Need-returns
 returns c =
     let k = c .before .before .before .before in
@@ -83,27 +35,7 @@ returns-5 c =
     opening-forget _ _ _ _ (c .refused-run4 .ensures) _ (sym (k .before .before .read-call .ensures .0) ∙ k .enum-told4 .given .1)
 
 pub opening-line-spec : {M : Type 1} → statement M
-opening-line-spec =
-    tie.close
-    (tie.spec
-    read-call-requires
-    enum-known-c
-    open-at-requires
-    enum-told
-    add-refused-run
-    refused-run-requires
-    enum-told-2
-    add-refused-run-2
-    refused-run-requires-2
-    enum-told-3
-    add-refused-run-3
-    refused-run-requires-3
-    enum-told-4
-    add-refused-run-4
-    refused-run-requires-4
-    same-length
-    returns
-    returns-2
-    returns-3
-    returns-4
-    returns-5)
+opening-line-spec = tie.close (tie.spec
+    (λ c κs. search needs) (λ c. search needs) (λ c κs. search needs) (λ c. search needs) (λ c. search needs) (λ c κs. search needs)
+    (λ c. search needs) (λ c. search needs) (λ c κs. search needs) (λ c. search needs) (λ c. search needs) (λ c κs. search needs)
+    (λ c. search needs) (λ c. search needs) (λ c κs. search needs) (λ c. search needs) returns returns-2 returns-3 returns-4 returns-5)

@@ -4,9 +4,6 @@ use Rattle.program.specs.Runs.{refusedRun}
 use Rattle.program.proofs.refused_run.Statement.{statement}
 use Rattle.program.proofs.refused_run.Tie as tie
 
-returns : tie.Need-returns
-unfolding refusedRun
-returns c = refl
-
 pub refused-run-spec : {M : Type 1} → statement M
-refused-run-spec = tie.close (tie.spec returns)
+unfolding refusedRun
+refused-run-spec = tie.close (tie.spec (λ c. refl))

@@ -5,31 +5,6 @@ use borrow.Author.Needs.{needs}
 use Rattle.program.proofs.settled.Statement.{statement}
 use Rattle.program.proofs.settled.Tie as tie
 
-enum-told : tie.Need-enum-told
-enum-told c = search needs
-
-enum-told-2 : tie.Need-enum-told-2
-enum-told-2 c = search needs
-
-settled-going-requires : tie.Need-settled-going-requires
-settled-going-requires c κs = search needs
-
-enum-told-3 : tie.Need-enum-told-3
-enum-told-3 c = search needs
-
-settled-going-requires-2 : tie.Need-settled-going-requires-2
-settled-going-requires-2 c κs = search needs
-
-enum-told-4 : tie.Need-enum-told-4
-enum-told-4 c = search needs
-
-settled-going-requires-3 : tie.Need-settled-going-requires-3
-settled-going-requires-3 c κs = search needs
-
-returns : tie.Need-returns
-unfolding settledAt
-returns c = sym (ap (λ s. settledAt s (c .before .before .args .run) (c .before .before .args .used) (c .before .before .args .n)) (c .enum-told .given .1))
-
 returns-2 : tie.Need-returns-2
 unfolding settledAt
 returns-2 c = c .settled-going .ensures ∙ sym (ap (λ s. settledAt s (c .before .before .before .args .run) (c .before .before .before .args .used) (c .before .before .before .args .n)) (c .before .enum-told2 .given .1))
@@ -43,17 +18,9 @@ unfolding settledAt
 returns-4 c = c .settled-going3 .ensures ∙ sym (ap (λ s. settledAt s (c .before .before .before .args .run) (c .before .before .before .args .used) (c .before .before .before .args .n)) (c .before .enum-told4 .given .1))
 
 pub settled-spec : {M : Type 1} → statement M
-settled-spec =
-    tie.close
-    (tie.spec
-    enum-told
-    enum-told-2
-    settled-going-requires
-    enum-told-3
-    settled-going-requires-2
-    enum-told-4
-    settled-going-requires-3
-    returns
-    returns-2
-    returns-3
-    returns-4)
+unfolding settledAt
+settled-spec = tie.close (tie.spec
+    (λ c. search needs) (λ c. search needs) (λ c κs. search needs) (λ c. search needs) (λ c κs. search needs) (λ c. search needs)
+    (λ c κs. search needs)
+    (λ c. sym (ap (λ s. settledAt s (c .before .before .args .run) (c .before .before .args .used) (c .before .before .args .n)) (c .enum-told .given .1)))
+    returns-2 returns-3 returns-4)

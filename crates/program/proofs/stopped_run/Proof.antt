@@ -4,9 +4,6 @@ use Rattle.program.specs.Runs.{refusedRun, callsRun}
 use Rattle.program.proofs.stopped_run.Statement.{statement}
 use Rattle.program.proofs.stopped_run.Tie as tie
 
-returns : tie.Need-returns
-unfolding refusedRun callsRun
-returns c = refl
-
 pub stopped-run-spec : {M : Type 1} → statement M
-stopped-run-spec = tie.close (tie.spec returns)
+unfolding refusedRun callsRun
+stopped-run-spec = tie.close (tie.spec (λ c. refl))

@@ -1,5 +1,5 @@
 -- `feed` meets its contract: lines before the calls, then the calls, then what is left.
-use Prim.Native.Nat.{_+_, _-_}
+use Prim.Native.Nat.{_+_}
 use mathlib.Core.Path.{_≡_, refl, sym, ap, _∙_}
 use mathlib.Core.Bool.{false}
 use native.Mathlib.Omega.{arith}
@@ -34,21 +34,6 @@ all : (c : tie.After-feed-calls) → All c
 unfolding isRefused
 all c = read-part _ _ _ _ _ _ (early (c .before .before .before .before .before .before .before)) (c .feed-calls .ensures .0) (ap isRefused (c .before .before .before .enum-told .given .1)) (c .feed-calls .ensures .1)
 
-feed-early-requires : tie.Need-feed-early-requires
-feed-early-requires c κs = let s = c .before .before in (s .pre .0, lines-fewer _ _ _ (omega arith) (s .pre .1))
-
-enum-told : tie.Need-enum-told
-enum-told c = search needs
-
-sub-feed-calls : tie.Need-sub-feed-calls
-sub-feed-calls c = omega (arith, (early (c .before .before .before .before .before)) .inside)
-
-part-feed-calls-start : tie.Need-part-feed-calls-start
-part-feed-calls-start c = search needs
-
-part-feed-calls-end : tie.Need-part-feed-calls-end
-part-feed-calls-end c = search needs
-
 feed-calls-requires : tie.Need-feed-calls-requires
 unfolding isRefused
 feed-calls-requires c κs =
@@ -70,18 +55,12 @@ settled-requires c κs =
     let s = c .before .before .before .before .before .before .before .before .before .before .before .before .before in
     (h .inside, lines-left _ _ _ _ _ _ h (omega (arith, h .inside)) (s .pre .1), reached-few _ (h .reached))
 
-enum-told-2 : tie.Need-enum-told-2
-enum-told-2 c = search needs
-
 settled-requires-2 : tie.Need-settled-requires-2
 settled-requires-2 c κs =
     let f = c .before .before .before .before in
     let s = f .before .before .before in
     let h = early f in
     (h .inside, lines-left _ _ _ _ _ _ h (omega (arith, h .inside)) (s .pre .1), reached-few _ (h .reached))
-
-enum-told-3 : tie.Need-enum-told-3
-enum-told-3 c = search needs
 
 settled-requires-3 : tie.Need-settled-requires-3
 settled-requires-3 c κs =
@@ -90,27 +69,12 @@ settled-requires-3 c κs =
     let h = early f in
     (h .inside, lines-left _ _ _ _ _ _ h (omega (arith, h .inside)) (s .pre .1), reached-few _ (h .reached))
 
-enum-told-4 : tie.Need-enum-told-4
-enum-told-4 c = search needs
-
 settled-requires-4 : tie.Need-settled-requires-4
 settled-requires-4 c κs =
     let f = c .before .before .before .before in
     let s = f .before .before .before in
     let h = early f in
     (h .inside, lines-left _ _ _ _ _ _ h (omega (arith, h .inside)) (s .pre .1), reached-few _ (h .reached))
-
-same-length : tie.Need-same-length
-same-length c = search needs
-
-returns : tie.Need-returns
-returns c =
-    let h = all (c .before .before .before .before) in
-    let y = settled-as _ _ _ _ _ (h .0) (h .1) (c .settled .ensures) in
-    (y .all, y .inside, y .kept)
-
-same-length-2 : tie.Need-same-length-2
-same-length-2 c = search needs
 
 returns-2 : tie.Need-returns-2
 unfolding isEarly isRefused
@@ -120,9 +84,6 @@ returns-2 c =
     let y = settled-as _ _ _ _ _ (early f) (λ z. f .feed-early .ensures .1 (ap isEarly told)) (c .settled2 .ensures) in
     (y .all, y .inside, y .kept)
 
-same-length-3 : tie.Need-same-length-3
-same-length-3 c = search needs
-
 returns-3 : tie.Need-returns-3
 unfolding isEarly isRefused
 returns-3 c =
@@ -130,9 +91,6 @@ returns-3 c =
     let told = c .before .enum-told3 .given .1 in
     let y = settled-as _ _ _ _ _ (early f) (λ z. f .feed-early .ensures .1 (ap isEarly told)) (c .settled3 .ensures) in
     (y .all, y .inside, y .kept)
-
-same-length-4 : tie.Need-same-length-4
-same-length-4 c = search needs
 
 returns-4 : tie.Need-returns-4
 unfolding isEarly isRefused
@@ -143,28 +101,11 @@ returns-4 c =
     (y .all, y .inside, y .kept)
 
 pub feed-spec : {M : Type 1} → statement M
-feed-spec =
-    tie.close
-    (tie.spec
-    feed-early-requires
-    enum-told
-    sub-feed-calls
-    part-feed-calls-start
-    part-feed-calls-end
-    feed-calls-requires
-    add-settled
-    settled-requires
-    enum-told-2
-    settled-requires-2
-    enum-told-3
-    settled-requires-3
-    enum-told-4
-    settled-requires-4
-    same-length
-    returns
-    same-length-2
-    returns-2
-    same-length-3
-    returns-3
-    same-length-4
-    returns-4)
+feed-spec = tie.close (tie.spec
+    (λ c κs. let s = c .before .before in (s .pre .0, lines-fewer _ _ _ (omega arith) (s .pre .1)))
+    (λ c. search needs)
+    (λ c. omega (arith, (early (c .before .before .before .before .before)) .inside))
+    (λ c. search needs) (λ c. search needs) feed-calls-requires add-settled settled-requires (λ c. search needs) settled-requires-2
+    (λ c. search needs) settled-requires-3 (λ c. search needs) settled-requires-4 (λ c. search needs)
+    (λ c. let h = all (c .before .before .before .before) in let y = settled-as _ _ _ _ _ (h .0) (h .1) (c .settled .ensures) in (y .all, y .inside, y .kept))
+    (λ c. search needs) returns-2 (λ c. search needs) returns-3 (λ c. search needs) returns-4)

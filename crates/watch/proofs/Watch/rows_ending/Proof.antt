@@ -14,43 +14,13 @@ in-table c =
     let e : c .rows-ending-at .result ≡ endRows (g .chart) (g .self .state) (g .table .now) (g .end) = simp (same32, c .before .fits .end) at (c .rows-ending-at .ensures) in
     subst (InTable (g .chart) (g .self .state) (g .table .now) (g .end)) (sym e) (part-in-table (g .chart) (g .self .state) (g .table .now) (g .end))
 
-rows-ending-at-requires : tie.Need-rows-ending-at-requires
-rows-ending-at-requires c κs = search needs
-
-mul-from : tie.Need-mul-from
-mul-from c = omega (arith, (in-table (c .before)) .fit, c .before .before .good)
-
-mul-to : tie.Need-mul-to
-mul-to c = omega (arith, (in-table (c .before .before)) .fit, c .before .before .before .good)
-
-add-to : tie.Need-add-to
-add-to c = omega (arith, (in-table (c .before .before)) .fit, c .before .before .before .good)
-
-mul-result : tie.Need-mul-result
-mul-result c = omega (arith, (in-table (c .before .before)) .fit, c .before .before .before .good)
-
-sub-result : tie.Need-sub-result
-sub-result c = search needs
-
-part-result-start : tie.Need-part-result-start
-part-result-start c = search needs
-
-part-result-end : tie.Need-part-result-end
-part-result-end c = (in-table (c .before .before)) .fit
-
-returns : tie.Need-returns
-returns c = (in-table (c .before .before .before)) .is
-
 pub rows-ending-spec : {M : Type 1} → statement M
-rows-ending-spec =
-    tie.close
-    (tie.spec
-    rows-ending-at-requires
-    mul-from
-    mul-to
-    add-to
-    mul-result
-    sub-result
-    part-result-start
-    part-result-end
-    returns)
+rows-ending-spec = tie.close (tie.spec
+    (λ c κs. search needs)
+    (λ c. omega (arith, (in-table (c .before)) .fit, c .before .before .good))
+    (λ c. omega (arith, (in-table (c .before .before)) .fit, c .before .before .before .good))
+    (λ c. omega (arith, (in-table (c .before .before)) .fit, c .before .before .before .good))
+    (λ c. omega (arith, (in-table (c .before .before)) .fit, c .before .before .before .good))
+    (λ c. search needs) (λ c. search needs)
+    (λ c. (in-table (c .before .before)) .fit)
+    (λ c. (in-table (c .before .before .before)) .is))

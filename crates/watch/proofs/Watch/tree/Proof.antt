@@ -5,21 +5,12 @@ use Rattle.watch.proofs.Reading.{tree-passed, tree-refused}
 use Rattle.watch.proofs.Watch.tree.Statement.{statement}
 use Rattle.watch.proofs.Watch.tree.Tie as tie
 
-check-requires : tie.Need-check-requires
-check-requires c κs = search needs
-
 returns : tie.Need-returns
 returns c =
     let k = c .before in
     let g = k .before .before .args in
     let e = tree-refused (g .chart) (g .self .state) (g .table .now) (g .i) (g .out .now) (λ z. c .if1 .taken (k .check .ensures ∙ z)) in
     (ap (λ n. record { refusal = n; length = 0 }) (k .check .ensures) ∙ sym (ap (λ s. s .answer) e), sym (ap (λ s. s .out) e))
-
-tree-unchecked-requires : tie.Need-tree-unchecked-requires
-tree-unchecked-requires c κs = search needs
-
-same-length : tie.Need-same-length
-same-length c = search needs
 
 returns-2 : tie.Need-returns-2
 returns-2 c =
@@ -30,6 +21,4 @@ returns-2 c =
     (w .tree-unchecked .ensures .0 ∙ sym (ap (λ s. s .answer) e), w .tree-unchecked .ensures .1 ∙ sym (ap (λ s. s .out) e))
 
 pub tree-spec : {M : Type 1} → statement M
-tree-spec =
-    tie.close
-    (tie.spec check-requires returns tree-unchecked-requires same-length returns-2)
+tree-spec = tie.close (tie.spec (λ c κs. search needs) returns (λ c κs. search needs) (λ c. search needs) returns-2)

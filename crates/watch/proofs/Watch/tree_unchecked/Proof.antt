@@ -12,11 +12,6 @@ returns c =
     let e = tree-15 (g .chart) (g .self .state) (g .table .now) (g .i) (g .out .now) (c .if1 .taken) in
     (sym (ap (λ s. s .answer) e), sym (ap (λ s. s .out) e))
 
-tree-length-requires : tie.Need-tree-length-requires
-tree-length-requires c κs =
-    let s = c .before .before .before in
-    ((told (s .args .chart) (s .args .self .state) (s .args .table .now) (s .pre)) .ready, c .if1 .left)
-
 returns-2 : tie.Need-returns-2
 returns-2 c =
     let l = c .before in
@@ -32,9 +27,6 @@ write-tree-requires c κs =
     let g = s .args in
     ((told (g .chart) (g .self .state) (g .table .now) (s .pre)) .ready, l .before .if1 .left, tree-within (g .chart) (g .self .state) (g .table .now) (g .i) (g .out .now) _ (l .tree-length .ensures) (c .before .if2 .left))
 
-same-length : tie.Need-same-length
-same-length c = search needs
-
 returns-3 : tie.Need-returns-3
 returns-3 c =
     let w = c .before .before in
@@ -46,6 +38,7 @@ returns-3 c =
     (ap (λ n. record { refusal = 0; length = n }) (w .write-tree .ensures .0) ∙ sym (ap (λ s. s .answer) e), w .write-tree .ensures .1 ∙ sym (ap (λ s. s .out) e))
 
 pub tree-unchecked-spec : {M : Type 1} → statement M
-tree-unchecked-spec =
-    tie.close
-    (tie.spec returns tree-length-requires returns-2 write-tree-requires same-length returns-3)
+tree-unchecked-spec = tie.close (tie.spec
+    returns
+    (λ c κs. let s = c .before .before .before in ((told (s .args .chart) (s .args .self .state) (s .args .table .now) (s .pre)) .ready, c .if1 .left))
+    returns-2 write-tree-requires (λ c. search needs) returns-3)

@@ -267,10 +267,16 @@ struct chronicle_answer chronicle_event(struct chronicle_watch watch, struct chr
  *
  *     event                       at the pending events
  *     or lasts atmost atleast     at the new rows
- *     finishes equals             at the new rows and, for each of a, at the new rows
- *     seq meets overlaps          where b has a new row, at all rows and, for each of a,
- *     starts during               at the new rows
- *     and                         likewise and, for each new row of a, at all rows
+ *     finishes equals             at the new rows; where one is of b, for each of a, at the
+ *                                 new rows
+ *     meets overlaps              at the new rows; where one is of b, at the rows that end at
+ *     starts during               the least start of those of b or later, the first of which
+ *                                 is found by a binary search, and for each of a, at the new
+ *                                 rows
+ *     seq                         at the new rows; where one is of b, at all rows and, for each
+ *                                 of a, at the new rows
+ *     and                         at the new rows; where one is of b, at all rows; for each of
+ *                                 a, at the new rows, and for each new one of a, at all rows
  *     -[] -][ -[[ -]]             at the new rows; where one is of a, at the rows behind the
  *                                 last one of b and, for each of a, at the rows up to there
  *                                 that end no earlier than it starts, back to the first that

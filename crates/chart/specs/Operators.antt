@@ -1,4 +1,5 @@
 -- The operators of a chart. Document 01, "Operators of a chart".
+-- `paddedWords` and `wordLengths` alone serve the proofs.
 use Prim.Native.Nat.{ℕ, suc}
 use mathlib.Core.Bool.{Bool, true, false, cond, _&&_}
 use mathlib.Core.List.{List, [], _∷_}

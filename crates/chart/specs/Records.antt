@@ -1,4 +1,5 @@
 -- A line of a chart. Document 01, "Chart and log on paper": "Chart line: entry number, operator word, operands."
+-- `lineAnswer` alone serves the proofs.
 use Prim.Native.Nat.{ℕ, _-_}
 use mathlib.Core.Bool.{cond}
 use mathlib.Core.List.{List, [], _∷_}

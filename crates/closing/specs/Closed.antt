@@ -1,4 +1,5 @@
 -- What closing an instant leaves: how many rows there are, and the table.
+-- `closedRows` has to be believed: the clock call cites it. `closedNumber`, `closedTable` and `Closable` serve the proofs.
 use Prim.Native.Nat.{ℕ, suc, _+_, _-_, _≤_}
 use mathlib.Core.Bool.{cond}
 use mathlib.Core.List.{List}

@@ -1,5 +1,6 @@
--- The walk over the rows that forgetting is: one row, the rows kept, and what the walk asks of a table. Only contracts of inner functions
--- cite this file. During the walk the entry column of row j holds an entry and, 32 times, how far the row that stood there at first moves.
+-- The walk over the rows that forgetting is: one row, the rows kept, and what the walk asks of a table. Nothing here has to be believed: only
+-- contracts of inner functions cite this file. During the walk the entry column of row j holds an entry and, 32 times, how far the row that stood
+-- there at first moves.
 use Prim.Native.Nat.{ℕ, _*_, _+_, _-_, _/_, _%_, _≤_, _<_}
 use mathlib.Core.Path.{_≡_}
 use mathlib.Core.Bool.{Bool, true, false, cond}

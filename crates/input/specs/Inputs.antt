@@ -1,5 +1,6 @@
 -- An input as it is read, in pieces. What the system hands over is any list of bytes, so each piece is some list: the statements say that there is
 -- one. The statements of crate `program` then hold of the pieces put together.
+-- `playedTo`, `OfInput`, `ListsInput` and `Listing` have to be believed; the others serve the proofs.
 use Prim.Native.Nat.{ℕ}
 use mathlib.Core.Path.{_≡_}
 use mathlib.Core.Bool.{Bool, true, false, cond}

@@ -1,5 +1,5 @@
 -- When rows are consistent: the contrary of document 01's "Out of joint", the part of that paragraph that speaks of the rows in use. Nothing here has to
--- be believed for the reference model.
+-- be believed for the reference model; it says what refusal 13 is.
 use Prim.Native.Nat.{ℕ, zero, suc}
 use mathlib.Core.Bool.{Bool, true, false, _&&_, _||_}
 use mathlib.Core.List.{List, [], _∷_}

@@ -1,5 +1,6 @@
 -- What the watch does on rows: opening, an event, closing an instant, forgetting. Nothing here has to be believed for the reference
--- model; the theorems say that these steps give the reference model's rows and numbers.
+-- model; the theorems say that these steps give the reference model's rows and numbers. The contracts of the watch cite them, for tables that no
+-- history left; `nodeStart`, `nodeEnd` and `moved` alone serve the proofs.
 use Prim.Native.Nat.{ℕ, zero, suc, _-_}
 use mathlib.Core.Bool.{Bool, true, false, cond, not}
 use mathlib.Core.List.{List, [], _∷_, _++_, map}

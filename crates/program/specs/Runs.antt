@@ -1,4 +1,6 @@
 -- A run of the program as the code goes through it: line by line, on watch and table, and what is kept of an input that comes in pieces.
+-- It has to be believed, since the statements cite it, but for `callAt`, `outOfRange`, `unformedRun`, `OfHistory`, `Holds`, `Reached`, `outcomeOf`,
+-- `resultOf`, `isEarly`, `HasLines`, `HasFew`, `callsRun`, `Read`, `fedTo`, `settledGoing`, `settledAt` and `finishedRun`, which serve the proofs.
 use Prim.Native.Nat.{ℕ, _+_, _-_, _≤_, _<_, _^_}
 use mathlib.Core.Path.{_≡_}
 use mathlib.Core.Bool.{Bool, true, false, cond}

@@ -1,5 +1,6 @@
 -- How many rows end before an instant. Document 01, "Order of rows": "by end"; "Reading": "The rows with a given end are handed back as
 -- that part of the caller's table".
+-- `endingBefore` and `endingBy` have to be believed; the others serve the proofs.
 use Prim.Native.Nat.{ℕ, _≤_, _<_}
 use mathlib.Core.Path.{_≡_}
 use mathlib.Core.Bool.{Bool, true, cond}

@@ -1,4 +1,5 @@
 -- A chart value's operators, as the reference model has them.
+-- `aritiesOf` alone serves the proofs.
 use Prim.Native.Nat.{ℕ, _-_}
 use mathlib.Core.List.{List, _++_, map}
 use lib.ListN.{replicate}

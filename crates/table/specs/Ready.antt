@@ -1,4 +1,5 @@
--- What a table that is consistent with its chart tells the functions that close an instant, forget and read: one fact a line.
+-- What a table that is consistent with its chart tells the functions that close an instant, forget and read: one fact a line. Nothing here has to
+-- be believed: only contracts of inner functions cite this file.
 use Prim.Native.Nat.{ℕ, _*_, _≤_, _<_}
 use mathlib.Core.Path.{_≡_}
 use mathlib.Core.Logic.{_⊎_}

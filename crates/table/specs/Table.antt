@@ -1,5 +1,6 @@
 -- The caller's table. Document 01, "Instants, events, rows": "A row is five signed 32-bit numbers: entry, left, right, start, end.
 -- Rows are numbered from 0."
+-- `Filled`, `filled` and `fill` alone serve the proofs.
 use Prim.Native.Nat.{ℕ, suc, _+_, _*_, _-_}
 use mathlib.Core.Bool.{Bool, cond}
 use mathlib.Core.List.{List, [], _∷_, _++_, map}

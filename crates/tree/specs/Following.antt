@@ -1,4 +1,4 @@
--- What the functions that follow references are lent and ask.
+-- What the functions that follow references are lent and ask. Nothing here has to be believed: only contracts of inner functions cite this file.
 use Prim.Native.Nat.{ℕ, suc, _*_, _≤_, _<_}
 use mathlib.Core.Path.{_≡_}
 use mathlib.Core.Bool.{true, cond}

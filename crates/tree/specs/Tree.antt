@@ -1,5 +1,6 @@
 -- The bytes of a tree. Document 01, "Reading": "A tree is written `e` and serial for an event; `<L,R>` for two; `<L,_>` or `<_,R>`
 -- for or; `<L>` for one."
+-- `lengthWithin` alone serves the proofs.
 use Prim.Native.Nat.{ℕ, zero, suc, _<_}
 use mathlib.Core.Path.{_≡_}
 use mathlib.Core.Bool.{cond}

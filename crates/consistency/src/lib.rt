@@ -163,15 +163,11 @@ fn is_event_row(events: usize, row: Row) -> bool
     has_no_right(row) && interval::is_same(row.start, row.end)
 }
 
-// A row of one operand, on the left and of entry a. It starts and ends as the operand does, so that the condition is asked of the row itself,
-// before anything is read.
+// A row of one operand, on the left and of entry a. It starts and ends as the operand does, so that the condition is asked of the row itself.
 fn is_single_row(kind: Kind, a: u32, b: u32, t: &[i32], i: usize, row: Row) -> bool
     requires { ⌜ Reached i (now t) ⌝ }
     ensures { λ r. ⌜ r ≡ isSingleRow kind a b (now (t .entry)) i row ⌝ }
 {
-    if !meets_condition(kind, b, row, row) {
-        return false;
-    }
     if !has_no_right(row) {
         return false;
     }
@@ -180,16 +176,16 @@ fn is_single_row(kind: Kind, a: u32, b: u32, t: &[i32], i: usize, row: Row) -> b
         return false;
     }
     let p = table::row_at(t, at);
-    spans_parts(row, p, p)
+    spans_parts(row, p, p) && meets_condition(kind, b, row, row)
 }
 
-// A row of one operand, which is the left or the right one.
+// A row of one operand, which is the right one where the row has a right.
 fn is_arm_row(kind: Kind, a: u32, b: u32, t: &[i32], i: usize, row: Row) -> bool
     requires { ⌜ Reached i (now t) ⌝ }
     ensures { λ r. ⌜ r ≡ isArmRow kind a b (now (t .entry)) i row ⌝ }
 {
-    if is_single_row(kind, a, b, t, i, row) {
-        return true;
+    if has_no_right(row) {
+        return is_single_row(kind, a, b, t, i, row);
     }
     is_single_row(kind, b, b, t, i, exchanged(row))
 }

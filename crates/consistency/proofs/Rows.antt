@@ -50,6 +50,11 @@ pub and-group : (a b c : Bool) → ((a && b) && c) ≡ (a && (b && c))
 and-group true b c = refl
 and-group false b c = refl
 
+and-turn : (a b c d : Bool) → ((a && (b && c)) && d) ≡ (c && (d && (a && b)))
+and-turn true true c d = ap (λ x. c && x) (and-same d)
+and-turn true false c d = sym (simp and-false)
+and-turn false b c d = sym (simp and-false)
+
 or-false : (a : Bool) → (a || false) ≡ a
 or-false true = refl
 or-false false = refl
@@ -66,7 +71,7 @@ module _ (k : Kind) (a b : ℕ) (t : List ℤ) (i : ℕ) (r : stored.Row) where
 
   pub right-arm : eqZ (r .right) none ≡ false → isArmRow k a b t i r ≡ isSingleRow k b b t i (exchanged r)
   unfolding isArmRow isSingleRow
-  right-arm e = simp e
+  right-arm e = simp (e, and-false)
 
 -- a length test of a part is one of the row, where they start and end alike
 same-length : (c : LengthTest) (d : ℕ) (s e s' e' : ℤ) → ((eqZ s s' && eqZ e e') && hasLength c d s' e') ≡ ((eqZ s s' && eqZ e e') && hasLength c d s e)
@@ -105,7 +110,7 @@ module _ (count : ℕ) (rs : List Row) (t : List ℤ) (i : ℕ) (same : (j : ℕ
   unfolding isSingleRow
   single-is k a b p h =
       let n = partAt t i (r .left) a in
-      simp (refers-is (r .left) a p, h (storedRow t n), one-part (storedRow t n)) (and-swap (ltb n i && (spansOne count rs i (modelRow r) (tableRow t n) && meetsCondition k b r r)) (isNone (r .right)))
+      simp (refers-is (r .left) a p, h (storedRow t n), one-part (storedRow t n)) (and-turn (ltb n i) (spansOne count rs i (modelRow r) (tableRow t n)) (meetsCondition k b r r) (isNone (r .right)))
 
 module _ (count : ℕ) (rs : List Row) (t : List ℤ) (i : ℕ) (same : (j : ℕ) → j < i → rowAt rs j ≡ tableRow t j) (r : stored.Row) where
   -- a part of which nothing but start and end is asked

@@ -68,7 +68,7 @@ spansParts r p q = eqZ (r .start) (least (p .start) (q .start)) && eqZ (r .end) 
 unfoldable pub isSingleRow : Kind → ℕ → ℕ → List ℤ → ℕ → Row → Bool
 isSingleRow k a b t i r =
     let p = partAt t i (r .left) a in
-    eqZ (r .right) none && (ltb p i && (spansParts r (storedRow t p) (storedRow t p) && meetsCondition k b r r))
+    meetsCondition k b r r && (eqZ (r .right) none && (ltb p i && spansParts r (storedRow t p) (storedRow t p)))
 
 unfoldable pub isArmRow : Kind → ℕ → ℕ → List ℤ → ℕ → Row → Bool
 isArmRow k a b t i r = isSingleRow k a b t i r || isSingleRow k b b t i (exchanged r)

@@ -1,6 +1,6 @@
-// The check behind refusal 13: whether watch and table are consistent with the chart; where not, document 01 calls them out of joint. Inner functions of the watch: each asks what its
-// callers have shown. Those on one row take constant time; they are handed rows and limits, but no watch and no chart, whose arrays would be copied for
-// each row.
+// The check behind refusal 13: whether watch and table are consistent with the chart; where not, document 01 calls them out of joint. Inner
+// functions of the watch: each asks what its callers have shown. Those on one row take constant time; they are handed rows and limits, but no
+// watch and no chart, whose arrays would be copied for each row.
 ghost use mathlib.Core.Path.{_≡_};
 ghost use mathlib.Core.Bool.{true};
 ghost use Prim.Native.Nat.{_≤_};
@@ -133,8 +133,8 @@ fn is_within(limits: Limits, row: Row) -> bool
     interval::is_before(end, limits.instant) && interval::is_no_later(limits.last, end)
 }
 
-// Whether a row's references, start, end and condition are as its entry's operator has them. By the shape, so that a new operator adds a case to
-// `meets_condition` alone. An unknown code stands in no chart that a watch may use.
+// Whether a row's references, start, end and condition are as its entry's operator has them. By the shape, so that an operator of a
+// known shape adds a case to `meets_condition` alone. An unknown code stands in no chart that a watch may use.
 fn agrees(e: Entry, events: usize, t: &[i32], i: usize, row: Row) -> bool
     requires { ⌜ Reached i (now t) ⌝ }
     ensures { λ r. ⌜ r ≡ agreesBy (shapeOf (kindOf (e .op))) (kindOf (e .op)) (e .a) (e .b) events (now (t .entry)) i row ⌝ }
@@ -163,11 +163,15 @@ fn is_event_row(events: usize, row: Row) -> bool
     has_no_right(row) && interval::is_same(row.start, row.end)
 }
 
-// A row of one operand, on the left and of entry a. It starts and ends as the operand does, so that the condition is asked of the row itself.
+// A row of one operand, on the left and of entry a. It starts and ends as the operand does, so that the condition is asked of the row itself,
+// before anything is read.
 fn is_single_row(kind: Kind, a: u32, b: u32, t: &[i32], i: usize, row: Row) -> bool
     requires { ⌜ Reached i (now t) ⌝ }
     ensures { λ r. ⌜ r ≡ isSingleRow kind a b (now (t .entry)) i row ⌝ }
 {
+    if !meets_condition(kind, b, row, row) {
+        return false;
+    }
     if !has_no_right(row) {
         return false;
     }
@@ -176,7 +180,7 @@ fn is_single_row(kind: Kind, a: u32, b: u32, t: &[i32], i: usize, row: Row) -> b
         return false;
     }
     let p = table::row_at(t, at);
-    spans_parts(row, p, p) && meets_condition(kind, b, row, row)
+    spans_parts(row, p, p)
 }
 
 // A row of one operand, which is the right one where the row has a right.

@@ -12,6 +12,9 @@ use lib.Seq.{sets, sets-eq, drop-at}
 use Rattle.chart.specs.Charts.{isUsable, entryAt}
 use Rattle.chart.specs.declared.Chart.{Chart}
 use Rattle.chart.proofs.Usable.{usable-few}
+use Rattle.interval.specs.declared.Relation.{Relation}
+use Rattle.interval.specs.declared.Edges.{Edges}
+use Rattle.interval.specs.declared.LengthTest.{LengthTest}
 use Rattle.model.specs.Recognitions.{Operator, event, related, or, absence, lasting}
 use Rattle.model.specs.RowSteps.{isEvent, isEventAt}
 use Rattle.table.specs.Operators.{entryOperator, operatorsOf, arityOf, aritiesOf}
@@ -30,6 +33,10 @@ unfolding aritiesOf
 same-arity chart k = padded-at (map arityOf (operatorsOf chart)) (32 - chart .count) k
 
 -- an event's row is written with no reference, and no other is so
+pub arity-event : (k : ℕ) → arityOf (event k) ≡ 0
+unfolding arityOf
+arity-event k = refl
+
 pub event-none : (o : Operator) → isEvent o ≡ eqb (arityOf o) 0
 unfolding arityOf
 event-none (event k) = refl
@@ -37,6 +44,23 @@ event-none (related c a b) = refl
 event-none (or a b) = refl
 event-none (absence c a b) = refl
 event-none (lasting c a d) = refl
+
+-- and how many each of the others has, for those who write a tree
+pub arity-related : (c : Relation) (a b : ℕ) → arityOf (related c a b) ≡ 2
+unfolding arityOf
+arity-related c a b = refl
+
+pub arity-or : (a b : ℕ) → arityOf (or a b) ≡ 2
+unfolding arityOf
+arity-or a b = refl
+
+pub arity-absence : (c : Edges) (a b : ℕ) → arityOf (absence c a b) ≡ 1
+unfolding arityOf
+arity-absence c a b = refl
+
+pub arity-lasting : (c : LengthTest) (a d : ℕ) → arityOf (lasting c a d) ≡ 1
+unfolding arityOf
+arity-lasting c a d = refl
 
 event-at : (ops : List Operator) (n : ℕ) → n < length ops → isEventAt ops n ≡ eqb (getD (map arityOf ops) n 0) 0
 event-at [] n h = absurd (omega arith)

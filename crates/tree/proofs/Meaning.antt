@@ -14,6 +14,7 @@ use Rattle.model.proofs.RowStepLaws.{reads-event, reads-one, reads-two}
 use Rattle.table.specs.Table.{cell, tableRow, rowsIn}
 use Rattle.table.specs.Operators.{arityOf}
 use Rattle.table.proofs.Rows.{row-at}
+use Rattle.table.proofs.Arities.{arity-event, arity-related, arity-or, arity-absence, arity-lasting}
 use Rattle.tree.specs.Tree.{recognitionBytes, rowBytes, referenceBytes, treeWithin, treeBytes, TreeHolds}
 
 arity-told : (ops : List Operator) (n : ℕ) (op : Operator) → OperatorAt ops n op → getD (map arityOf ops) n 0 ≡ arityOf op
@@ -38,8 +39,8 @@ module _ (arities : List ℕ) (rows : ℕ) (t : List ℤ) (f i : ℕ) (low : i <
       let c : cell t i 2 ≡ r = ap (λ (x : Row). x .right) w in
       rw (a, b, c, q)
 
-  of-event : (n s : ℕ) (x : ℤ) → getD arities n 0 ≡ arityOf (event 0) → Reads (rowsIn rows t) i (ofEvent n s x) → treeWithin arities t (suc f) i ≡ recognitionBytes (ofEvent n s x)
-  unfolding recognitionBytes rowBytes arityOf
+  of-event : (n s : ℕ) (x : ℤ) → getD arities n 0 ≡ 0 → Reads (rowsIn rows t) i (ofEvent n s x) → treeWithin arities t (suc f) i ≡ recognitionBytes (ofEvent n s x)
+  unfolding recognitionBytes rowBytes
   of-event n s x q r = bytes-by n (pos s) none x x (reads-event (rowsIn rows t) i n s x r) _ q
 
   of-one : (n : ℕ) (m : Arm) (u : Recognition) → getD arities n 0 ≡ armArity m → P u → Reads (rowsIn rows t) i (ofOne n m u) → treeWithin arities t (suc f) i ≡ recognitionBytes (ofOne n m u)
@@ -58,13 +59,12 @@ module _ (arities : List ℕ) (rows : ℕ) (t : List ℤ) (f i : ℕ) (low : i <
   Written u = Reads (rowsIn rows t) i u → treeWithin arities t (suc f) i ≡ recognitionBytes u
 
   by-operator : (es : List Event) (op : Operator) (u : Recognition) → getD arities (entryOf u) 0 ≡ arityOf op → Asks op es P u → Written u
-  unfolding arityOf
-  by-operator es (event k) u q h = subst Written (sym (h .3)) (of-event (entryOf u) _ _ q)
-  by-operator es (related c a b) u q h = subst Written (sym (h .5)) (of-two (entryOf u) (h .0) (h .1) q (h .2 .0) (h .3 .0))
-  by-operator es (or a b) u q (inl h) = subst Written (sym (h .2)) (of-one (entryOf u) left (h .0) q (h .1 .0))
-  by-operator es (or a b) u q (inr h) = subst Written (sym (h .2)) (of-one (entryOf u) right (h .0) q (h .1 .0))
-  by-operator es (absence c a b) u q h = subst Written (sym (h .3)) (of-one (entryOf u) only (h .0) q (h .1 .0))
-  by-operator es (lasting c a d) u q h = subst Written (sym (h .3)) (of-one (entryOf u) only (h .0) q (h .1 .0))
+  by-operator es (event k) u q h = subst Written (sym (h .3)) (of-event (entryOf u) _ _ (q ∙ arity-event k))
+  by-operator es (related c a b) u q h = subst Written (sym (h .5)) (of-two (entryOf u) (h .0) (h .1) (q ∙ arity-related c a b) (h .2 .0) (h .3 .0))
+  by-operator es (or a b) u q (inl h) = subst Written (sym (h .2)) (of-one (entryOf u) left (h .0) (q ∙ arity-or a b) (h .1 .0))
+  by-operator es (or a b) u q (inr h) = subst Written (sym (h .2)) (of-one (entryOf u) right (h .0) (q ∙ arity-or a b) (h .1 .0))
+  by-operator es (absence c a b) u q h = subst Written (sym (h .3)) (of-one (entryOf u) only (h .0) (q ∙ arity-absence c a b) (h .1 .0))
+  by-operator es (lasting c a d) u q h = subst Written (sym (h .3)) (of-one (entryOf u) only (h .0) (q ∙ arity-lasting c a d) (h .1 .0))
 
 bytes-within : (ops : List Operator) (es : List Event) (rows : ℕ) (t : List ℤ) (m f i : ℕ) (u : Recognition) → i < rows → i < f → IsWithin m ops es u → Reads (rowsIn rows t) i u → treeWithin (map arityOf ops) t f i ≡ recognitionBytes u
 bytes-within ops es rows t zero f i u h k w r = absurd w

@@ -40,9 +40,8 @@ listed chart m = listing (operatorsOf chart) (m .events) (m .floor) (m .openInst
 
 -- "After every such list, the empty one too, the watch has the book's open instant, floor, count of events, number of rows and events of the open
 -- instant in their order. The rows in use are the book's, number for number; the others are zeros; the numbers after the last row the table can
--- hold are those from before the opening. A row's references, followed down, give its recognition's own tree. Each call was accepted, or refused
--- with a number, as in the book." And a call for the tree of a row writes that recognition's bytes, where the output lent is long enough:
--- "Its length is handed back and the output past it stays."
+-- hold are those from before the opening. A row's references, followed down, give its recognition's own tree." And a call for the tree of a row
+-- writes that recognition's bytes, where the output lent is long enough: "Its length is handed back and the output past it stays."
 pub record FollowsModel (chart : Chart) (t : List ℤ) (s : State) (m : Model) : Type 0 where
   pub instant : s .watch .instant ≡ m .openInstant
   pub floor : s .watch .floor ≡ m .floor
@@ -54,7 +53,7 @@ pub record FollowsModel (chart : Chart) (t : List ℤ) (s : State) (m : Model) :
   pub trees : (us vs : List Recognition) (u : Recognition) → listed chart m ≡ us ++ u ∷ vs → Reads (rowsIn (s .watch .rows) (s .table)) (length us) u
   pub bytes : (us vs : List Recognition) (u : Recognition) (out : List ℕ) → listed chart m ≡ us ++ u ∷ vs → length (recognitionBytes u) ≤ length out → treeStep chart (s .watch) (s .table) (length us) out ≡ takenTree (recognitionBytes u) out
 
--- of a history: its opening is accepted, its state follows the model, and so does each of its answers
+-- of a history: its opening is accepted, its state follows the model; "Each call was accepted, or refused with a number, as in the book."
 pub record HistoryFollows (chart : Chart) (t : List ℤ) (o : ℤ) (calls : List Call) : Type 0 where
   pub accepted : (openingStep chart t o) .answer .refusal ≡ 0
   pub follows : FollowsModel chart t (history chart t o calls) (modelAfter chart t o calls)

@@ -11,7 +11,7 @@ ghost use Rattle.interval.specs.Instants.{eqZ};
 ghost use Rattle.interval.specs.Conditions.{endingOf};
 ghost use Rattle.chart.specs.Charts.{entryFits};
 ghost use Rattle.model.specs.Capacity.{capacity};
-ghost use Rattle.table.specs.Table.{cell};
+ghost use Rattle.table.specs.Table.{cell, storedRow};
 ghost use Rattle.table.specs.Ends.{Ordered, endingBefore};
 ghost use Rattle.table.specs.Operators.{entryOperator};
 ghost use Rattle.closing.specs.Added.{Appendable, FilledBy, Appended, SerialsFit, eventRow, eventRows, armOf, partOf, partRow, isTaken, takenRow, takenRows, orRows, forbids, isWithin, absenceRows, topOf, nextRow, Passed, leastStart, isWanted, pairOf, pairRow, rightFrom, pairsOf, leftFrom, pairRows, addedRows};
@@ -291,17 +291,14 @@ fn pair_of(f: Frame, w: Wanted, s: Row, i: usize) -> Row
     row
 }
 
-// The row of a pair, if row i is what is wanted.
+// The row of a pair, row i being what is wanted.
 fn push_pair(t: &mut [i32], n: usize, f: Frame, w: Wanted, i: usize) -> usize
-    requires { ⌜ (Appendable f n (now t)) × (w .left < n) × (i < n) ⌝ }
+    requires { ⌜ (Appendable f n (now t)) × (w .left < n) × (i < n) × (isWanted w (storedRow (now t) i) ≡ true) ⌝ }
     ensures { λ r. ⌜ Appended f n (pairRow (w .relation) (natAbs (f .entry)) (w .operand) (w .left) (w .start) (w .end) (now (t .entry)) i) (now (t .entry)) r (now (t .exit)) ⌝ }
 {
     let s = table::row_at(t, i);
-    if is_wanted(w, s) {
-        let row = pair_of(f, w, s, i);
-        return table::push_row(t, n, f.room, row);
-    }
-    n
+    let row = pair_of(f, w, s, i);
+    table::push_row(t, n, f.room, row)
 }
 
 // Where the search for s begins, given r: old rows s are looked at only where s may end first and r is new.
@@ -335,11 +332,15 @@ fn pairs_with(t: &mut [i32], n: usize, f: Frame, c: Relation, b: i32, r: usize) 
     let mut count = n;
     let mut s = right_from(c, f.first, r);
     while s < end {
-        count = push_pair(t, count, f, w, s);
-        if room < count {
-            return count;
-        }
+        let i = s;
         s += 1;
+        let row = table::row_at(t, i);
+        if is_wanted(w, row) {
+            count = push_pair(t, count, f, w, i);
+            if room < count {
+                return count;
+            }
+        }
     }
     count
 }

@@ -2,14 +2,14 @@
 use Prim.Native.Nat.{_-_}
 use borrow.Author.Needs.{needs}
 use native.Mathlib.Omega.{arith}
-use mathlib.Core.Path.{_≡_, _∙_}
+use mathlib.Core.Path.{_≡_, sym, _∙_}
 use mir.Syntax.{w32}
 use mir.Val.{SFits, toZ, ofZ}
 use lib.IntN.{natAbs}
 use Rattle.interval.proofs.Machine.{same32}
 use Rattle.model.specs.Lists.{each}
 use Rattle.closing.specs.Added.{span, pairRow, pairsOf}
-use Rattle.closing.proofs.Filling.{Filling, begin, turn, stop, over, appendable}
+use Rattle.closing.proofs.Filling.{Filling, nothing, begin, turn, stop, over, appendable}
 use Rattle.closing.proofs.Laws.{pair-same}
 use Rattle.closing.proofs.pairs_with.Statement.{statement}
 use Rattle.closing.proofs.pairs_with.Tie as tie
@@ -24,15 +24,16 @@ abbrev μ-loop : tie.MeasureT-loop
 
 push-pair-requires : tie.Need-push-pair-requires Inv-loop μ-loop
 push-pair-requires c κs =
-    let l = c .before .before in
+    let q = c .before .before in
+    let l = q .before .before .before .before in
     let s = l .before .before .before .before .before in
     let a = s .pre .0 in
-    (appendable a (l .loop .inv), omega (arith, a .inside, l .loop .inv .least), omega (arith, a .inside, l .loop .inv .least))
+    (appendable a (l .loop .inv), omega (arith, a .inside, l .loop .inv .least), omega (arith, a .inside, l .loop .inv .least), sym (simp (q .before .row-at2 .ensures) at (q .is-wanted .ensures)) ∙ c .before .if1 .taken)
 
 same-length : tie.Need-same-length Inv-loop μ-loop
 same-length c =
     let d = c .before .before in
-    d .push-pair .kept .0 ∙ d .before .before .before .loop .inv .size
+    d .push-pair .kept .0 ∙ d .before .before .before .before .before .before .before .loop .inv .size
 
 -- what was to be appended, by the numbers of row r
 whole : (c : tie.After-right-from Inv-loop μ-loop) → let s = c .before .before .before .before in let g = s .args in let z = c .before .before .row-at .result in each (pairRow (g .c) (natAbs (g .f .entry)) (toZ w32 (ofZ w32 (g .b))) (g .r) (toZ w32 (ofZ w32 (z .start))) (toZ w32 (ofZ w32 (z .end))) (g .t .now)) (span (c .right-from .result) (g .f .end)) ≡ pairsOf (g .c) (natAbs (g .f .entry)) (g .b) (g .f .first) (g .f .end) (g .t .now) (g .r)
@@ -47,19 +48,31 @@ whole c =
 returns : tie.Need-returns Inv-loop μ-loop
 returns c =
     let d = c .before .before in
-    let l = d .before .before .before in
+    let k = d .before .before .before .before .before .before in
+    let l = k .before in
     let h = l .before in
     let s = h .before .before .before .before in
     let g = s .args in
-    simp (whole h) at (stop _ (l .loop .s) (g .f .end) (l .loop .inv) (omega arith) (pair-same (g .n) (l .loop .t) (g .t .now) (l .loop .inv .kept) _ _ _ _ _ _ (l .loop .s) (omega (arith, s .pre .0 .inside))) (d .push-pair .ensures) (c .if1 .taken))
+    simp (whole h) at (stop _ (l .loop .s) (g .f .end) (l .loop .inv) (k .loop-test .taken) (pair-same (g .n) (l .loop .t) (g .t .now) (l .loop .inv .kept) _ _ _ _ _ _ (l .loop .s) (omega (arith, s .pre .0 .inside))) (d .push-pair .ensures) (c .if2 .taken))
 
 loop-again : tie.Need-loop-again Inv-loop μ-loop
 loop-again c =
     let d = c .before .before in
-    let l = d .before .before .before in
+    let k = d .before .before .before .before .before .before in
+    let l = k .before in
     let s = l .before .before .before .before .before in
     let g = s .args in
-    turn _ (l .loop .s) (g .f .end) (l .loop .inv) (omega arith) (pair-same (g .n) (l .loop .t) (g .t .now) (l .loop .inv .kept) _ _ _ _ _ _ (l .loop .s) (omega (arith, s .pre .0 .inside))) (d .push-pair .ensures) (c .if1 .left)
+    turn _ (l .loop .s) (g .f .end) (l .loop .inv) (k .loop-test .taken) (pair-same (g .n) (l .loop .t) (g .t .now) (l .loop .inv .kept) _ _ _ _ _ _ (l .loop .s) (omega (arith, s .pre .0 .inside))) (d .push-pair .ensures) (c .if2 .left)
+
+loop-again-2 : tie.Need-loop-again-2 Inv-loop μ-loop
+unfolding pairRow
+loop-again-2 c =
+    let l = c .before .before .before .before .before in
+    let s = l .before .before .before .before .before in
+    let g = s .args in
+    let q = c .before in
+    let no = sym (simp (q .before .row-at2 .ensures) at (q .is-wanted .ensures)) ∙ c .if1 .left in
+    turn _ (l .loop .s) (g .f .end) (l .loop .inv) (omega arith) (pair-same (g .n) (l .loop .t) (g .t .now) (l .loop .inv .kept) _ _ _ _ _ _ (l .loop .s) (omega (arith, s .pre .0 .inside))) (nothing _ _ _ _ (simp no)) (l .loop .inv .most)
 
 returns-2 : tie.Need-returns-2 Inv-loop μ-loop
 returns-2 c =
@@ -76,11 +89,15 @@ pairs-with-spec =
     (λ c κs. omega (arith, c .before .pre .0 .held, c .before .pre .0 .inside, c .before .pre .0 .fit))
     (λ c κs. search needs)
     (λ c. begin _ _ _ _ (c .before .before .before .before .pre .0 .fit))
+    (λ c. omega arith)
+    (λ c κs. let k = c .before in let l = k .before in let a = l .before .before .before .before .before .pre .0 in omega (arith, k .loop-test .taken, l .loop .inv .size, a .held, a .inside, a .fit))
+    (λ c κs. search needs)
     push-pair-requires
     same-length
     returns
     (λ c. omega arith)
-    (λ c. omega arith)
     loop-again
+    (λ c. omega arith)
+    loop-again-2
     (λ c. c .before .loop .inv .size)
     returns-2)

@@ -1,17 +1,17 @@
 -- One line of the input as the code plays it, by the tests that lead to each answer; and the bytes moved to the front of a buffer.
 use Prim.Native.Nat.{ℕ, suc, _+_, _-_, _≤_, _<_, _^_}
 use native.Mathlib.Omega.{arith}
-use mathlib.Core.Path.{_≡_, sym, ap, ap₂, _∙_, subst}
+use mathlib.Core.Path.{_≡_, refl, sym, ap, ap₂, _∙_, subst}
 use mathlib.Core.Logic.{inl}
 use mathlib.Core.Bool.{true, false, cond, Bool}
 use mathlib.Core.List.{List, [], _∷_, _++_}
 use borrow.Author.Tests.{le-leb, lt-leb, lt-ltb, eq-eqb, ne-eqb}
 use lib.Dec.{eqb}
-use lib.IntN.{ℤ}
+use lib.IntN.{ℤ, pos}
 use lib.ListN.{length, take, drop, set, getD, length-append, length-drop}
 use lib.Seq.{length-take-le, take-suc, drop-cons, append-snoc, set-at, getD-append-add, getD-drop}
 use Rattle.interval.specs.Instants.{isInstant}
-use Rattle.interval.proofs.Signed.{never}
+use Rattle.interval.proofs.Signed.{never, instant-told}
 use Rattle.interval.proofs.Laws.{refuses-mark, refuses-forget, out-of-range}
 use Rattle.text.specs.Text.{Line, whole}
 use Rattle.chart.specs.Charts.{isUsable, readLines, addLine, noEntries, takenChart}
@@ -23,12 +23,12 @@ use Rattle.log.specs.declared.Call.{Call}
 use Rattle.log.specs.declared.Call.the-variants as log
 use Rattle.watch.specs.Steps.{Step, refusedStep, checkNumber, openingStep, eventOwn, clockOwn, forgetOwn}
 use Rattle.state.specs.declared.WatchState.{WatchState}
-use Rattle.watch.specs.Histories.{State, call}
+use Rattle.watch.specs.Histories.{State}
 use Rattle.watch.specs.declared.Answer.{Answer}
 use Rattle.watch.proofs.Calls.{clock-8, forget-11, opening-8}
 use Rattle.watch.proofs.Steps.{event-call, clock-call, forget-call, event-passed, clock-passed, forget-passed}
 use Rattle.program.specs.Outcomes.{callIn, isEmpty}
-use Rattle.program.specs.Runs.{Progress, refusedRun, nextRun, entryRun, chartEnd, stepped, openingLine, callStep, callAt, outOfRange, lineStep, afterLine, isRefused, isEarly, Holds, HasLines, restLength, restMoved}
+use Rattle.program.specs.Runs.{Progress, refusedRun, nextRun, entryRun, chartEnd, stepped, openingLine, callStep, narrowed, lineStep, afterLine, isRefused, isEarly, Holds, HasLines, restLength, restMoved}
 use Rattle.program.specs.declared.Run.{Run}
 use Rattle.program.specs.declared.Stage.{Stage}
 use Rattle.program.specs.declared.Stage.the-variants.{Entries, Opening, Calls}
@@ -40,37 +40,51 @@ step a t = record { answer = a; table = t }
 abbrev progressOf : Run → List ℤ → Progress
 progressOf r t = record { run = r; table = t }
 
+no-instant : isInstant (pos 2000000000) ≡ false
+no-instant = go (isInstant (pos 2000000000)) refl
+  where
+    go : (b : Bool) → isInstant (pos 2000000000) ≡ b → b ≡ false
+    go true e = absurd (omega (arith, instant-told (pos 2000000000) e))
+    go false e = refl
+
 -- the calls on a consistent watch and table
 module _ (chart : Chart) (w : WatchState) (t : List ℤ) where
   abbrev given : State
   given = record { watch = w; table = t }
 
   module _ (z : checkNumber chart w t ≡ 0) where
-    -- a mark or a forget out of range, and those in it
-    pub out-at : (forget : Bool) (x : ℤ) → isInstant x ≡ false → refusedStep (outOfRange forget) w t ≡ call chart given (callAt forget x)
-    out-at true f e = sym (forget-call chart given f ∙ forget-passed chart w t z f ∙ forget-11 chart w t f (refuses-forget (w .floor) (w .instant) f (out-of-range e)))
-    out-at false x e = sym (clock-call chart given x ∙ clock-passed chart w t z x ∙ clock-8 chart w t x (refuses-mark (w .instant) x (inl e)))
+    -- a mark or a forget by the number narrowed: one that is no instant is refused, whichever it is
+    clock-narrowed : (x : ℤ) → clockOwn chart w t (narrowed x) ≡ clockOwn chart w t x
+    unfolding narrowed
+    clock-narrowed x = go (isInstant x) refl
+      where
+        go : (b : Bool) → isInstant x ≡ b → clockOwn chart w t (cond b x (pos 2000000000)) ≡ clockOwn chart w t x
+        go true e = refl
+        go false e = clock-8 chart w t (pos 2000000000) (refuses-mark (w .instant) (pos 2000000000) (inl no-instant)) ∙ sym (clock-8 chart w t x (refuses-mark (w .instant) x (inl e)))
 
-    pub clock-at : (x : ℤ) (a : Answer) (u : List ℤ) → (a ≡ (clockOwn chart w t x) .answer) × (u ≡ (clockOwn chart w t x) .table) → step a u ≡ call chart given (callAt false x)
-    clock-at x a u h = ap₂ step (h .0) (h .1) ∙ sym (clock-call chart given x ∙ clock-passed chart w t z x)
-
-    pub forget-at : (f : ℤ) (a : Answer) (u : List ℤ) → (a ≡ (forgetOwn chart w t f) .answer) × (u ≡ (forgetOwn chart w t f) .table) → step a u ≡ call chart given (callAt true f)
-    forget-at f a u h = ap₂ step (h .0) (h .1) ∙ sym (forget-call chart given f ∙ forget-passed chart w t z f)
+    forget-narrowed : (f : ℤ) → forgetOwn chart w t (narrowed f) ≡ forgetOwn chart w t f
+    unfolding narrowed
+    forget-narrowed f = go (isInstant f) refl
+      where
+        go : (b : Bool) → isInstant f ≡ b → forgetOwn chart w t (cond b f (pos 2000000000)) ≡ forgetOwn chart w t f
+        go true e = refl
+        go false e = forget-11 chart w t (pos 2000000000) (refuses-forget (w .floor) (w .instant) (pos 2000000000) (out-of-range no-instant)) ∙ sym (forget-11 chart w t f (refuses-forget (w .floor) (w .instant) f (out-of-range e)))
 
     -- a line of the log after its opening
-    pub call-event : (d : Call) (k : ℕ) (a : Answer) → d ≡ log.Event k → a ≡ eventOwn w k → step a t ≡ callStep chart given d
-    unfolding callStep
-    call-event d k a e h = rw e (ap (λ x. step x t) h ∙ sym (event-passed chart w t z k) ∙ sym (event-call chart given k))
+    module _ (d : Call) (a : Answer) where
+      pub call-event : (k : ℕ) → d ≡ log.Event k → a ≡ eventOwn w k → step a t ≡ callStep chart given d
+      unfolding callStep
+      call-event k e h = rw e (ap (λ x. step x t) h ∙ sym (event-passed chart w t z k) ∙ sym (event-call chart given k))
+
+      pub call-clock : (x : ℤ) (u : List ℤ) → d ≡ log.Clock x → (a ≡ (clockOwn chart w t (narrowed x)) .answer) × (u ≡ (clockOwn chart w t (narrowed x)) .table) → step a u ≡ callStep chart given d
+      unfolding callStep
+      call-clock x u e h = rw e (ap₂ step (h .0) (h .1) ∙ clock-narrowed x ∙ sym (clock-call chart given x ∙ clock-passed chart w t z x))
+
+      pub call-forget : (f : ℤ) (u : List ℤ) → d ≡ log.Forget f → (a ≡ (forgetOwn chart w t (narrowed f)) .answer) × (u ≡ (forgetOwn chart w t (narrowed f)) .table) → step a u ≡ callStep chart given d
+      unfolding callStep
+      call-forget f u e h = rw e (ap₂ step (h .0) (h .1) ∙ forget-narrowed f ∙ sym (forget-call chart given f ∙ forget-passed chart w t z f))
 
   module _ (d : Call) where
-    pub call-clock : (x : ℤ) (s : Step) → d ≡ log.Clock x → s ≡ call chart given (callAt false x) → s ≡ callStep chart given d
-    unfolding callStep
-    call-clock x s e h = rw e h
-
-    pub call-forget : (f : ℤ) (s : Step) → d ≡ log.Forget f → s ≡ call chart given (callAt true f) → s ≡ callStep chart given d
-    unfolding callStep
-    call-forget f s e h = rw e h
-
     pub call-malformed : d ≡ log.Malformed → refusedStep 7 w t ≡ callStep chart given d
     unfolding callStep
     call-malformed e = rw e

@@ -1,5 +1,5 @@
 -- A run of the program as the code goes through it: line by line, on watch and table, and what is kept of an input that comes in pieces.
--- It has to be believed, since the statements cite it, but for `callAt`, `outOfRange`, `unformedRun`, `OfHistory`, `Holds`, `Reached`, `outcomeOf`,
+-- It has to be believed, since the statements cite it, but for `narrowed`, `unformedRun`, `OfHistory`, `Holds`, `Reached`, `outcomeOf`,
 -- `resultOf`, `isEarly`, `HasLines`, `HasFew`, `callsRun`, `Read`, `fedTo`, `settledGoing`, `settledAt` and `finishedRun`, which serve the proofs.
 use Prim.Native.Nat.{ℕ, _+_, _-_, _≤_, _<_, _^_}
 use mathlib.Core.Path.{_≡_}
@@ -85,14 +85,9 @@ callStep c s (log.Event k) = call c s (model.event k)
 callStep c s (log.Clock x) = call c s (model.clock x)
 callStep c s (log.Forget f) = call c s (model.forget f)
 
--- a mark or a forget, and the number that it is refused with where it is out of range
-abbrev pub callAt : Bool → ℤ → model.Call
-callAt true f = model.forget f
-callAt false x = model.clock x
-
-abbrev pub outOfRange : Bool → ℕ
-outOfRange true = 11
-outOfRange false = 8
+-- a number of the log as an i32: itself where it is an instant, otherwise one that is none
+unfoldable pub narrowed : ℤ → ℤ
+narrowed x = cond (isInstant x) x (pos 2000000000)
 
 -- a line that lacks its byte 10 or has over 64 bytes
 unfoldable pub unformedRun : Stage → Run → Run

@@ -9,10 +9,9 @@ ghost use Rattle.text.specs.Text.{whole, lineSize};
 ghost use Rattle.chart.specs.Charts.{isUsable, readLines};
 ghost use Rattle.log.specs.Log.{callOf};
 ghost use Rattle.watch.specs.Steps.{checkNumber, openingStep};
-ghost use Rattle.watch.specs.Histories.{call};
 ghost use Rattle.program.specs.Outcomes.{isEmpty};
 ghost use Rattle.program.specs.Statements.{listedLength, listedTable, listedOutput};
-ghost use Rattle.program.specs.Runs.{startRun, refusedRun, nextRun, entryRun, chartEnd, unformedRun, stepped, openingLine, callStep, callAt, outOfRange, callsRun, afterLine, afterBytes, isEarly, isRefused, keptOf, endRun, finishedRun, Reached, Read, HasLines, HasFew, settledAt, settledGoing, restLength, restMoved, printedLength, printedOutput};
+ghost use Rattle.program.specs.Runs.{startRun, refusedRun, nextRun, entryRun, chartEnd, unformedRun, stepped, openingLine, callStep, narrowed, callsRun, afterLine, afterBytes, isEarly, isRefused, keptOf, endRun, finishedRun, Reached, Read, HasLines, HasFew, settledAt, settledGoing, restLength, restMoved, printedLength, printedOutput};
 use chart::Chart;
 use log::Call;
 use watch::Answer;
@@ -436,33 +435,19 @@ fn call_line(chart: Chart, watch: Watch, table: &mut [i32], s: &[u8]) -> Answer
     let c = log::read_call(s);
     match c {
         Call::Event(k) => watch.event_unchecked(chart, table, k),
-        Call::Clock(x) => call_at(chart, watch, table, x, false),
-        Call::Forget(f) => call_at(chart, watch, table, f, true),
+        Call::Clock(x) => watch.clock_unchecked(chart, table, narrowed(x)),
+        Call::Forget(f) => watch.forget_unchecked(chart, table, narrowed(f)),
         Call::Malformed => Answer { refusal: 7, watch },
         Call::Open(_) => Answer { refusal: 7, watch },
     }
 }
 
-// A clock mark, or a forget, at a number that may be no instant.
-fn call_at(chart: Chart, watch: Watch, table: &mut [i32], x: i64, forget: bool) -> Answer
-    requires { ⌜ checkNumber chart (watch .state) (now table) ≡ 0 ⌝ }
-    ensures { λ r. ⌜ record { answer = r; table = now (table .exit) } ≡ call chart (record { watch = watch .state; table = now (table .entry) }) (callAt forget x) ⌝ }
+// A number of the log as an instant; where it is none, another that is none, so that the call refuses it.
+fn narrowed(x: i64) -> i32
+    ensures { λ r. ⌜ r ≡ narrowed x ⌝ }
 {
     if !interval::is_wide_instant(x) {
-        return Answer {
-            refusal: out_of_range(forget),
-            watch,
-        };
+        return 2000000000;
     }
-    if forget {
-        return watch.forget_unchecked(chart, table, x as i32);
-    }
-    watch.clock_unchecked(chart, table, x as i32)
-}
-
-// The number that a mark or a forget is refused with where it is out of range.
-fn out_of_range(forget: bool) -> u32
-    ensures { λ r. ⌜ r ≡ outOfRange forget ⌝ }
-{
-    if forget { 11 } else { 8 }
+    x as i32
 }

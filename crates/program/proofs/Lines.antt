@@ -47,29 +47,21 @@ no-instant = go (isInstant (pos 2000000000)) refl
     go true e = absurd (omega (arith, instant-told (pos 2000000000) e))
     go false e = refl
 
+-- a call by the number narrowed, where one that is no instant is refused whichever it is
+narrowed-same : (own : ℤ → Step) (s : Step) → ((x : ℤ) → isInstant x ≡ false → own x ≡ s) → (x : ℤ) → own (narrowed x) ≡ own x
+unfolding narrowed
+narrowed-same own s h x = go (isInstant x) refl
+  where
+    go : (b : Bool) → isInstant x ≡ b → own (cond b x (pos 2000000000)) ≡ own x
+    go true e = refl
+    go false e = h (pos 2000000000) no-instant ∙ sym (h x e)
+
 -- the calls on a consistent watch and table
 module _ (chart : Chart) (w : WatchState) (t : List ℤ) where
   abbrev given : State
   given = record { watch = w; table = t }
 
   module _ (z : checkNumber chart w t ≡ 0) where
-    -- a mark or a forget by the number narrowed: one that is no instant is refused, whichever it is
-    clock-narrowed : (x : ℤ) → clockOwn chart w t (narrowed x) ≡ clockOwn chart w t x
-    unfolding narrowed
-    clock-narrowed x = go (isInstant x) refl
-      where
-        go : (b : Bool) → isInstant x ≡ b → clockOwn chart w t (cond b x (pos 2000000000)) ≡ clockOwn chart w t x
-        go true e = refl
-        go false e = clock-8 chart w t (pos 2000000000) (refuses-mark (w .instant) (pos 2000000000) (inl no-instant)) ∙ sym (clock-8 chart w t x (refuses-mark (w .instant) x (inl e)))
-
-    forget-narrowed : (f : ℤ) → forgetOwn chart w t (narrowed f) ≡ forgetOwn chart w t f
-    unfolding narrowed
-    forget-narrowed f = go (isInstant f) refl
-      where
-        go : (b : Bool) → isInstant f ≡ b → forgetOwn chart w t (cond b f (pos 2000000000)) ≡ forgetOwn chart w t f
-        go true e = refl
-        go false e = forget-11 chart w t (pos 2000000000) (refuses-forget (w .floor) (w .instant) (pos 2000000000) (out-of-range no-instant)) ∙ sym (forget-11 chart w t f (refuses-forget (w .floor) (w .instant) f (out-of-range e)))
-
     -- a line of the log after its opening
     module _ (d : Call) (a : Answer) where
       pub call-event : (k : ℕ) → d ≡ log.Event k → a ≡ eventOwn w k → step a t ≡ callStep chart given d
@@ -78,11 +70,11 @@ module _ (chart : Chart) (w : WatchState) (t : List ℤ) where
 
       pub call-clock : (x : ℤ) (u : List ℤ) → d ≡ log.Clock x → (a ≡ (clockOwn chart w t (narrowed x)) .answer) × (u ≡ (clockOwn chart w t (narrowed x)) .table) → step a u ≡ callStep chart given d
       unfolding callStep
-      call-clock x u e h = rw e (ap₂ step (h .0) (h .1) ∙ clock-narrowed x ∙ sym (clock-call chart given x ∙ clock-passed chart w t z x))
+      call-clock x u e h = rw e (ap₂ step (h .0) (h .1) ∙ narrowed-same (clockOwn chart w t) (refusedStep 8 w t) (λ y q. clock-8 chart w t y (refuses-mark (w .instant) y (inl q))) x ∙ sym (clock-call chart given x ∙ clock-passed chart w t z x))
 
       pub call-forget : (f : ℤ) (u : List ℤ) → d ≡ log.Forget f → (a ≡ (forgetOwn chart w t (narrowed f)) .answer) × (u ≡ (forgetOwn chart w t (narrowed f)) .table) → step a u ≡ callStep chart given d
       unfolding callStep
-      call-forget f u e h = rw e (ap₂ step (h .0) (h .1) ∙ forget-narrowed f ∙ sym (forget-call chart given f ∙ forget-passed chart w t z f))
+      call-forget f u e h = rw e (ap₂ step (h .0) (h .1) ∙ narrowed-same (forgetOwn chart w t) (refusedStep 11 w t) (λ y q. forget-11 chart w t y (refuses-forget (w .floor) (w .instant) y (out-of-range q))) f ∙ sym (forget-call chart given f ∙ forget-passed chart w t z f))
 
   module _ (d : Call) where
     pub call-malformed : d ≡ log.Malformed → refusedStep 7 w t ≡ callStep chart given d

@@ -2,7 +2,7 @@
 use Prim.Native.Nat.{ℕ, zero, suc, _-_, _≤_, _<_}
 use native.Mathlib.Omega.{arith}
 use native.Mathlib.Decide.{ℕ-discrete}
-use mathlib.Core.Path.{_≡_, refl, _∙_}
+use mathlib.Core.Path.{_≡_, refl, sym, ap, _∙_}
 use mathlib.Core.Bool.{Bool, true, false, cond}
 use mathlib.Core.List.{List, [], _∷_}
 use lib.Dec.{leb, ltb}
@@ -21,7 +21,7 @@ use Rattle.model.specs.Recognitions.{Arm, left}
 use Rattle.table.specs.Table.{cell}
 use Rattle.table.proofs.EndParts.{ends-low, ends-few}
 use Rattle.closing.specs.declared.Taken.{Taken}
-use Rattle.closing.specs.Added.{partRow, takenRow, takenRows, forbids, isWithin, isForbidden, absenceRow, topOf, pairRow, rightBy, rightFrom, pairsOf, pairsWith, nextRow, leastStart, leftBy, leftFrom}
+use Rattle.closing.specs.Added.{partRow, takenRow, takenRows, forbids, isWithin, isForbidden, absenceRow, topOf, SameTop, pairRow, rightBy, rightFrom, pairsOf, pairsWith, nextRow, leastStart, leftBy, leftFrom}
 use Rattle.closing.proofs.Spans.{span-same}
 use Rattle.closing.proofs.Filling.{Kept}
 
@@ -126,10 +126,14 @@ module _ (b : ℤ) (t : List ℤ) where
   top-here zero h e = absurd (omega arith)
   top-here (suc j) h e = let z : suc j - 1 ≡ j = omega arith in rw (rw z at e)
 
-  pub top-lower : (j : ℕ) → 0 < j → eqZ (cell t (j - 1) 0) b ≡ false → topOf b j t ≡ topOf b (j - 1) t
+  -- a row passed
+  top-lower : (j : ℕ) → 0 < j → eqZ (cell t (j - 1) 0) b ≡ false → topOf b (j - 1) t ≡ topOf b j t
   unfolding topOf
   top-lower zero h e = absurd (omega arith)
   top-lower (suc j) h e = let z : suc j - 1 ≡ j = omega arith in rw (rw z at e, z)
+
+  pub same-top : (n j k : ℕ) → SameTop b n t j → 0 < j → k ≡ j - 1 → eqZ (cell t k 0) b ≡ false → SameTop b n t k
+  same-top n j k f h s e = record { most = omega (arith, f .most); same = ap (λ x. topOf b x t) s ∙ top-lower j h (ap (λ x. eqZ (cell t x 0) b) (sym s) ∙ e) ∙ f .same }
 
   pub top-none : (j : ℕ) → j ≤ 0 → topOf b j t ≡ j
   unfolding topOf

@@ -113,6 +113,11 @@ unfoldable pub topOf : ℤ → ℕ → List ℤ → ℕ
 topOf b zero t = 0
 topOf b (suc j) t = cond (eqZ (cell t j 0) b) (suc j) (topOf b j t)
 
+-- the search from place k on finds what the one from place n on finds
+pub record SameTop (b : ℤ) (n : ℕ) (t : List ℤ) (k : ℕ) : Type 0 where
+  pub most : k ≤ n
+  pub same : topOf b k t ≡ topOf b n t
+
 unfoldable pub absenceRow : Edges → ℕ → ℤ → ℤ → ℕ → List ℤ → ℕ → List Row
 absenceRow e entry a b top t i = when (eqZ (cell t i 0) a && not (isForbidden e b (cell t i 3) (cell t i 4) t top)) (partRow left entry t i)
 

@@ -14,7 +14,7 @@ ghost use Rattle.model.specs.Capacity.{capacity};
 ghost use Rattle.table.specs.Table.{cell, storedRow};
 ghost use Rattle.table.specs.Ends.{Ordered, endingBefore};
 ghost use Rattle.table.specs.Operators.{entryOperator};
-ghost use Rattle.closing.specs.Added.{Appendable, FilledBy, Appended, SerialsFit, eventRow, eventRows, armOf, partOf, partRow, isTaken, takenRow, takenRows, orRows, forbids, isWithin, absenceRows, topOf, nextRow, Passed, leastStart, isWanted, pairOf, pairRow, rightFrom, pairsOf, leftFrom, pairRows, addedRows};
+ghost use Rattle.closing.specs.Added.{Appendable, FilledBy, Appended, SerialsFit, eventRow, eventRows, armOf, partOf, partRow, isTaken, takenRow, takenRows, orRows, forbids, isWithin, absenceRows, topOf, SameTop, nextRow, Passed, leastStart, isWanted, pairOf, pairRow, rightFrom, pairsOf, leftFrom, pairRows, addedRows};
 ghost use Rattle.closing.specs.Closed.{Closable, closedRows, closedNumber, closedTable};
 use chart::Chart;
 use chart::Entry;
@@ -223,12 +223,36 @@ fn top_of(t: &[i32], n: usize, b: i32) -> usize
     requires { ⌜ n * 5 ≤ length (now t) ⌝ }
     ensures { λ r. ⌜ r ≡ topOf b n (now (t .entry)) ⌝ }
 {
-    let mut j = n;
+    let mut j = top_in_fours(t, n, b);
     while 0 < j {
         if is_of(t, j - 1, b) {
             return j;
         }
         j -= 1;
+    }
+    j
+}
+
+// The same search, four rows to a turn, as in `pass_fours`; where none is found, up to three rows are left.
+fn top_in_fours(t: &[i32], n: usize, b: i32) -> usize
+    requires { ⌜ n * 5 ≤ length (now t) ⌝ }
+    ensures { λ r. ⌜ SameTop b n (now (t .entry)) r ⌝ }
+{
+    let mut j = n;
+    while 4 <= j {
+        if is_of(t, j - 1, b) {
+            return j;
+        }
+        if is_of(t, j - 2, b) {
+            return j - 1;
+        }
+        if is_of(t, j - 3, b) {
+            return j - 2;
+        }
+        if is_of(t, j - 4, b) {
+            return j - 3;
+        }
+        j -= 4;
     }
     j
 }
@@ -241,7 +265,7 @@ fn absence_rows(t: &mut [i32], n: usize, f: Frame, edges: Edges, a: i32, b: i32)
 {
     let end = f.end;
     let room = f.room;
-    let mut i = next_of(t, f.first, end, a);
+    let mut i = first_of(t, f.first, end, a);
     if end <= i {
         return n;
     }
@@ -249,7 +273,10 @@ fn absence_rows(t: &mut [i32], n: usize, f: Frame, edges: Edges, a: i32, b: i32)
     let mut count = n;
     'candidates: while i < end {
         let r = i;
-        i = next_of(t, r + 1, end, a);
+        i += 1;
+        if !is_of(t, r, a) {
+            continue 'candidates;
+        }
         let row = table::row_at(t, r);
         let mut j = top;
         while is_within(t, j, row.start) {
@@ -345,7 +372,8 @@ fn pairs_with(t: &mut [i32], n: usize, f: Frame, c: Relation, b: i32, r: usize) 
     count
 }
 
-// The next row of entry a from row i on, or n: at once where i is n, as it mostly is, no partner being new. One look at each row up to it.
+// The next row of entry a from row i on, or n, where many rows may lie between: at once where i is n, as it mostly is, no partner being new.
+// One look at each row up to it.
 fn next_of(t: &[i32], i: usize, n: usize, a: i32) -> usize
     requires { ⌜ (i ≤ n) × (n * 5 ≤ length (now t)) ⌝ }
     ensures { λ r. ⌜ r ≡ nextRow a i n (now (t .entry)) ⌝ }
@@ -353,7 +381,16 @@ fn next_of(t: &[i32], i: usize, n: usize, a: i32) -> usize
     if n <= i {
         return i;
     }
-    let mut r = pass_fours(t, i, n, a);
+    let r = pass_fours(t, i, n, a);
+    first_of(t, r, n, a)
+}
+
+// The same search row by row, which is quicker where few rows are left, as there mostly are of the new ones.
+fn first_of(t: &[i32], i: usize, n: usize, a: i32) -> usize
+    requires { ⌜ (i ≤ n) × (n * 5 ≤ length (now t)) ⌝ }
+    ensures { λ r. ⌜ r ≡ nextRow a i n (now (t .entry)) ⌝ }
+{
+    let mut r = i;
     while r < n {
         if is_of(t, r, a) {
             return r;
@@ -423,7 +460,7 @@ fn left_from(t: &[i32], f: Frame, c: Relation, b: i32) -> usize
 {
     let end = f.end;
     let ending = interval::ending_of(c);
-    let s = next_of(t, f.first, end, b);
+    let s = first_of(t, f.first, end, b);
     match ending {
         Ending::Before => if s < end { 0 } else { end },
         Ending::Within => if s < end {

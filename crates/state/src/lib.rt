@@ -37,11 +37,16 @@ impl WatchState {
         ensures { λ r. ⌜ r ≡ withEvent self k ⌝ }
     {
         let n = self.pending;
-        let mut next = self;
-        next.codes[n] = k;
-        next.pending = n + 1;
-        next.events = next.events + 1;
-        next
+        let mut codes = self.codes;
+        codes[n] = k;
+        WatchState {
+            instant: self.instant,
+            floor: self.floor,
+            events: self.events + 1,
+            rows: self.rows,
+            pending: n + 1,
+            codes,
+        }
     }
 
     // The next open instant, with n rows.

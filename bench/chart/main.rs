@@ -24,7 +24,7 @@ fn main() {
     for workload in workloads() {
         assert!(workload.charts.iter().all(|chart| check(chart) == proved::check_chart(chart)));
         let (plain, proved) = median_times(&workload.charts);
-        println!("{:<38} {plain:>12.0} {proved:>12.0} {:>7.2}", workload.name, proved / plain);
+        println!("{:<38} {plain:>12.0} {proved:>12.0} {:>7.3}", workload.name, proved / plain);
     }
     println!(
         "ns of processor time a chart, medians of {ROUNDS} rounds over {CHARTS} charts, the two readers taking turns"

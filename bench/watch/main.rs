@@ -45,7 +45,7 @@ fn main() {
             let (plain, proved) = median_times(&workload, &plain, &proved);
             let (plain_us, proved_us, ratio) = (plain / 1e3, proved / 1e3, proved / plain);
             let (plain_row, proved_row) = (plain / rows as f64, proved / rows as f64);
-            print!("{name:<18} {rows:>6} {new_rows:>7} {plain_us:>8.2} {proved_us:>8.2} {ratio:>6.2}");
+            print!("{name:<18} {rows:>6} {new_rows:>7} {plain_us:>8.2} {proved_us:>8.2} {ratio:>6.3}");
             println!(" {plain_row:>7.2} {proved_row:>7.2}");
         }
     }

@@ -274,20 +274,19 @@ fn absence_rows(t: &mut [i32], n: usize, f: Frame, edges: Edges, a: i32, b: i32)
     'candidates: while i < end {
         let r = i;
         i += 1;
-        if !is_of(t, r, a) {
-            continue 'candidates;
-        }
-        let row = table::row_at(t, r);
-        let mut j = top;
-        while is_within(t, j, row.start) {
-            j -= 1;
-            if is_forbidding_row(t, j, b, edges, row) {
-                continue 'candidates;
+        if is_of(t, r, a) {
+            let row = table::row_at(t, r);
+            let mut j = top;
+            while is_within(t, j, row.start) {
+                j -= 1;
+                if is_forbidding_row(t, j, b, edges, row) {
+                    continue 'candidates;
+                }
             }
-        }
-        count = push_part(t, count, f, r, false);
-        if room < count {
-            return count;
+            count = push_part(t, count, f, r, false);
+            if room < count {
+                return count;
+            }
         }
     }
     count

@@ -7,7 +7,6 @@ use mathlib.Core.List.{List, [], _∷_}
 use lib.IntN.{ℤ, natAbs}
 use lib.ListN.{length}
 use native.Mathlib.Omega.{arith}
-use borrow.Author.Tests.{not-true, not-false}
 use mir.Syntax.{w32}
 use mir.Val.{SFits, toZ, ofZ}
 use Rattle.interval.specs.Instants.{eqZ}
@@ -122,7 +121,7 @@ module _ (r : tie.After-row-at Inv-loop μ-loop Inv-candidates μ-candidates) wh
   isBarred j = isForbidden (s o .args .edges) (B o) (r .row-at .result .start) (r .row-at .result .end) (t o) j
 
   is-a : eqZ (cell (t o) (i o) 0) (A o) ≡ true
-  is-a = sym (o .is-of .ensures) ∙ not-false _ (r .before .before .if2 .left)
+  is-a = sym (o .is-of .ensures) ∙ r .before .before .if2 .taken
 
   barred : isBarred (top o) ≡ true → rows o (i o) ≡ []
   barred h = sym (same o) ∙ absence-forbidden (s o .args .edges) (entry o) (A o) (B o) (top o) (t o) (i o) _ _ (ap (λ x. x .start) (r .row-at .ensures)) (ap (λ x. x .end) (r .row-at .ensures)) is-a h
@@ -143,15 +142,9 @@ some-left c =
     let r = l .before in
     within-some (s (o r) .args .edges) (B (o r)) (r .row-at .result .start) (r .row-at .result .end) (t (o r)) (l .loop .j) (sym (within (c .before)) ∙ c .if3 .taken)
 
--- a row that is no candidate
-candidates-again : tie.Need-candidates-again Inv-loop μ-loop Inv-candidates μ-candidates
-candidates-again c =
-    let d = c .before in
-    skip _ (i d) (end d) (k d .candidates .inv) (low d) (other d (not-true _ (c .if2 .taken)))
-
 -- a candidate that is forbidden
-candidates-again-2 : tie.Need-candidates-again-2 Inv-loop μ-loop Inv-candidates μ-candidates
-candidates-again-2 c =
+forbidden : tie.Need-candidates-again Inv-loop μ-loop Inv-candidates μ-candidates
+forbidden c =
     let y = c .before .before .before in
     let l = y .before .before .before .before in
     let r = l .before in
@@ -197,12 +190,19 @@ returns-2 c =
     let r = y .before .before .before .before .before in
     simp (whole (k (o r) .before)) at (stop _ (i (o r)) (end (o r)) (k (o r) .candidates .inv) (low (o r)) (stands r (free y)) (d .push-part .ensures) (c .if5 .taken))
 
-candidates-again-3 : tie.Need-candidates-again-3 Inv-loop μ-loop Inv-candidates μ-candidates
-candidates-again-3 c =
+-- a candidate that is appended
+appended : tie.Need-candidates-again-2 Inv-loop μ-loop Inv-candidates μ-candidates
+appended c =
     let d = c .before .before in
     let y = d .before .before in
     let r = y .before .before .before .before .before in
     turn _ (i (o r)) (end (o r)) (k (o r) .candidates .inv) (low (o r)) (stands r (free y)) (d .push-part .ensures) (c .if5 .left)
+
+-- a row that is no candidate
+passed : tie.Need-candidates-again-3 Inv-loop μ-loop Inv-candidates μ-candidates
+passed c =
+    let d = c .before in
+    skip _ (i d) (end d) (k d .candidates .inv) (low d) (other d (c .if2 .left))
 
 returns-3 : tie.Need-returns-3 Inv-loop μ-loop Inv-candidates μ-candidates
 returns-3 c =
@@ -224,21 +224,21 @@ absence-rows-spec =
     candidates-holds
     (λ c. omega arith)
     (λ c κs. let k = c .before .before in omega (arith, held (k .before .before .before .before .before .before), k .candidates .inv .size))
-    (λ c. omega (arith, low (c .before)))
-    candidates-again
     (λ c κs. let d = c .before .before in omega (arith, low d, long d))
     (λ c. (omega arith, refl))
     (λ c κs. let l = c .before .before in let d = o (l .before) in omega (arith, long d, top-below (k d .before), l .loop .inv .0))
     (λ c. omega (arith, some-left c))
     (λ c κs. let y = c .before in let l = y .before .before .before .before in let d = o (l .before) in omega (arith, some-left y, long d, top-below (k d .before), l .loop .inv .0))
     (λ c. omega (arith, low (o (c .before .before .before .before .before .before .before .before))))
-    candidates-again-2
+    forbidden
     (λ c. omega (arith, some-left (c .before .before .before)))
     loop-again
     push-part-requires
     same-length
     returns-2
     (λ c. omega (arith, low (o (c .before .before .before .before .before .before .before .before .before))))
-    candidates-again-3
+    appended
+    (λ c. omega (arith, low (c .before)))
+    passed
     (λ c. c .before .candidates .inv .size)
     returns-3)

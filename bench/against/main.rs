@@ -26,7 +26,9 @@ fn main() {
         let mut ratios = Ratios::default();
         for _ in 0..rounds {
             for place in PLACES {
-                SIDES.map(|side| ratios.add(side, place, &run(&format!("{folder}/{part}.{side}.{place}")), behind));
+                for side in SIDES {
+                    ratios.add(side, place, &run(&format!("{folder}/{part}.{side}.{place}")), behind);
+                }
             }
         }
         ratios.print();

@@ -384,7 +384,7 @@ fn next_of(t: &[i32], i: usize, n: usize, a: i32) -> usize
     first_of(t, r, n, a)
 }
 
-// The same search row by row, which is quicker where few rows are left, as there mostly are of the new ones.
+// The same search row by row, which is quicker where few rows are left.
 fn first_of(t: &[i32], i: usize, n: usize, a: i32) -> usize
     requires { ⌜ (i ≤ n) × (n * 5 ≤ length (now t)) ⌝ }
     ensures { λ r. ⌜ r ≡ nextRow a i n (now (t .entry)) ⌝ }
@@ -459,7 +459,7 @@ fn left_from(t: &[i32], f: Frame, c: Relation, b: i32) -> usize
 {
     let end = f.end;
     let ending = interval::ending_of(c);
-    let s = first_of(t, f.first, end, b);
+    let s = next_of(t, f.first, end, b);
     match ending {
         Ending::Before => if s < end { 0 } else { end },
         Ending::Within => if s < end {

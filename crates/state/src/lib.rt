@@ -31,7 +31,7 @@ pub fn empty(instant: i32) -> WatchState
 }
 
 impl WatchState {
-    // One event more at the open instant.
+    // One event more at the open instant. The state is made anew: storing into a copy of the old one copies the codes once more.
     pub fn with_event(self, k: u8) -> WatchState
         requires { ⌜ (self .pending < 64) × (self .events < 1000000) ⌝ }
         ensures { λ r. ⌜ r ≡ withEvent self k ⌝ }
@@ -63,13 +63,18 @@ impl WatchState {
         }
     }
 
-    // A higher floor, with n rows.
-    pub fn raised(self, floor: i32, n: usize) -> WatchState
-        ensures { λ r. ⌜ r ≡ raised self floor n ⌝ }
+    // A higher floor, with so many rows.
+    pub fn raised(self, floor: i32, rows: usize) -> WatchState
+        ensures { λ r. ⌜ r ≡ raised self floor rows ⌝ }
     {
-        let mut next = self;
-        next.floor = floor;
-        next.rows = n;
-        next
+        let codes = self.codes;
+        WatchState {
+            instant: self.instant,
+            floor,
+            events: self.events,
+            rows,
+            pending: self.pending,
+            codes,
+        }
     }
 }

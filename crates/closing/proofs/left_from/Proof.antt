@@ -13,10 +13,10 @@ use Rattle.closing.proofs.left_from.Statement.{statement}
 use Rattle.closing.proofs.left_from.Tie as tie
 
 -- the first new row of b
-first : (c : tie.After-first-of) → let g = c .before .before .args in c .first-of .result ≡ nextRow (g .b) (g .f .first) (g .f .end) (g .t .now)
-first c = simp (same32 _ (c .before .before .fits .b)) at (c .first-of .ensures)
+first : (c : tie.After-next-of) → let g = c .before .before .args in c .next-of .result ≡ nextRow (g .b) (g .f .first) (g .f .end) (g .t .now)
+first c = simp (same32 _ (c .before .before .fits .b)) at (c .next-of .ensures)
 
-by-ending : (c : tie.After-first-of) (v : Ending) (new : Bool) → c .before .ending-of .result ≡ v → (let g = c .before .before .args in ltb (c .first-of .result) (g .f .end) ≡ new) → let g = c .before .before .args in leftBy v new (g .b) (g .f .first) (g .f .end) (g .t .now) ≡ leftFrom (endingOf (g .c)) (g .b) (g .f .first) (g .f .end) (g .t .now)
+by-ending : (c : tie.After-next-of) (v : Ending) (new : Bool) → c .before .ending-of .result ≡ v → (let g = c .before .before .args in ltb (c .next-of .result) (g .f .end) ≡ new) → let g = c .before .before .args in leftBy v new (g .b) (g .f .first) (g .f .end) (g .t .now) ≡ leftFrom (endingOf (g .c)) (g .b) (g .f .first) (g .f .end) (g .t .now)
 unfolding leftFrom
 by-ending c v new h e =
     let g = c .before .before .args in

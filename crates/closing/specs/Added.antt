@@ -61,8 +61,11 @@ pub record SerialsFit (p : Pending) : Type 0 where
 abbrev pub pendingAt : ℤ → ℕ → ℕ → Pending
 pendingAt o first count = record { instant = o; first = first; count = count }
 
+abbrev pub serialRow : ℕ → ℤ → ℕ → Row
+serialRow entry o serial = row entry (pos serial) none o o
+
 unfoldable pub eventRow : ℕ → ℕ → ℤ → ℕ → ℕ → List Row
-eventRow entry k o code serial = when (eqb code k) (row entry (pos serial) none o o)
+eventRow entry k o code serial = when (eqb code k) (serialRow entry o serial)
 
 unfoldable pub eventRows : ℕ → ℕ → Pending → List ℕ → List Row
 eventRows entry k p codes = each (λ j. eventRow entry k (p .instant) (getD codes j 0) (p .first + j)) (span 0 (p .count))

@@ -4,6 +4,7 @@
 ghost use mathlib.Core.Path.{_≡_};
 ghost use mathlib.Core.List.{[], _∷_};
 ghost use Prim.Native.Nat.{_+_, _*_, _≤_, _<_};
+ghost use lib.Dec.{eqb};
 ghost use lib.IntN.{natAbs};
 ghost use lib.ListN.{length, drop};
 ghost use mathlib.Core.Bool.{true};
@@ -14,7 +15,7 @@ ghost use Rattle.model.specs.Capacity.{capacity};
 ghost use Rattle.table.specs.Table.{cell, storedRow};
 ghost use Rattle.table.specs.Ends.{Ordered, endingBefore};
 ghost use Rattle.table.specs.Operators.{entryOperator};
-ghost use Rattle.closing.specs.Added.{Appendable, FilledBy, Appended, SerialsFit, eventRow, eventRows, armOf, partOf, partRow, isTaken, takenRow, takenRows, orRows, forbids, isWithin, absenceRows, topOf, SameTop, nextRow, Passed, leastStart, isWanted, pairOf, pairRow, rightFrom, pairsOf, leftFrom, pairRows, addedRows};
+ghost use Rattle.closing.specs.Added.{Appendable, FilledBy, Appended, SerialsFit, serialRow, eventRows, armOf, partOf, partRow, isTaken, takenRow, takenRows, orRows, forbids, isWithin, absenceRows, topOf, SameTop, nextRow, Passed, leastStart, isWanted, pairOf, pairRow, rightFrom, pairsOf, leftFrom, pairRows, addedRows};
 ghost use Rattle.closing.specs.Closed.{Closable, closedRows, closedNumber, closedTable};
 use chart::Chart;
 use chart::Entry;
@@ -58,30 +59,25 @@ struct Wanted {
     end: i32,
 }
 
-// An event's row, if its code is k.
-fn push_event(
-    t: &mut [i32],
-    n: usize,
-    f: Frame,
-    k: u32,
-    instant: i32,
-    code: u8,
-    serial: usize,
-) -> usize
-    requires { ⌜ (Appendable f n (now t)) × (serial ≤ 1000000) ⌝ }
-    ensures { λ r. ⌜ Appended f n (eventRow (natAbs (f .entry)) k instant code serial) (now (t .entry)) r (now (t .exit)) ⌝ }
+// Whether an event's code is k.
+fn has_code(code: u8, k: u32) -> bool
+    ensures { λ r. ⌜ r ≡ eqb code k ⌝ }
 {
-    if code as u32 == k {
-        let row = Row {
-            entry: f.entry,
-            left: serial as i32,
-            right: -1,
-            start: instant,
-            end: instant,
-        };
-        return table::push_row(t, n, f.room, row);
-    }
-    n
+    code as u32 == k
+}
+
+fn push_event(t: &mut [i32], n: usize, f: Frame, instant: i32, serial: usize) -> usize
+    requires { ⌜ (Appendable f n (now t)) × (serial ≤ 1000000) ⌝ }
+    ensures { λ r. ⌜ Appended f n (serialRow (natAbs (f .entry)) instant serial ∷ []) (now (t .entry)) r (now (t .exit)) ⌝ }
+{
+    let row = Row {
+        entry: f.entry,
+        left: serial as i32,
+        right: -1,
+        start: instant,
+        end: instant,
+    };
+    table::push_row(t, n, f.room, row)
 }
 
 // event: a row for each pending event of code k. One look at each event.
@@ -94,12 +90,15 @@ fn event_rows(t: &mut [i32], n: usize, f: Frame, k: u32, p: Pending, codes: &[u8
     let mut count = n;
     let mut j: usize = 0;
     while j < pending {
-        let code = codes[j];
-        count = push_event(t, count, f, k, p.instant, code, p.first + j);
-        if room < count {
-            return count;
-        }
+        let at = j;
         j += 1;
+        let code = codes[at];
+        if has_code(code, k) {
+            count = push_event(t, count, f, p.instant, p.first + at);
+            if room < count {
+                return count;
+            }
+        }
     }
     count
 }

@@ -2,6 +2,7 @@
 // A call has the contract of the call that it makes. Costs are those of that call.
 ghost use mathlib.Core.Path.{_≡_};
 ghost use Rattle.chart.specs.Charts.{readChart, verdictOf};
+ghost use Rattle.model.specs.Capacity.{capacity};
 ghost use Rattle.program.specs.Statements.{listedLength, listedTable, listedOutput};
 ghost use Rattle.watch.specs.Steps.{openingStep, checkNumber, eventStep, clockStep, forgetStep, endRows, treeStep};
 use chart::Chart;
@@ -26,6 +27,14 @@ pub extern "C" fn chronicle_read_chart(bytes: &[u8]) -> ChartAnswer
     ensures { λ r. ⌜ r ≡ readChart (now (bytes .entry)) ⌝ }
 {
     chart::read(bytes)
+}
+
+// How many rows a table of so many numbers holds. 16 turns of a loop at most, and no division.
+#[no_mangle]
+pub extern "C" fn chronicle_rows_that_fit(length: usize) -> usize
+    ensures { λ r. ⌜ r ≡ capacity length ⌝ }
+{
+    table::rows_that_fit(length)
 }
 
 // Opens a watch: 14, 8. One look at each entry of the chart, one pass over the table.

@@ -79,8 +79,9 @@
  * THE TABLE
  *
  * The table is `length` numbers of the caller's, in any state before the
- * opening. It holds length / 5 rows, rounded down, and never more than 65535.
- * Row r is the five numbers from table[5 * r] on:
+ * opening. It holds length / 5 rows, rounded down, and never more than 65535:
+ * chronicle_rows_that_fit says how many. Row r is the five numbers from
+ * table[5 * r] on:
  *
  *     entry  left  right  start  end
  *
@@ -169,8 +170,10 @@
 
 #ifdef __GNUC__
 #define CHRONICLE_CALL __attribute__((nonnull, warn_unused_result))
+#define CHRONICLE_NUMBER_CALL __attribute__((const, warn_unused_result))
 #else
 #define CHRONICLE_CALL
+#define CHRONICLE_NUMBER_CALL
 #endif
 
 #ifdef __cplusplus
@@ -251,6 +254,13 @@ struct chronicle_verdict chronicle_check_chart(const uint8_t *bytes, size_t leng
 /* Reads a chart on paper; the entries behind its own are zeros. Time: as chronicle_check_chart. */
 CHRONICLE_CALL
 struct chronicle_chart_answer chronicle_read_chart(const uint8_t *bytes, size_t length);
+
+/*
+ * How many rows a table of `length` numbers holds, for every length: length / 5, rounded down, and at most 65535. Never
+ * refused. Time: 16 steps of additions and comparisons; no division and no multiplication.
+ */
+CHRONICLE_NUMBER_CALL
+size_t chronicle_rows_that_fit(size_t length);
 
 /* Opens a watch at an instant and fills all rows of the table with zeros. Time: one pass over the table. */
 CHRONICLE_CALL

@@ -38,12 +38,14 @@ static struct subject {
     struct chronicle_rows rows;
     struct chronicle_tree_answer tree;
     size_t listed;
+    size_t fitting;
     uint32_t refusal;
 } s;
 
 static void no_call(void) {}
 static void check_chart(void) { s.verdict = chronicle_check_chart(s.text, s.chart_length); }
 static void read_chart(void) { s.read = chronicle_read_chart(s.text, s.chart_length); }
+static void rows_that_fit(void) { s.fitting = chronicle_rows_that_fit(NUMBERS); }
 static void open_watch(void) { s.answer = chronicle_open(s.chart, s.table, NUMBERS, 0); }
 static void event(void) { s.answer = chronicle_event(s.watch, s.chart, s.table, NUMBERS, 1); }
 static void mark(void) { s.answer = chronicle_clock(s.watch, s.chart, s.table, NUMBERS, s.watch.instant + 1); }
@@ -131,6 +133,7 @@ static struct call {
     {"chronicle_tree", tree, 0},               {"chronicle_event", event, 0},
     {"chronicle_clock", mark, 0},              {"chronicle_forget", forget, 0},
     {"chronicle_open", open_watch, 0},         {"chronicle_list", list, 0},
+    {"chronicle_rows_that_fit", rows_that_fit, 0},
 };
 
 /* Makes every call on the chart and the rows there are, in an order in which each finds what it needs. */
@@ -143,7 +146,8 @@ static void measure(size_t of_thread)
         if (calls[i].make == event)
             s.watch = s.answer.watch;
     }
-    if (s.verdict.refusal != 0 || s.refusal != 0 || s.tree.refusal != 0 || s.tree.length == 0 || s.listed == 0)
+    if (s.verdict.refusal != 0 || s.refusal != 0 || s.tree.refusal != 0 || s.tree.length == 0 || s.listed == 0 ||
+        s.fitting != ROWS)
         fail("a call was refused");
 }
 
@@ -163,7 +167,7 @@ int main(void)
         }
     int is_enough = 1;
     for (size_t i = 0; i < sizeof calls / sizeof *calls; i++) {
-        printf("%-22s %6zu bytes of stack\n", calls[i].name, calls[i].most);
+        printf("%-23s %6zu bytes of stack\n", calls[i].name, calls[i].most);
         is_enough &= calls[i].most <= CHRONICLE_STACK;
     }
     printf("a thread itself: %zu; the header says: %d\n", of_thread, CHRONICLE_STACK);

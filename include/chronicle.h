@@ -257,7 +257,7 @@ struct chronicle_chart_answer chronicle_read_chart(const uint8_t *bytes, size_t 
 
 /*
  * How many rows a table of `length` numbers holds, for every length: length / 5, rounded down, and at most 65535. Never
- * refused. Time: 16 steps of additions and comparisons; no division and no multiplication.
+ * refused. Time: at most 16 steps of additions and comparisons; no division and no multiplication.
  */
 CHRONICLE_NUMBER_CALL
 size_t chronicle_rows_that_fit(size_t length);

@@ -1,7 +1,7 @@
 //! Looks for divisions and multiplications in a function of an archive and in all functions that it reaches by calls and
 //! jumps, as objdump shows them. Use: instructions ARCHIVE FUNCTION
 //! The exit status is 0 where there is none, 1 where there is one, and 2 where that cannot be said: a function that the
-//! archive has not, or a jump to an address that is computed.
+//! archive has not, or a jump to an address that is computed or that objdump gives no name.
 
 use std::collections::{BTreeMap, BTreeSet};
 use std::process::{Command, ExitCode};
@@ -101,7 +101,7 @@ impl Function {
         self.instructions.push(words.trim().to_string());
         if is_jump(words) {
             let shown = place.split_once('>').map(|(place, _)| place);
-            self.reached.extend(filled_in.or(shown).map(function_at));
+            self.reached.insert(filled_in.or(shown).map_or("at a place without a name".to_string(), function_at));
         }
     }
 }

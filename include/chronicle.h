@@ -31,7 +31,9 @@
  *
  *     PAIR is one of    seq or and -[] -][ -[[ -]]
  *                       meets overlaps starts during finishes equals
- *     LENGTH is one of  lasts atmost atleast
+ *     LENGTH is one of  lasts    a lasts exactly d
+ *                       atmost   d or less
+ *                       atleast  d or more
  *
  * A number has 1 to 10 decimal digits and no sign; only 0 itself begins with
  * the digit 0. The text is bytes: it needs no byte 0 at its end, and a byte 0

@@ -41,7 +41,7 @@ pub const WORKLOADS: [Workload; 3] = [
     // Stage settled (1), shutter opened (2), focus moved (3), and settled before opened with no focus move between.
     Workload {
         name: "morning",
-        chart: "0\tevent\t1\n1\tevent\t2\n2\tevent\t3\n3\tseq\t0\t1\n4\t-[]\t3\t2\n5\tatmost\t4\t9\n6\tor\t5\t2\n",
+        chart: "0\tevent\t1\n1\tevent\t2\n2\tevent\t3\n3\tseq\t0\t1\n4\t-[]\t3\t2\n5\tatmost\t4\t8\n6\tor\t5\t2\n",
         codes: &[1, 2, 3, 3, 3, 3, 7, 8, 9, 9],
         most_events_an_instant: 4,
         most_new_rows: 400,
@@ -50,7 +50,7 @@ pub const WORKLOADS: [Workload; 3] = [
     // Intervals between two events, and their relations.
     Workload {
         name: "relations",
-        chart: "0\tevent\t1\n1\tevent\t2\n2\tseq\t0\t1\n3\tatmost\t2\t3\n4\tmeets\t3\t3\n5\toverlaps\t3\t3\n\
+        chart: "0\tevent\t1\n1\tevent\t2\n2\tseq\t0\t1\n3\tatmost\t2\t2\n4\tmeets\t3\t3\n5\toverlaps\t3\t3\n\
                 6\tstarts\t3\t3\n7\tduring\t3\t3\n8\tfinishes\t3\t3\n9\tequals\t3\t3\n10\t-][\t3\t0\n",
         codes: &[1, 2, 7, 7, 7, 8, 8, 9, 9, 9],
         most_events_an_instant: 4,

@@ -48,7 +48,7 @@ pub fn interval_chart(random: &mut Random, operators: usize) -> String {
 /// A sound chart of two events, intervals between them, those of a few instants, and operators that pair the rows of
 /// these. While a log goes on, rows end before, at and after the start of each new short interval.
 pub fn short_interval_chart(random: &mut Random, operators: usize) -> String {
-    let longest = 2 + random.below(6);
+    let longest = 1 + random.below(6);
     let mut text = format!("0\tevent\t1\n1\tevent\t2\n2\tseq\t0\t1\n3\tatmost\t2\t{longest}\n");
     for index in 4..4 + operators {
         let word =

@@ -34,10 +34,11 @@ pub fn is_forbidding(early: Edge, late: Edge, r: Interval, s: Interval) -> bool 
     from && to
 }
 
+/// With the limits that request N2 includes.
 pub fn has_length(test: LengthTest, r: Interval, length: i64) -> bool {
     match test {
         LengthTest::Lasts => r.end - r.start == length,
-        LengthTest::AtMost => r.end - r.start < length,
-        LengthTest::AtLeast => r.end - r.start > length,
+        LengthTest::AtMost => r.end - r.start <= length,
+        LengthTest::AtLeast => r.end - r.start >= length,
     }
 }

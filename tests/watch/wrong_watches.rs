@@ -5,7 +5,8 @@
 use common::harness::Named;
 use common::interface::{Answer, Calls, Chart, Entry, Rows, TreeAnswer, Watch};
 use common::plain_watch::closing::{
-    Closing, AND, AT_MOST, CLOSED_CLOSED, CLOSED_OPEN, DURING, LASTS, NONE, OPEN_CLOSED, OPEN_OPEN, OR, OVERLAPS, SEQ,
+    Closing, AND, AT_LEAST, AT_MOST, CLOSED_CLOSED, CLOSED_OPEN, DURING, LASTS, NONE, OPEN_CLOSED, OPEN_OPEN, OR, OVERLAPS,
+    SEQ,
 };
 use common::plain_watch::storage::{Lower, Own, Part, Row, Span, Storage, END, ENTRY, START, UNUSED};
 use common::plain_watch::{calls, is_instant, Plain, PlainWatch, Renumbered, Taken, INSTANTS};
@@ -573,9 +574,14 @@ wrong_watches! {
                 Plain::is_forbidding(if op == OPEN_OPEN { CLOSED_CLOSED } else { op }, r, s)
             }
         }
-        AtMostIncluded: "atmost: its limit included" {
+        AtMostExcluded: "atmost: its limit left out" {
             fn has_length(op: u8, length: u32, r: &Span) -> bool {
-                Plain::has_length(op, length, r) || (op == AT_MOST && Plain::has_length(LASTS, length, r))
+                Plain::has_length(op, length, r) && !(op == AT_MOST && Plain::has_length(LASTS, length, r))
+            }
+        }
+        AtLeastExcluded: "atleast: its limit left out" {
+            fn has_length(op: u8, length: u32, r: &Span) -> bool {
+                Plain::has_length(op, length, r) && !(op == AT_LEAST && Plain::has_length(LASTS, length, r))
             }
         }
     }

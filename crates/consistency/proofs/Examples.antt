@@ -100,8 +100,8 @@ chart7 = chartOf (
     "2 seq 0 1" ∷
     "3 or 0 1" ∷
     "4 -[] 2 1" ∷
-    "5 atmost 2 6" ∷
-    "6 atmost 2 5" ∷ [])
+    "5 atmost 2 5" ∷
+    "6 atmost 2 4" ∷ [])
 
 abbrev rows5 : List String
 rows5 =
@@ -149,7 +149,7 @@ rows =
     bad "3 2 -1 4 5" ∷ bad "3 2 -1 5 6" ∷ bad "3 -1 3 4 5" ∷ bad "3 -1 3 5 6" ∷
     bad "4 4 -1 1 5" ∷ bad "4 4 -1 0 6" ∷
     bad "5 4 -1 1 5" ∷ bad "5 4 -1 0 6" ∷
-    -- "or non-absence condition disagrees with them": of a relation, 5 < 5; of a length test, 5 < 5. In "4 4 -1 0 5", taken above, rows 1 and 3 forbid row 4.
+    -- "or non-absence condition disagrees with them": of a relation, 5 < 5; of a length test, 5 <= 4. In "4 4 -1 0 5", taken above, rows 1 and 3 forbid row 4.
     bad "2 2 3 5 5" ∷ bad "6 4 -1 0 5" ∷
     -- "An event row's serial is 1 to the count, start and end equal."
     good "0 1 -1 5 5" ∷ bad "0 0 -1 5 5" ∷ bad "0 -1 -1 5 5" ∷ good "0 4 -1 5 5" ∷ bad "0 5 -1 5 5" ∷ bad "0 4 -1 4 5" ∷ bad "0 4 -1 5 6" ∷ []

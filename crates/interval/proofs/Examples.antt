@@ -125,8 +125,8 @@ lasting d rs test = keep (λ r. hasLength test d (r .start) (r .end)) rs
 -- 5, on lengths 4, 5 and 6
 lengths : map (lasting 5 (from-to minus2 (pos 2) ∷ from-to minus2 (pos 3) ∷ from-to minus2 (pos 4) ∷ [])) (Lasts ∷ AtMost ∷ AtLeast ∷ []) ≡
     (from-to minus2 (pos 3) ∷ []) ∷
-    (from-to minus2 (pos 2) ∷ []) ∷
-    (from-to minus2 (pos 4) ∷ []) ∷ []
+    (from-to minus2 (pos 2) ∷ from-to minus2 (pos 3) ∷ []) ∷
+    (from-to minus2 (pos 3) ∷ from-to minus2 (pos 4) ∷ []) ∷ []
 unfolding hasLength
 lengths = refl
 
@@ -138,8 +138,8 @@ abbrev oneShorter : Interval
 oneShorter = from-to (negsuc 999999999) (pos 999999999)
 
 extreme-lengths : map (lasting 0 (point ∷ from-to zero one ∷ [])) (Lasts ∷ AtMost ∷ AtLeast ∷ []) ++ map (lasting 2000000000 (oneShorter ∷ longest ∷ [])) (Lasts ∷ AtMost ∷ AtLeast ∷ []) ≡
-    (point ∷ []) ∷ [] ∷ (from-to zero one ∷ []) ∷
-    (longest ∷ []) ∷ (oneShorter ∷ []) ∷ [] ∷ []
+    (point ∷ []) ∷ (point ∷ []) ∷ (point ∷ from-to zero one ∷ []) ∷
+    (longest ∷ []) ∷ (oneShorter ∷ longest ∷ []) ∷ (longest ∷ []) ∷ []
 unfolding hasLength
 extreme-lengths = refl
 

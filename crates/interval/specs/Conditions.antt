@@ -47,8 +47,8 @@ isForbidding OpenOpen rs re ss se = ltZ rs ss && ltZ se re
 isForbidding ClosedOpen rs re ss se = leZ rs ss && ltZ se re
 isForbidding OpenClosed rs re ss se = ltZ rs ss && leZ se re
 
--- lasts: end r - start r = d; atmost: end r - start r < d; atleast: end r - start r > d
+-- lasts: end r - start r = d; atmost: end r - start r <= d; atleast: end r - start r >= d (request N2; document 01 had < d and > d)
 unfoldable pub hasLength : LengthTest → ℕ → ℤ → ℤ → Bool
 hasLength Lasts d rs re = eqZ (re -ℤ rs) (pos d)
-hasLength AtMost d rs re = ltZ (re -ℤ rs) (pos d)
-hasLength AtLeast d rs re = ltZ (pos d) (re -ℤ rs)
+hasLength AtMost d rs re = leZ (re -ℤ rs) (pos d)
+hasLength AtLeast d rs re = leZ (pos d) (re -ℤ rs)

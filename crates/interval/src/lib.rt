@@ -180,7 +180,7 @@ pub fn has_length(t: LengthTest, d: u32, start: i32, end: i32) -> bool
     let m = d as i64;
     match t {
         LengthTest::Lasts => n == m,
-        LengthTest::AtMost => n < m,
-        LengthTest::AtLeast => m < n,
+        LengthTest::AtMost => n <= m,
+        LengthTest::AtLeast => m <= n,
     }
 }

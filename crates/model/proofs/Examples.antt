@@ -1,5 +1,5 @@
 -- Each operator at its boundary, the misreadings that document 01 forbids, and each refusal: one list of cases, one theorem that the checker
--- computes. What must come out was found by hand from document 01. P1 to P8 are computed from text in crate `program`.
+-- computes. What must come out was found by hand from document 01 and request N2. P1 to P8 are computed from text in crate `program`.
 use Prim.Native.Nat.{ℕ, suc, _<_, _≤_}
 use mathlib.Core.Path.{_≡_, refl}
 use mathlib.Core.List.{List, [], _∷_, _++_, map}
@@ -98,12 +98,12 @@ absences =
     case (R.event 1 ∷ R.event 2 ∷ related Seq 0 0 ∷ absence ClosedClosed 2 1 ∷ []) 3000 (pos 0) (event 2 ∷ clock (pos 1) ∷ event 1 ∷ clock (pos 3) ∷ event 1 ∷ clock (pos 4) ∷ event 2 ∷ clock (pos 5) ∷ []) (taken 8)
     (row-l 1 1 0 0 ∷ row-l 0 2 1 1 ∷ row-l 0 3 3 3 ∷ row-lr 2 1 2 1 3 ∷ row-l 3 3 1 3 ∷ row-l 1 4 4 4 ∷ []) ∷ []
 
--- lasts, atmost and atleast 5 on lengths 4, 5 and 6
+-- lasts, atmost and atleast 5 on lengths 4, 5 and 6, the limit included (request N2)
 abbrev lengths : List Case
 lengths =
     tested Lasts (row-l 0 1 0 0 ∷ row-l 1 2 4 4 ∷ row-lr 2 0 1 0 4 ∷ row-l 1 3 5 5 ∷ row-lr 2 0 3 0 5 ∷ row-l 3 4 0 5 ∷ row-l 1 4 6 6 ∷ row-lr 2 0 6 0 6 ∷ []) ∷
-    tested AtMost (row-l 0 1 0 0 ∷ row-l 1 2 4 4 ∷ row-lr 2 0 1 0 4 ∷ row-l 3 2 0 4 ∷ row-l 1 3 5 5 ∷ row-lr 2 0 4 0 5 ∷ row-l 1 4 6 6 ∷ row-lr 2 0 6 0 6 ∷ []) ∷
-    tested AtLeast (row-l 0 1 0 0 ∷ row-l 1 2 4 4 ∷ row-lr 2 0 1 0 4 ∷ row-l 1 3 5 5 ∷ row-lr 2 0 3 0 5 ∷ row-l 1 4 6 6 ∷ row-lr 2 0 5 0 6 ∷ row-l 3 6 0 6 ∷ []) ∷ []
+    tested AtMost (row-l 0 1 0 0 ∷ row-l 1 2 4 4 ∷ row-lr 2 0 1 0 4 ∷ row-l 3 2 0 4 ∷ row-l 1 3 5 5 ∷ row-lr 2 0 4 0 5 ∷ row-l 3 5 0 5 ∷ row-l 1 4 6 6 ∷ row-lr 2 0 7 0 6 ∷ []) ∷
+    tested AtLeast (row-l 0 1 0 0 ∷ row-l 1 2 4 4 ∷ row-lr 2 0 1 0 4 ∷ row-l 1 3 5 5 ∷ row-lr 2 0 3 0 5 ∷ row-l 3 4 0 5 ∷ row-l 1 4 6 6 ∷ row-lr 2 0 6 0 6 ∷ row-l 3 7 0 6 ∷ []) ∷ []
   where
     tested : LengthTest → List Row → Case
     tested t rows = case (R.event 1 ∷ R.event 2 ∷ related Seq 0 1 ∷ lasting t 2 5 ∷ []) 3000 (pos 0) (event 1 ∷ clock (pos 4) ∷ event 2 ∷ clock (pos 5) ∷ event 2 ∷ clock (pos 6) ∷ event 2 ∷ clock (pos 7) ∷ []) (taken 8) rows

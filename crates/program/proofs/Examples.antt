@@ -1,6 +1,6 @@
 -- What the listing program prints, from text to text: P1 to P8, the four absences, the ends of the range of instants, and refusals. One list of
--- cases, one theorem that the checker computes by the definition alone. What must be printed stands in document 01 or was found by hand from it.
--- P1 to P8 stand here only; behind the list is the tree of P1's row 7.
+-- cases, one theorem that the checker computes by the definition alone. What must be printed stands in document 01 or request N2 or was found by
+-- hand from them. P1 to P8 stand here only; behind the list is the tree of P1's row 7.
 use Prim.Native.Nat.{ℕ}
 use Prim.Native.String.{String}
 use mathlib.Core.Path.{_≡_, refl}
@@ -85,9 +85,13 @@ P1-P8 =
     lists 3000 ("0 event 1" ∷ "1 seq 0 0" ∷ []) ("open 0" ∷ "event 1" ∷ "event 1" ∷ "clock 1" ∷ []) ("0 0 1 -1 0 0" ∷ "1 0 2 -1 0 0" ∷ []) ∷
     -- "P6 `or 0 0` gives two per event"
     lists 3000 ("0 event 1" ∷ "1 or 0 0" ∷ []) ("open 0" ∷ "event 1" ∷ "clock 1" ∷ []) ("0 0 1 -1 0 0" ∷ "1 1 0 -1 0 0" ∷ "2 1 -1 0 0 0" ∷ []) ∷
-    -- "P7 `atmost` 5 drops length 5": of lengths 4 and 5 the first stays
-    lists 3000 ("0 event 1" ∷ "1 event 2" ∷ "2 seq 0 1" ∷ "3 atmost 2 5" ∷ []) ("open 0" ∷ "event 1" ∷ "clock 4" ∷ "event 2" ∷ "clock 5" ∷ "event 2" ∷ "clock 6" ∷ [])
-    ("0 0 1 -1 0 0" ∷ "1 1 2 -1 4 4" ∷ "2 2 0 1 0 4" ∷ "3 3 2 -1 0 4" ∷ "4 1 3 -1 5 5" ∷ "5 2 0 4 0 5" ∷ []) ∷
+    -- "P7 turns round: length 5 stays" (request N2). Of lengths 4, 5 and 6 `atmost` 5 keeps 4 and 5, `atleast` 5 keeps 5 and 6
+    lists 3000 ("0 event 1" ∷ "1 event 2" ∷ "2 seq 0 1" ∷ "3 atmost 2 5" ∷ "4 atleast 2 5" ∷ [])
+    ("open 0" ∷ "event 1" ∷ "clock 4" ∷ "event 2" ∷ "clock 5" ∷ "event 2" ∷ "clock 6" ∷ "event 2" ∷ "clock 7" ∷ [])
+    ("0 0 1 -1 0 0" ∷
+    "1 1 2 -1 4 4" ∷ "2 2 0 1 0 4" ∷ "3 3 2 -1 0 4" ∷
+    "4 1 3 -1 5 5" ∷ "5 2 0 4 0 5" ∷ "6 3 5 -1 0 5" ∷ "7 4 5 -1 0 5" ∷
+    "8 1 4 -1 6 6" ∷ "9 2 0 8 0 6" ∷ "10 4 9 -1 0 6" ∷ []) ∷
     -- "P8 a table of 7 rows refuses P1's last mark with 12, one of 8 takes it"
     prints 7 (chart1 "4 -[[ 3 2") log1 ("refused 12 14" ∷ []) ∷
     lists 8 (chart1 "4 -[[ 3 2") log1 rows1 ∷ []

@@ -160,7 +160,8 @@ fn damaged_chart(random: &mut Random) -> Vec<u8> {
 
 /// A log with an instant of `SPELLINGS` in one to three of its lines.
 fn at_an_edge(random: &mut Random) -> Vec<u8> {
-    let mut text = format!("0\tevent\t1\n1\tseq\t0\t0\n2\tatleast\t1\t{}\n\n", random.pick(&[0, 1_999_999_998, 1_999_999_999]));
+    let limit = random.pick(&[0, 1_999_999_998, 1_999_999_999]);
+    let mut text = format!("0\tevent\t1\n1\tseq\t0\t0\n2\tatleast\t1\t{limit}\n\n");
     let opening = if random.one_in(2) { "-1000000000" } else { random.pick(&SPELLINGS) };
     text += &format!("open\t{opening}\nevent\t1\n");
     for _ in 0..random.below(4) {

@@ -5,8 +5,8 @@
 use common::harness::Named;
 use common::interface::{Answer, Calls, Chart, Entry, Rows, TreeAnswer, Watch};
 use common::plain_watch::closing::{
-    Closing, AND, AT_LEAST, AT_MOST, CLOSED_CLOSED, CLOSED_OPEN, DURING, LASTS, NONE, OPEN_CLOSED, OPEN_OPEN, OR, OVERLAPS,
-    SEQ,
+    Closing, AND, AT_LEAST, AT_MOST, CLOSED_CLOSED, CLOSED_OPEN, DURING, LASTS, NONE, OPEN_CLOSED, OPEN_OPEN, OR,
+    OVERLAPS, SEQ,
 };
 use common::plain_watch::storage::{Lower, Own, Part, Row, Span, Storage, END, ENTRY, START, UNUSED};
 use common::plain_watch::{calls, is_instant, Plain, PlainWatch, Renumbered, Taken, INSTANTS};

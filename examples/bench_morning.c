@@ -1,8 +1,8 @@
 /*
  * Runs a watch over a chart and a log, as an acquisition program would. Use: bench_morning CHART LOG
  *
- * Prints every recognition of the chart's last entry, as a tree, as soon as the instant that it ends at is closed, and
- * the table at the end. To build it and run it on a morning at the bench:
+ * Prints every recognition of the chart's last entry, as a tree, as soon as the instant that it ends at is closed, the
+ * shortest of an instant first, and the table at the end. To build it and run it on a morning at the bench:
  *     rt staticlib host
  *     gcc -std=c11 -Iinclude examples/bench_morning.c target/staticlib/libhost.a -o target/bench_morning
  *     target/bench_morning examples/morning.chart examples/morning.log

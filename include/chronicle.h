@@ -94,13 +94,15 @@
  *     start, end   the least start and the greatest end of the rows referred
  *                  to; an event's are its instant
  *
- * Rows stand by end, then by entry, then by left and right; of or, the left arm
- * comes first. A row not in use is five zeros. Numbers after the last row that
- * the table can hold are never altered. Only chronicle_open, chronicle_clock
- * and chronicle_forget write to the table: an opening fills all rows with
- * zeros, a mark writes new rows behind those in use, a forget moves rows down,
- * renumbers their references and fills the freed rows with zeros. The caller
- * may read rows at any time and must not write to them.
+ * Rows stand by end, then by entry, then by start, the later start first: the
+ * shortest recognition of an instant is the first of its entry. Rows that start
+ * alike stand by left and right; of or, the left arm comes first. A row not in
+ * use is five zeros. Numbers after the last row that the table can hold are
+ * never altered. Only chronicle_open, chronicle_clock and chronicle_forget
+ * write to the table: an opening fills all rows with zeros, a mark writes new
+ * rows behind those in use, a forget moves rows down, renumbers their
+ * references and fills the freed rows with zeros. The caller may read rows at
+ * any time and must not write to them.
  *
  *
  * REFUSALS
@@ -293,6 +295,9 @@ struct chronicle_answer chronicle_event(struct chronicle_watch watch, struct chr
  *                                 last one of b and, for each of a, at the rows up to there
  *                                 that end no earlier than it starts, back to the first that
  *                                 forbids
+ *
+ * The new rows of an entry are then put in order, the later start first. Time for k of them: one look at each where they
+ * stand so already, two writes of each where no start is before the one above it, otherwise k log k steps.
  */
 CHRONICLE_CALL
 struct chronicle_answer chronicle_clock(struct chronicle_watch watch, struct chronicle_chart chart, int32_t *table,

@@ -5,8 +5,8 @@ use common::timing::median;
 use std::collections::HashMap;
 use std::process::Command;
 
-/// The parts, and how many columns of a row stand behind its ratio.
-const PARTS: [(&str, usize); 2] = [("chart", 0), ("watch", 2)];
+/// The parts, the arguments of each, and how many columns of a row stand behind its ratio.
+const PARTS: [(&str, &[&str], usize); 2] = [("chart", &[], 0), ("watch", &["--any-order"], 2)];
 const SIDES: [&str; 2] = ["before", "now"];
 const PLACES: [&str; 4] = ["0", "16", "32", "48"];
 
@@ -22,12 +22,13 @@ fn main() {
     let [folder, rounds] = arguments.as_slice() else { panic!("use: against FOLDER ROUNDS") };
     let rounds: usize = rounds.parse().expect("a number of rounds");
     println!("{:<40} {:>8} {:>8} {:>12}", "proved : plain", "before", "now", "now : before");
-    for (part, behind) in PARTS {
+    for (part, arguments, behind) in PARTS {
         let mut ratios = Ratios::default();
         for _ in 0..rounds {
             for place in PLACES {
                 for side in SIDES {
-                    ratios.add(side, place, &run(&format!("{folder}/{part}.{side}.{place}")), behind);
+                    let printed = run(&format!("{folder}/{part}.{side}.{place}"), arguments);
+                    ratios.add(side, place, &printed, behind);
                 }
             }
         }
@@ -37,8 +38,8 @@ fn main() {
 }
 
 /// What a benchmark prints.
-fn run(program: &str) -> String {
-    let output = Command::new(program).output().expect("the benchmark can be run");
+fn run(program: &str, arguments: &[&str]) -> String {
+    let output = Command::new(program).args(arguments).output().expect("the benchmark can be run");
     assert!(output.status.success(), "{program} failed");
     String::from_utf8(output.stdout).expect("a benchmark prints text")
 }

@@ -1,6 +1,8 @@
 //! Times the proved listing program beside the plain one, each as a process on the same files, in one run. The times
-//! are processor times, the start and the end of the process included.
+//! are processor times, the start and the end of the process included. With --any-order the second may be a proved one
+//! from before request N7, which has rows of one end and entry in another order.
 
+use common::paper::{fields, lines};
 use common::random::Random;
 use plain_listing::long_logs::{Drawn, FULL_TABLE, FULL_TABLE_ROWS, WORKLOADS};
 use std::fs::{self, File};
@@ -16,11 +18,15 @@ const ROUNDS: usize = 7;
 const LONGEST: f64 = 60.0;
 
 fn main() -> ExitCode {
-    let arguments: Vec<String> = std::env::args().skip(1).collect();
+    let (options, arguments): (Vec<String>, Vec<String>) =
+        std::env::args().skip(1).partition(|argument| argument == "--any-order");
     let [proved, plain, folder] = arguments.as_slice() else {
-        eprintln!("use: listing_bench LISTING PLAIN_LISTING FOLDER\nThe inputs are written into the folder.");
+        eprintln!(
+            "use: listing_bench [--any-order] LISTING PLAIN_LISTING FOLDER\nThe inputs are written into the folder."
+        );
         return ExitCode::from(2);
     };
+    let is_same = if options.is_empty() { |a: &[u8], b: &[u8]| a == b } else { is_same_in_any_order };
     fs::create_dir_all(folder).expect("the folder can be made");
     println!("events with marks and forgets");
     println!("                    rows in use     input    plain   proved");
@@ -31,7 +37,7 @@ fn main() -> ExitCode {
         let path = Path::new(folder).join(format!("{}-{filling}.in", workload.name));
         fs::write(&path, &input).expect("the input can be written");
         let lines = input.iter().filter(|byte| **byte == b'\n').count();
-        let [plain, proved] = compare(&path, [plain, proved]);
+        let [plain, proved] = compare(&path, [plain, proved], is_same);
         let (plain_ms, proved_ms, ratio) = (plain * 1e3, proved * 1e3, proved / plain);
         print!("{:<10} {events:>7} {mean_rows:>6} {most_rows:>5} {lines:>9}", workload.name);
         println!(" {plain_ms:>8.1} {proved_ms:>8.1} {ratio:>6.2}");
@@ -42,15 +48,27 @@ fn main() -> ExitCode {
     ExitCode::SUCCESS
 }
 
-/// The best time of each program in seconds. Both must print the same.
-fn compare(input: &Path, programs: [&str; 2]) -> [f64; 2] {
+/// Whether two listings have as many rows of each entry, start and end.
+fn is_same_in_any_order(a: &[u8], b: &[u8]) -> bool {
+    let sorted = |listing| {
+        let mut rows: Vec<Vec<&[u8]>> =
+            lines(listing).map(|line| fields(line).map_or(Vec::new(), Iterator::collect)).collect();
+        rows.iter_mut().filter(|row| row.len() == 6).for_each(|row| *row = vec![row[1], row[4], row[5]]);
+        rows.sort();
+        rows
+    };
+    sorted(a) == sorted(b)
+}
+
+/// The best time of each program in seconds. Both must print what is the same.
+fn compare(input: &Path, programs: [&str; 2], is_same: fn(&[u8], &[u8]) -> bool) -> [f64; 2] {
     let (mut best, mut spent) = ([f64::INFINITY; 2], 0.0);
     for _ in 0..ROUNDS {
         if spent > LONGEST {
             break;
         }
         let [(first, first_time), (second, second_time)] = programs.map(|program| run(program, input));
-        assert!(first == second, "the two programs differ on {}", input.display());
+        assert!(is_same(&first, &second), "the two programs differ on {}", input.display());
         assert!(first.starts_with(b"row\t"), "{} is refused", input.display());
         best = [best[0].min(first_time), best[1].min(second_time)];
         spent += first_time + second_time;

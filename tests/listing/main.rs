@@ -9,6 +9,7 @@ mod proved_listing;
 mod wrong_programs;
 
 use common::harness::{self, Compared, Met as _, Named, Test, LEAST_MET};
+use common::paper::{self, lines};
 use common::random::Random;
 use inputs::Case;
 use oracle::listing::{listing, TABLE_ROWS};
@@ -68,10 +69,12 @@ struct Met {
     kinds: BTreeMap<&'static str, usize>,
     rows: usize,
     full_tables: usize,
+    /// How many listings had rows of one end and entry whose starts decide their order, without a forget and with one.
+    by_start: [usize; 2],
 }
 
 impl Met {
-    fn count(&mut self, kind: &'static str, printed: &[u8], table_rows: usize) {
+    fn count(&mut self, kind: &'static str, case: &Case, printed: &[u8]) {
         let number = printed.strip_prefix(b"refused\t").and_then(|text| text.split(|byte| *byte == b'\t').next());
         let number = number.map_or(0, |digits| digits.iter().fold(0, |n, digit| n * 10 + u32::from(digit - b'0')));
         *self.refusals.entry(number).or_default() += 1;
@@ -79,21 +82,33 @@ impl Met {
         if number == 0 {
             let rows = printed.iter().filter(|byte| **byte == b'\n').count() - 1;
             self.rows += rows;
-            self.full_tables += usize::from(rows == table_rows);
+            self.full_tables += usize::from(rows == case.table_rows);
+            let has_forget = lines(&case.input).any(|line| line.starts_with(b"forget"));
+            self.by_start[usize::from(has_forget)] += usize::from(has_rows_by_start(printed));
         }
     }
+}
+
+/// Whether two neighbours of one entry and end have different starts.
+fn has_rows_by_start(printed: &[u8]) -> bool {
+    let fields = |line| paper::fields(line).map_or(Vec::new(), Iterator::collect);
+    let rows: Vec<Vec<&[u8]>> = lines(printed).skip(1).map(fields).collect();
+    let is_one_block = |row: &[&[u8]], next: &[&[u8]]| row[1] == next[1] && row[5] == next[5];
+    rows.windows(2).any(|pair| is_one_block(&pair[0], &pair[1]) && pair[0][4] != pair[1][4])
 }
 
 impl harness::Met for Met {
     fn nothing() -> Met {
         let refusals = (0..=12).map(|number| (number, 0)).collect();
-        Met { refusals, kinds: BTreeMap::new(), rows: 0, full_tables: 0 }
+        Met { refusals, kinds: BTreeMap::new(), rows: 0, full_tables: 0, by_start: [0; 2] }
     }
 
     /// 10 takes a million events and is met once.
     fn is_enough(&self) -> bool {
         let least = |number: u32| if number == 10 { 1 } else { LEAST_MET };
-        self.refusals.iter().all(|(number, count)| *count >= least(*number)) && self.full_tables >= LEAST_MET
+        let mut listings = self.by_start.iter().chain([&self.full_tables]);
+        self.refusals.iter().all(|(number, count)| *count >= least(*number))
+            && listings.all(|count| *count >= LEAST_MET)
     }
 
     fn print(&self) {
@@ -102,6 +117,8 @@ impl harness::Met for Met {
         let counts: Vec<String> = self.refusals.iter().map(|(number, count)| format!("{number}: {count}")).collect();
         println!("refused with each number (0: not refused)\n  {}", counts.join("  "));
         println!("{} rows listed, {} tables full to the last row", self.rows, self.full_tables);
+        let [without, with] = self.by_start;
+        println!("rows of one end and entry with different starts: {without} listings, {with} with a forget");
     }
 }
 
@@ -138,7 +155,7 @@ fn shortened(text: &[u8]) -> String {
 fn compare_short(program: &mut Program, per_seed: usize, met: &mut Met) -> Compared {
     let mut compare_case = |kind: &'static str, case: Case| {
         let expected = expected(&case);
-        met.count(kind, &expected, case.table_rows);
+        met.count(kind, &case, &expected);
         compare(program, &case, &expected)
     };
     planned::all().try_for_each(|case| compare_case("P1 damaged", case))?;
@@ -160,8 +177,9 @@ fn compare_long(program: &mut Program, met: &mut Met) -> Compared {
     let full_table = FULL_TABLE.draw(&mut Random::new(64), FULL_TABLE_EVENTS, FULL_TABLE_ROWS).input;
     for input in drawn.chain([full_table, one_event_too_many()]) {
         let expected = list_all(&input, TABLE_ROWS);
-        met.count("many events", &expected, TABLE_ROWS);
-        compare(program, &Case { input, table_rows: TABLE_ROWS }, &expected)?;
+        let case = Case { input, table_rows: TABLE_ROWS };
+        met.count("many events", &case, &expected);
+        compare(program, &case, &expected)?;
     }
     Ok(())
 }

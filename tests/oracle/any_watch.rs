@@ -10,6 +10,7 @@ use crate::recognitions::Row;
 use common::chart_value;
 use common::interface::{Answer, Chart, Watch};
 use common::plain_chart::{Entry, Operator};
+use std::cmp::Reverse;
 use std::ops::Range;
 
 const NONE: i64 = -1;
@@ -106,13 +107,16 @@ fn forget(watch: &Watch, chart: &[Entry], table: &[i32], floor: i64) -> Result<(
     Ok((Watch { floor: floor as i32, rows: rows.len(), ..*watch }, flat(&rows, table)))
 }
 
-/// The rows there are and, entry by entry, those that end at the open instant; none where they are more than fit.
+/// The rows there are and, entry by entry, those that end at the open instant; none where they are more than fit. An
+/// entry's rows stand "later start first, then the order of document 01", in which they are made and which a stable
+/// sort leaves; later entries refer to them there.
 fn closed_rows(watch: &Watch, chart: &[Entry], table: &[i32]) -> Option<Vec<Row>> {
     let held = rows_held(table.len());
     let mut rows = rows_in_use(watch, table);
     for (number, entry) in chart.iter().enumerate() {
         let ends_now = |row: &Row| row.end == i64::from(watch.instant);
-        let made: Vec<Row> = rows_of(watch, number, entry, &rows).filter(ends_now).take(held + 1).collect();
+        let mut made: Vec<Row> = rows_of(watch, number, entry, &rows).filter(ends_now).take(held + 1).collect();
+        made.sort_by_key(|row| Reverse(row.start));
         rows.extend(made);
         if rows.len() > held {
             return None;
@@ -121,7 +125,7 @@ fn closed_rows(watch: &Watch, chart: &[Entry], table: &[i32]) -> Option<Vec<Row>
     Some(rows)
 }
 
-/// What an entry's line of the operator table makes of the pending events and the rows, in the order of rows.
+/// What an entry's line of the operator table makes of the pending events and the rows, in the order of document 01.
 fn rows_of<'a>(
     watch: &'a Watch,
     number: usize,

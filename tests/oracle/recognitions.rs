@@ -126,17 +126,20 @@ impl Recognitions {
         self.all[index].interval
     }
 
-    /// "Order of rows: by end; then entry; then, for event, serial; for or, the left arm first, each arm by row;
-    /// otherwise left row, then right row." Each recognition has one index, so equal trees are equal indices.
+    /// "Order of rows: by end; then entry", and by request N7, "among rows of equal end and entry": "later start first,
+    /// then the order of document 01". Each recognition has one index, so equal trees are equal indices.
     fn order(&self, x: usize, y: usize) -> Ordering {
         if x == y {
             return Ordering::Equal;
         }
         let (p, q) = (&self.all[x], &self.all[y]);
         let by_end_and_entry = p.interval.end.cmp(&q.interval.end).then(p.entry.cmp(&q.entry));
-        by_end_and_entry.then_with(|| self.order_of_parts(p.parts, q.parts))
+        let later_start_first = q.interval.start.cmp(&p.interval.start);
+        by_end_and_entry.then(later_start_first).then_with(|| self.order_of_parts(p.parts, q.parts))
     }
 
+    /// "For event, serial; for or, the left arm first, each arm by row; otherwise left row, then right row." A row stands
+    /// where its recognition does, so rows are compared by the whole order once more.
     fn order_of_parts(&self, p: Parts, q: Parts) -> Ordering {
         match (p, q) {
             (Parts::Event(x), Parts::Event(y)) => x.cmp(&y),

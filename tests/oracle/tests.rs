@@ -11,6 +11,7 @@ use oracle::history::History;
 use oracle::listing::{listing, TABLE_ROWS};
 use oracle::model::{Call, Model, Over, MOST_EVENTS, MOST_PENDING};
 use oracle::recognitions::Row;
+use std::cmp::Reverse;
 
 const INPUTS: usize = 30_000;
 const HISTORIES: usize = 5_000;
@@ -47,6 +48,25 @@ fn trees_of_or() {
     model.event(1).unwrap();
     model.clock(1).unwrap();
     assert_eq!(model.trees(), ["e1", "<e1,_>", "<_,e1>"]);
+}
+
+/// "Later start first, then the order of document 01": of the pairs that end at 30 the shortest stands first, and those of
+/// e1 and e2, which happened at one instant, by left row; what refers to them goes by their places. A forget leaves the
+/// others in their order.
+#[test]
+fn shortest_first() {
+    let chart = chart("0\tevent\t1\n1\tevent\t2\n2\tseq\t0\t1\n3\tatleast\t2\t20\n");
+    let mut model = opened(&chart, 0);
+    for (codes, mark) in [(vec![1, 1], 10), (vec![1], 20), (vec![1], 30), (vec![2], 40)] {
+        codes.into_iter().for_each(|code| model.event(code).unwrap());
+        model.clock(mark).unwrap();
+    }
+    let pairs = ["<e4,e5>", "<e3,e5>", "<e1,e5>", "<e2,e5>", "<<e3,e5>>", "<<e1,e5>>", "<<e2,e5>>"];
+    assert_eq!(model.trees(), [&["e1", "e2", "e3", "e4", "e5"], &pairs[..]].concat());
+    let references: Vec<i64> = model.rows()[5..].iter().map(|row| row.left).collect();
+    assert_eq!(references, [3, 2, 0, 1, 6, 7, 8]);
+    model.forget(10).unwrap();
+    assert_eq!(model.trees(), ["e3", "e4", "e5", "<e4,e5>", "<e3,e5>", "<<e3,e5>>"]);
 }
 
 /// "10 an event after serial 1,000,000", checked "10 before 9".
@@ -103,6 +123,7 @@ fn events_before_the_floor_change_nothing() {
 #[test]
 fn rows_stand_in_order() {
     let mut random = Random::new(12);
+    let mut neighbours = [0; 2];
     for _ in 0..INPUTS {
         let input = random_inputs::any(&mut random);
         let chart_end = input.windows(2).position(|pair| pair == b"\n\n").expect("an empty line ends the chart") + 1;
@@ -113,7 +134,13 @@ fn rows_stand_in_order() {
             let is_event = chart[row.entry].operator == Operator::Event;
             assert!(is_event || (row.left < number as i64 && row.right < number as i64), "{}", input.escape_ascii());
         }
+        let of_one_block = |pair: &&[Row]| (pair[0].end, pair[0].entry) == (pair[1].end, pair[1].entry);
+        for pair in rows.windows(2).filter(of_one_block) {
+            neighbours[usize::from(pair[0].start == pair[1].start)] += 1;
+        }
     }
+    let [by_start, by_parts] = neighbours;
+    assert!(by_start > 1_000 && by_parts > 1_000, "{by_start} neighbours stand by start, {by_parts} by their parts");
 }
 
 /// A step on the rows of a table gives what the recognitions over all events give, and every history is consistent.
@@ -216,10 +243,11 @@ fn each_cause_of_13() {
     assert_eq!(CAUSES.len(), 19, "each cause has its example above");
 }
 
-/// Where a row stands among others, read off the row alone: end, entry, arm, then serial or left and right row.
-fn key(chart: &[Entry], row: &Row) -> (i64, usize, bool, i64, i64) {
+/// Where a row stands among others, read off the row alone: end, entry, the later start first, arm, then serial or left
+/// and right row.
+fn key(chart: &[Entry], row: &Row) -> (i64, usize, Reverse<i64>, bool, i64, i64) {
     let is_right_arm = chart[row.entry].operator == Operator::Or && row.left == -1;
-    (row.end, row.entry, is_right_arm, row.left, row.right)
+    (row.end, row.entry, Reverse(row.start), is_right_arm, row.left, row.right)
 }
 
 fn rows_printed(printed: &[u8]) -> Vec<Row> {

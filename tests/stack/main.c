@@ -3,7 +3,8 @@
  *
  * Each call is made in a thread of its own, whose stack is painted before: what is no longer painted afterwards was
  * used. What a thread uses for itself is measured by one that makes no call, and taken off. The calls are made where they
- * reach deepest: on charts that nest all 32 entries, by operators of every form.
+ * reach deepest: on charts that nest all 32 entries, by operators of every form; and a mark also where it puts as many
+ * rows of one entry in order as a table holds, the starts of which rise and fall.
  */
 #define _POSIX_C_SOURCE 200809L
 #include "chronicle.h"
@@ -20,7 +21,12 @@ enum {
     NUMBERS = 5 * ROWS,
     OUTPUT = 40 + 81 * ROWS,
     TREE = 4000,
-    ENTRIES = 32
+    ENTRIES = 32,
+    BLOCK_STARTS = 270,
+    BLOCK_ENDS = 60,
+    BLOCK_EVENTS = 3,
+    BLOCK_PAIRS = BLOCK_STARTS * BLOCK_ENDS,
+    BLOCK_ROWS = 65535
 };
 
 /* What the calls are made on; the answers go here too, so that no answer takes room on the painted stack. */
@@ -54,6 +60,13 @@ static void check(void) { s.refusal = chronicle_check(s.watch, s.chart, s.table,
 static void rows_ending(void) { s.rows = chronicle_rows_ending(s.watch, s.chart, s.table, NUMBERS, 0); }
 static void tree(void) { s.tree = chronicle_tree(s.watch, s.chart, s.table, NUMBERS, s.watch.rows - 1, s.out, TREE); }
 static void list(void) { s.listed = chronicle_list(s.text, s.text_length, s.table, NUMBERS, s.out, OUTPUT); }
+
+/* The table that holds a long block. */
+static int32_t block_table[5 * BLOCK_ROWS];
+static void mark_block(void)
+{
+    s.answer = chronicle_clock(s.watch, s.chart, block_table, 5 * BLOCK_ROWS, s.watch.instant + 1);
+}
 
 static void fail(const char *what)
 {
@@ -151,6 +164,57 @@ static void measure(size_t of_thread)
         fail("a call was refused");
 }
 
+/* Plays so many events of a code, and the mark that closes their instant. */
+static void play(uint8_t code, int times)
+{
+    for (int i = 0; i < times && s.answer.refusal == 0; i++)
+        s.answer = chronicle_event(s.answer.watch, s.chart, block_table, 5 * BLOCK_ROWS, code);
+    if (s.answer.refusal == 0)
+        s.answer = chronicle_clock(s.answer.watch, s.chart, block_table, 5 * BLOCK_ROWS, s.answer.watch.instant + 1);
+}
+
+/* Exchanges the pairs, rows of one entry and one end that no row refers to, so that their starts rise and fall. */
+static void exchange_pairs(int32_t *pairs)
+{
+    uint32_t state = 1;
+    for (size_t i = BLOCK_PAIRS; i > 1; i--) {
+        state = state * 1664525u + 1013904223u;
+        size_t j = (state >> 8) % i;
+        int32_t row[5];
+        memcpy(row, pairs + 5 * j, sizeof row);
+        memcpy(pairs + 5 * j, pairs + 5 * (i - 1), sizeof row);
+        memcpy(pairs + 5 * (i - 1), row, sizeof row);
+    }
+}
+
+/* What a mark uses that puts BLOCK_PAIRS times BLOCK_EVENTS rows of one entry in order. */
+static size_t used_by_block(void)
+{
+    s.text_length = 0;
+    add_line("0\tevent\t1\n1\tevent\t2\n2\tevent\t3\n3\tseq\t0\t1\n4\tseq\t3\t2\n");
+    s.chart = chronicle_read_chart(s.text, s.text_length).chart;
+    s.answer = chronicle_open(s.chart, block_table, 5 * BLOCK_ROWS, 0);
+    for (int i = 0; i < BLOCK_STARTS; i++)
+        play(1, 1);
+    play(2, BLOCK_ENDS);
+    exchange_pairs(block_table + 5 * (BLOCK_STARTS + BLOCK_ENDS));
+    for (int i = 0; i < BLOCK_EVENTS && s.answer.refusal == 0; i++)
+        s.answer = chronicle_event(s.answer.watch, s.chart, block_table, 5 * BLOCK_ROWS, 3);
+    s.watch = s.answer.watch;
+    size_t used = used_by(mark_block);
+    if (s.answer.refusal != 0 || s.answer.watch.rows != s.watch.rows + BLOCK_EVENTS * (BLOCK_PAIRS + 1))
+        fail("the block could not be made");
+    return used;
+}
+
+/* A mark with a long block must not use more than one with a short one may. */
+static int measure_block(size_t of_thread)
+{
+    size_t used = used_by_block() - of_thread;
+    printf("chronicle_clock, a block of %d rows: %zu bytes of stack\n", BLOCK_EVENTS * BLOCK_PAIRS, used);
+    return used <= 4096;
+}
+
 int main(void)
 {
     static const struct {
@@ -170,6 +234,7 @@ int main(void)
         printf("%-23s %6zu bytes of stack\n", calls[i].name, calls[i].most);
         is_enough &= calls[i].most <= CHRONICLE_STACK;
     }
+    is_enough &= measure_block(of_thread);
     printf("a thread itself: %zu; the header says: %d\n", of_thread, CHRONICLE_STACK);
     return is_enough ? 0 : 1;
 }

@@ -1,6 +1,7 @@
 //! Watches, charts and tables that no history made: what a history left, with something in it changed. Each call must
 //! answer what `oracle::any_watch` says, 13 exactly where `oracle::consistency` finds a cause.
 
+use crate::blocks::On;
 use crate::histories::{any_row, compare_check_and_rows, compare_tree};
 use crate::met::Met;
 use crate::random_calls::{self, near_instant_of_row, number, Frequencies, OUT_OF_RANGE};
@@ -9,6 +10,8 @@ use common::chart_value;
 use common::harness::Compared;
 use common::interface::{Answer, Calls, Chart};
 use common::random::Random;
+use oracle::layout::rows_in_use;
+use oracle::model::Call;
 use oracle::{any_watch, consistency};
 
 type Change = fn(&mut Random, &mut Subject);
@@ -69,6 +72,9 @@ fn compare_plays(calls: &Calls, given: &Subject, random: &mut Random, met: &mut 
         let mut subject = given.clone();
         let answer = subject.play(calls, call);
         met.count_answer(name(call), expected.refusal);
+        if let (Call::Clock(_), 0) = (call, expected.refusal) {
+            met.blocks.count(On::NoHistory, chart, &rows_in_use(&expected.watch, &table), watch.instant.into());
+        }
         compare_outcome(&format!("{call:?}"), (answer, &subject), (expected, &table))?;
     }
     Ok(())

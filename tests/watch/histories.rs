@@ -1,6 +1,7 @@
 //! Random histories, compared with the set-building program after every call: the refusal's number, every field of the
 //! watch, every number of the table and of the margins around it, rows by their end and trees.
 
+use crate::blocks::On;
 use crate::damage;
 use crate::met::Met;
 use crate::random_calls::{self, Frequencies};
@@ -132,8 +133,11 @@ impl<'a> Run<'a> {
         let closed = self.history.watch.instant;
         let expected = self.history.play(call).err().unwrap_or(0);
         if let (Call::Clock(_), 0) = (call, expected) {
-            let History { rows, watch, .. } = &self.history;
-            met.searches.count(&self.subject.chart, rows, closed.into(), watch.floor > FIRST_FLOOR);
+            let (chart, History { rows, watch, .. }) = (&self.subject.chart, &self.history);
+            let has_forgotten = watch.floor > FIRST_FLOOR;
+            met.searches.count(chart, rows, closed.into(), has_forgotten);
+            let on = if has_forgotten { On::AfterForget } else { On::NothingForgotten };
+            met.blocks.count(on, chart, rows, closed.into());
         }
         let answer = self.subject.play(self.calls, call);
         self.played.push(call);
@@ -173,6 +177,7 @@ impl<'a> Run<'a> {
 
     fn read_tree(&self, random: &mut Random, met: &mut Met) -> Compared {
         let row = any_row(random, self.history.watch.rows);
+        met.blocks.count_tree(&self.subject.chart, &self.history.rows, row);
         let tree_at = |room: usize| self.history.tree(row, room);
         compare_tree(self.calls, &self.subject, row, tree_at, random, met)
             .map_err(|difference| self.described(&difference))

@@ -2,6 +2,7 @@
 //! charts and tables that no history made, and on planned cases. With --self-test it compares watches that are wrong on
 //! purpose instead, and each of them must be found.
 
+mod blocks;
 mod damage;
 mod histories;
 mod met;
@@ -66,6 +67,7 @@ fn compare(calls: &Calls, extent: &Extent, met: &mut Met) -> Compared {
     (0..extent.short_histories).try_for_each(|_| histories::short(calls, &mut random, met))?;
     (0..extent.long_histories).try_for_each(|_| histories::long(calls, &mut random, met))?;
     (0..extent.of_short_intervals).try_for_each(|_| histories::of_short_intervals(calls, &mut random, met))?;
+    planned::blocks(calls, met)?;
     planned::largest_table(calls, met)?;
     planned::charts(calls, met)
 }

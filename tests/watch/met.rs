@@ -1,5 +1,6 @@
-//! What a run reached: answers of each call, causes of 13, operators of rows, edges of searches.
+//! What a run reached: answers of each call, causes of 13, operators of rows, edges of searches, blocks of rows.
 
+use crate::blocks::Blocks;
 use crate::searches::Searches;
 use common::harness::{self, LEAST_MET};
 use common::interface::{Chart, Watch};
@@ -31,6 +32,7 @@ pub struct Met {
     /// How many rows of each operator the tables compared had in all.
     operators: [usize; WORDS.len()],
     pub searches: Searches,
+    pub blocks: Blocks,
 }
 
 impl Met {
@@ -71,13 +73,14 @@ impl harness::Met for Met {
             rows_read: [0; 2],
             operators: [0; WORDS.len()],
             searches: Searches::default(),
+            blocks: Blocks::default(),
         }
     }
 
     fn is_enough(&self) -> bool {
         let answers = self.answers.values().chain(self.causes.values());
         let reads = answers.chain(&self.operators).chain(&self.rows_read).chain([&self.consistent]);
-        reads.chain(self.searches.counts()).all(|count| *count >= LEAST_MET)
+        reads.chain(self.searches.counts()).chain(self.blocks.counts()).all(|count| *count >= LEAST_MET)
     }
 
     fn print(&self) {
@@ -96,5 +99,6 @@ impl harness::Met for Met {
         println!("rows of each operator at the ends of histories");
         WORDS.iter().zip(self.operators).for_each(|(word, count)| println!("  {word:<8} {count:>8}"));
         self.searches.print();
+        self.blocks.print();
     }
 }

@@ -1,9 +1,10 @@
-//! What is compared by plan, not by chance: charts on paper, every short table, the largest table, and trees of billions
-//! of bytes.
+//! What is compared by plan, not by chance: charts on paper, every short table, the largest table, blocks of many rows to
+//! be put in order, and trees of billions of bytes.
 
-use crate::histories::{compare_tree_in, Run};
+use crate::histories::{any_row, compare_tree, compare_tree_in, Run};
 use crate::met::Met;
 use crate::subject::{lent_table, Subject};
+use common::blocks::{before_block, BeforeBlock, Pairs, Starts, ALL_STARTS};
 use common::chart_value;
 use common::harness::Compared;
 use common::interface::{Calls, Watch};
@@ -16,6 +17,8 @@ use oracle::model::Call;
 use std::time::{Duration, Instant};
 
 const CHARTS: usize = 30_000;
+const BLOCK_ROWS: [usize; 3] = [100, 1_000, 3_000];
+const TREES_OF_BLOCK: usize = 10;
 /// The greatest table that is all rows.
 const ALL_ROWS: usize = 65_535 * 5;
 
@@ -76,6 +79,64 @@ pub fn largest_table(calls: &Calls, met: &mut Met) -> Compared {
     run.play(Call::Clock(100), met)?;
     run.play(Call::Forget(-1), met)?;
     run.play(Call::Clock(100), met)
+}
+
+/// Blocks of many rows with starts in every order, each beside an entry that refers to its rows.
+pub fn blocks(calls: &Calls, met: &mut Met) -> Compared {
+    for rows in BLOCK_ROWS {
+        for starts in ALL_STARTS {
+            compare_block(calls, starts, rows, met)
+                .map_err(|difference| format!("{rows} rows of one entry, starts {starts:?}: {difference}"))?;
+        }
+    }
+    Ok(())
+}
+
+/// The mark that makes the block, a forget of what starts before its middle row, and another block on what is left. Before
+/// that the same mark on tables that are a row too short, for the block and for what refers to it.
+fn compare_block(calls: &Calls, starts: Starts, rows: usize, met: &mut Met) -> Compared {
+    let referring = |block: usize| format!("{}\tatleast\t{block}\t0\n", block + 1);
+    let BeforeBlock { watch, chart, table } = before_block(starts, Pairs::of(rows), 7 * rows, referring);
+    let on = |table_rows: usize| Subject { watch, chart, table: lent_table(&table[..table_rows * 5]) };
+    let mark = Call::Clock(i64::from(watch.instant) + 1);
+    let needed = watch.rows + watch.pending + 2 * rows;
+    for too_short in [needed - rows - 1, needed - 1] {
+        compare_play(calls, &mut on(too_short), mark, 12)?;
+    }
+    let mut subject = on(7 * rows);
+    compare_play(calls, &mut subject, mark, 0)?;
+    compare_trees_of_block(calls, &subject, rows, met)?;
+    let middle = subject.table.part()[(subject.watch.rows - rows / 2) * 5 + 3];
+    compare_play(calls, &mut subject, Call::Forget(middle.into()), 0)?;
+    compare_play(calls, &mut subject, Call::Event(3), 0)?;
+    compare_play(calls, &mut subject, Call::Clock(i64::from(watch.instant) + 2), 0)?;
+    compare_trees_of_block(calls, &subject, rows, met)
+}
+
+/// Compares a call on a table of many rows, of which the first that differs is shown.
+fn compare_play(calls: &Calls, subject: &mut Subject, call: Call, refusal: u32) -> Compared {
+    let (expected, table) = any_watch::play(&subject.watch, &subject.chart, subject.table.part(), call);
+    assert_eq!(expected.refusal, refusal, "what is planned for {call:?}");
+    let answer = subject.play(calls, call);
+    if answer != expected {
+        return Err(format!("{call:?} answered {answer:?}\nexpected {expected:?}"));
+    }
+    if subject.table.holds(&table) {
+        return Ok(());
+    }
+    let mut rows = subject.table.part().chunks(5).zip(table.chunks(5)).enumerate();
+    let differing = rows.find(|(_, (row, expected))| row != expected);
+    Err(format!("{call:?} left a row, found and expected: {differing:?}"))
+}
+
+/// Trees of rows anywhere in the table, most of them in the block or made of its rows.
+fn compare_trees_of_block(calls: &Calls, subject: &Subject, rows: usize, met: &mut Met) -> Compared {
+    let mut random = Random::new(rows as u64);
+    (0..TREES_OF_BLOCK).try_for_each(|_| {
+        let row = any_row(&mut random, subject.watch.rows);
+        let tree_at = |room: usize| any_watch::tree(&subject.watch, &subject.chart, subject.table.part(), row, room);
+        compare_tree(calls, subject, row, tree_at, &mut random, met)
+    })
 }
 
 /// One thing changed in a table of 65,535 rows.

@@ -10,6 +10,7 @@ use common::plain_watch::closing::{
 };
 use common::plain_watch::storage::{Lower, Own, Part, Row, Span, Storage, END, ENTRY, START, UNUSED};
 use common::plain_watch::{calls, is_instant, Plain, PlainWatch, Renumbered, Taken, INSTANTS};
+use std::cmp::Reverse;
 
 /// Each wrong watch by its fault and the functions that it replaces: of the calls, or of the closing of an instant.
 macro_rules! wrong_watches {
@@ -39,12 +40,24 @@ fn append_changed<L: Lower>(
     change: impl FnOnce(&mut Vec<Row>),
 ) -> Option<()> {
     let mut free = vec![UNUSED; own.free.len()];
-    let mut made = Own { free: &mut free, list: None, ..*own };
+    let mut made = Own { free: &mut free, ..*own };
     Plain::append(watch, entry, lower, &mut made)?;
     let pushed = made.pushed;
     free.truncate(pushed);
     change(&mut free);
     free.into_iter().try_for_each(|[_, left, right, start, end]| own.push(left, right, start, end))
+}
+
+/// Puts the new rows of an instant in another order, rows of one key as they stand, and renumbers what refers to them.
+fn reorder<K: Ord>(chart: &Chart, storage: &mut Storage, key: impl Fn(&Row) -> K) {
+    let new = storage.old..storage.count;
+    let mut in_order: Vec<usize> = new.clone().collect();
+    in_order.sort_by_key(|index| key(&storage.rows[*index]));
+    let mut places: Vec<u16> = (0..storage.count).map(|index| index as u16).collect();
+    new.clone().zip(&in_order).for_each(|(place, index)| places[*index] = place as u16);
+    let renumbered = |index: &usize| Plain::renumbered(chart, storage.rows[*index], &places);
+    let rows: Vec<Row> = in_order.iter().map(renumbered).collect();
+    storage.rows[new].copy_from_slice(&rows);
 }
 
 wrong_watches! {
@@ -168,6 +181,11 @@ wrong_watches! {
         }
         LeavesRowsOfRefusedMark: "12: rows written on the way stay" {
             fn take_back(_: &mut Storage) {}
+        }
+        LeavesRowsInOrder: "12: the rows of entries that fitted stay, in their order" {
+            fn take_back(storage: &mut Storage) {
+                storage.rows[storage.count..].fill(UNUSED);
+            }
         }
         MovesRefusedMark: "12: the instant moves all the same" {
             fn clock_unchecked(watch: &mut Watch, chart: &Chart, storage: &mut Storage, instant: i64) -> Taken {
@@ -360,6 +378,15 @@ wrong_watches! {
                 Plain::is_row_consistent(watch, chart, rows, index) && (index == 0 || follows(&rows[index - 1], &rows[index]))
             }
         }
+        LooksAtStartOrder: "13: the order of starts looked at" {
+            fn is_row_consistent(watch: &Watch, chart: &Chart, rows: &[Row], index: usize) -> bool {
+                let follows = |before: &Row, row: &Row| {
+                    (before[END], before[ENTRY]) != (row[END], row[ENTRY]) || before[START] >= row[START]
+                };
+                Plain::is_row_consistent(watch, chart, rows, index)
+                    && (index == 0 || follows(&rows[index - 1], &rows[index]))
+            }
+        }
         LooksForTwins: "13: a row twice refused" {
             fn is_row_consistent(watch: &Watch, chart: &Chart, rows: &[Row], index: usize) -> bool {
                 Plain::is_row_consistent(watch, chart, rows, index) && (index == 0 || rows[index - 1] != rows[index])
@@ -454,6 +481,73 @@ wrong_watches! {
                 Plain::append_events(&Watch { events: watch.events + 1, ..*watch }, code, own)
             }
         }
+        EarlierStartFirst: "order: the earlier start first" {
+            fn put_in_order(made: &mut [Row]) {
+                made.sort_by_key(|row| row[START]);
+            }
+        }
+        LeavesRowsAsMade: "order: rows left as they were made, whatever their starts" {
+            fn put_in_order(_: &mut [Row]) {}
+        }
+        LeavesRowsAfterForget: "order: rows left as they were made once something was forgotten" {
+            fn close(watch: &Watch, chart: &Chart, storage: &mut Storage) -> Option<()> {
+                if i64::from(watch.floor) == *INSTANTS.start() {
+                    return Plain::close(watch, chart, storage);
+                }
+                LeavesRowsAsMade::close(watch, chart, storage)
+            }
+        }
+        ShortestToFront: "order: only the shortest moved to the front" {
+            fn put_in_order(made: &mut [Row]) {
+                let shortest = (0..made.len()).min_by_key(|index| Reverse(made[*index][START]));
+                shortest.into_iter().for_each(|index| made[..=index].rotate_right(1));
+            }
+        }
+        StartBeforeEntry: "order: an instant's new rows by start before entry" {
+            fn close(watch: &Watch, chart: &Chart, storage: &mut Storage) -> Option<()> {
+                Plain::close(watch, chart, storage)?;
+                reorder(chart, storage, |row| Reverse(row[START]));
+                Some(())
+            }
+        }
+        ArmBeforeStart: "order: the left arm of or first, whatever the starts" {
+            fn put_in_order(made: &mut [Row]) {
+                made.sort_by_key(|[_, left, _, start, _]| (*left == NONE, Reverse(*start)));
+            }
+        }
+        TiesExchanged: "order: rows of equal start in reverse" {
+            fn put_in_order(made: &mut [Row]) {
+                made.reverse();
+                Plain::put_in_order(made);
+            }
+        }
+        TiesByMadeParts: "order: rows of equal start by where their parts were made, not where they stand" {
+            fn close(watch: &Watch, chart: &Chart, storage: &mut Storage) -> Option<()> {
+                LeavesRowsAsMade::close(watch, chart, storage)?;
+                reorder(chart, storage, |row| (row[ENTRY], Reverse(row[START])));
+                Some(())
+            }
+        }
+        SortsAtTheEnd: "order: rows moved when later entries have referred to them" {
+            fn close(watch: &Watch, chart: &Chart, storage: &mut Storage) -> Option<()> {
+                LeavesRowsAsMade::close(watch, chart, storage)?;
+                let new = &mut storage.rows[storage.old..storage.count];
+                new.sort_by_key(|row| (row[ENTRY], Reverse(row[START])));
+                Some(())
+            }
+        }
+        SortsInPieces: "order: of many rows each 1,024 by themselves" {
+            fn put_in_order(made: &mut [Row]) {
+                made.chunks_mut(1_024).for_each(Plain::put_in_order);
+            }
+        }
+        SortsOldRows: "order: rows from before the instant moved too" {
+            fn close(watch: &Watch, chart: &Chart, storage: &mut Storage) -> Option<()> {
+                Plain::close(watch, chart, storage)?;
+                storage.rows[..storage.old].sort_by_key(|row| (row[END], row[ENTRY], Reverse(row[START])));
+                Some(())
+            }
+        }
         RightArmFirst: "or: the right arm first" {
             fn append<L: Lower>(watch: &Watch, entry: &Entry, lower: L, own: &mut Own) -> Option<()> {
                 append_changed((watch, entry), lower, own, |rows| {
@@ -542,16 +636,6 @@ wrong_watches! {
         SearchesFromLatestStart: "meets, overlaps, starts, during: searched from the latest start of a new row on" {
             fn earliest_start(b: impl Part) -> i32 {
                 Plain::latest_start(b)
-            }
-        }
-        SearchesFromFirstNewRow: "meets, overlaps, starts, during: searched from the start of the first new row on" {
-            fn earliest_start(b: impl Part) -> i32 {
-                b.spans().next().map_or(i32::MAX, |s| s.start)
-            }
-        }
-        SearchesFromLastNewRow: "meets, overlaps, starts, during: searched from the start of the last new row on" {
-            fn earliest_start(b: impl Part) -> i32 {
-                b.spans().last().map_or(i32::MAX, |s| s.start)
             }
         }
         SearchesOn: "absence: searched on after the first forbidding row" {

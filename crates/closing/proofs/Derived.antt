@@ -1,5 +1,5 @@
--- What each operator's function appends is what the reference model's step derives: the rows that the searches leave out make nothing
--- that ends at the instant.
+-- What each operator's function appends is what the reference model's step makes, before it is put in order: the rows that the searches leave out
+-- make nothing that ends at the instant.
 use Prim.Native.Nat.{ℕ, zero, suc, _+_, _≤_, _<_}
 use native.Mathlib.Omega.{arith}
 use native.Mathlib.Nat.{zero-add, sub-zero}
@@ -25,7 +25,7 @@ use Rattle.interval.proofs.Laws.{Ends, related-ends, forbidding-inside}
 use Rattle.model.specs.Lists.{keep, some, each, numbers}
 use Rattle.model.specs.Recognitions.{Event, Operator, event, related, or, absence, lasting, Arm, only, left, right}
 use Rattle.model.specs.Order.{Row, row, none}
-use Rattle.model.specs.RowSteps.{Node, leaves, leaf, part, pair, of, fits, forbidden, make, rowAt, places, nodeRow, derivedRows, endsAt, numbered}
+use Rattle.model.specs.RowSteps.{Node, leaves, leaf, part, pair, of, fits, forbidden, make, rowAt, places, nodeRow, madeRows, endsAt, numbered}
 use Rattle.model.proofs.Sorted.{keep-append}
 use Rattle.table.specs.Table.{cell, rowsIn}
 use Rattle.table.specs.Ends.{endingBefore}
@@ -356,11 +356,11 @@ module _ (o : ℤ) (m n : ℕ) (t : List ℤ) (g : Grown o m n t) (entry : ℕ) 
         ∙ each-from madeWith (leftFrom (endingOf c) (pos b) m n t) n (left-from (endingOf c) .within) pairs-old
         ∙ span-same madeWith (pairsWith c entry (pos a) (pos b) m n t) (leftFrom (endingOf c) (pos b) m n t) n (λ r k h. pairs-new r h)
 
-  -- what an entry derives
-  pub derived-is : (op : Operator) (first pending : ℕ) (codes : List ℕ) → pending ≤ length codes → derivedRows (record { entry = entry; operator = op; test = endsAt o }) (numbered o first (take pending codes)) (rowsIn n t) ≡ addedRows op entry (pendingAt o first pending) codes m n t
+  -- what an entry makes, before it is put in order
+  pub made-is : (op : Operator) (first pending : ℕ) (codes : List ℕ) → pending ≤ length codes → madeRows (record { entry = entry; operator = op; test = endsAt o }) (numbered o first (take pending codes)) (rowsIn n t) ≡ addedRows op entry (pendingAt o first pending) codes m n t
   unfolding addedRows
-  derived-is (event k) first pending codes h = event-derived k first pending codes h
-  derived-is (related c a b) first pending codes h = pair-derived c a b
-  derived-is (or a b) first pending codes h = or-derived a b
-  derived-is (absence e a b) first pending codes h = absence-derived e a b
-  derived-is (lasting c a d) first pending codes h = length-derived c a d
+  made-is (event k) first pending codes h = event-derived k first pending codes h
+  made-is (related c a b) first pending codes h = pair-derived c a b
+  made-is (or a b) first pending codes h = or-derived a b
+  made-is (absence e a b) first pending codes h = absence-derived e a b
+  made-is (lasting c a d) first pending codes h = length-derived c a d

@@ -5,8 +5,9 @@ use native.Mathlib.Omega.{arith}
 use native.Mathlib.Nat.{sub-zero}
 use native.Mathlib.Numerals.{add-one}
 use mathlib.Core.Path.{_≡_, refl, sym, ap, _∙_, subst}
+use mathlib.Core.Logic.{inl, inr}
 use mathlib.Core.Bool.{Bool, true, false}
-use mathlib.Core.List.{List, [], _++_, append-assoc}
+use mathlib.Core.List.{List, [], _++_, append-assoc, append-nil, List·Memᴰ}
 use borrow.Author.Tests.{leb-true, leb-false, le-leb, lt-leb}
 use lib.Dec.{leb}
 use lib.IntN.{ℤ, pos}
@@ -16,24 +17,28 @@ use Rattle.chart.specs.Charts.{entryAt}
 use Rattle.chart.specs.declared.Chart.{Chart}
 use mir.Syntax.{w32}
 use mir.Val.{SFits}
+use Rattle.model.specs.Lists.{sortStably}
 use Rattle.model.specs.Recognitions.{Event}
 use Rattle.model.specs.Order.{Row}
 use Rattle.model.proofs.Capacity.{capacity-fits}
+use Rattle.model.proofs.Sorted.{stably-mem}
 use Rattle.model.proofs.Steps.{extend-none, extend-on, extend-more, close-rules, close-more}
-use Rattle.model.specs.RowSteps.{Rule, rules, extendRows, closeRows, endsAt, numbered}
+use Rattle.model.specs.RowSteps.{Rule, rules, startsLater, extendRows, closeRows, endsAt, numbered}
 use Rattle.state.specs.declared.WatchState.{WatchState}
 use Rattle.table.specs.Table.{rowsIn, putRows, zeroed, roomIn}
 use Rattle.table.specs.Operators.{operatorsOf, entryOperator}
 use Rattle.table.specs.Ready.{Ready}
 use Rattle.table.proofs.Laws.{zeroed-same, zeroed-again}
-use Rattle.table.proofs.Rows.{length-rows, rows-puts, take-puts, drop-puts}
+use Rattle.table.proofs.Rows.{length-rows, puts-none, length-puts, puts-append, rows-puts, take-puts, drop-puts}
 use Rattle.table.proofs.Operators.{operatorsFrom, operators-all}
 use Rattle.table.proofs.Fill.{fill-fits, fill-full}
-use Rattle.closing.specs.Added.{pendingAt, FilledBy, addedRows}
+use Rattle.ordering.specs.Ordered.{ordered, Alike}
+use Rattle.ordering.proofs.Sorting.{length-sorted}
+use Rattle.ordering.proofs.Appended.{rows-alike, rows-ordered}
+use Rattle.closing.specs.Added.{pendingAt, FilledBy, Tried, addedRows}
 use Rattle.closing.specs.Closed.{closedRows, closedNumber, closedTable}
-use Rattle.closing.proofs.Filling.{Filling, next, full}
-use Rattle.closing.proofs.Derived.{Grown, derived-is}
-use Rattle.closing.proofs.Growth.{grown-more, added-ending}
+use Rattle.closing.proofs.Derived.{Grown, made-is}
+use Rattle.closing.proofs.Growth.{Ending, grown-more, added-entry, added-ending}
 
 -- an operand is a small number
 pub small : (a n : ℕ) → a < n → n < 32 → SFits w32 (pos a)
@@ -67,6 +72,54 @@ full-told room n rs t k u d l h = go (leb (n + length rs) room) refl
         let f = fill-full room n rs t l p in
         (p, d .0 ∙ ap (λ x. x .count) f, d .1 ∙ ap (λ x. x .table) f)
 
+-- all entries so far found room: `done` was appended to the n₀ rows of t₀, and `rest` is left of `all`
+pub record Closing (room n₀ : ℕ) (all : List Row) (t₀ : List ℤ) (n : ℕ) (rest : List Row) (t : List ℤ) : Type 0 where
+  pub done : List Row
+  pub is : all ≡ done ++ rest
+  pub count : n ≡ n₀ + length done
+  pub table : t ≡ putRows n₀ done t₀
+  pub most : n ≤ room
+
+pub closing-none : (room n : ℕ) (all : List Row) (t : List ℤ) → n ≤ room → Closing room n all t n all t
+closing-none room n all t h = record { done = []; is = refl; count = omega arith; table = sym (puts-none n t); most = h }
+
+module _ {room n₀ : ℕ} {all : List Row} {t₀ : List ℤ} {n : ℕ} {rest : List Row} {t : List ℤ} (f : Closing room n₀ all t₀ n rest t) where
+  pub same-size : length t ≡ length t₀
+  same-size = ap length (f .table) ∙ length-puts n₀ (f .done) t₀
+
+  pub least : n₀ ≤ n
+  least = omega (arith, f .count)
+
+  -- more rows put behind those
+  put-more : (rs : List Row) → putRows n rs t ≡ putRows n₀ (f .done ++ rs) t₀
+  put-more rs = ap (λ k. putRows k rs t) (f .count) ∙ ap (putRows (n₀ + length (f .done)) rs) (f .table) ∙ sym (puts-append n₀ (f .done) rs t₀)
+
+  -- an entry's rows found room, and were put in order
+  closing-next : (rs qs : List Row) (k : ℕ) (u : List ℤ) → rest ≡ rs ++ qs → k ≡ n + length rs → k ≤ room → u ≡ putRows n rs t → Closing room n₀ all t₀ k qs u
+  closing-next rs qs k u e c l d = record {
+    done = f .done ++ rs;
+    is = f .is ∙ ap (λ x. f .done ++ x) e ∙ sym (append-assoc (f .done) rs qs);
+    count = c ∙ ap (λ x. x + length rs) (f .count) ∙ omega (arith, length-append (f .done) rs);
+    table = d ∙ put-more rs;
+    most = l;
+  }
+
+  -- they found none; the rows that did are behind the old ones
+  closing-full : (rs qs ps : List Row) (k : ℕ) (u : List ℤ) → rest ≡ rs ++ qs → room * 5 ≤ length t → room < n + length rs → k ≡ suc room → n + length ps ≤ room → u ≡ putRows n ps t → Tried room n₀ all t₀ k u
+  closing-full rs qs ps k u e h l c m d =
+      let size : length all ≡ length (f .done) + (length rs + length qs) = ap length (f .is ∙ ap (λ x. f .done ++ x) e) ∙ length-append (f .done) (rs ++ qs) ∙ ap (λ x. length (f .done) + x) (length-append rs qs) in
+      let q : u ≡ putRows n₀ (f .done ++ ps) t₀ = d ∙ put-more ps in
+      let fit : n₀ + length (f .done ++ ps) ≤ room = omega (arith, length-append (f .done) ps, f .count) in
+      let held : (n₀ + length (f .done ++ ps)) * 5 ≤ length t₀ = omega (arith, same-size) in
+      inr (omega (arith, f .count), c, ap (take (n₀ * 5)) q ∙ take-puts n₀ (f .done ++ ps) t₀ held, ap (drop (room * 5)) q ∙ drop-puts n₀ (room * 5) (f .done ++ ps) t₀ (omega arith))
+
+  -- nothing is left
+  pub closing-ended : rest ≡ [] → Tried room n₀ all t₀ n t
+  closing-ended e =
+      let w : all ≡ f .done = f .is ∙ ap (λ x. f .done ++ x) e ∙ append-nil (f .done) in
+      let c : n ≡ n₀ + length all = f .count ∙ ap (λ x. n₀ + length x) (sym w) in
+      inl (omega (arith, f .most), c, f .table ∙ ap (λ x. putRows n₀ x t₀) (sym w))
+
 -- the rows left to append from entry i on, to the n rows of t
 abbrev pub rulesFrom : Chart → ℤ → ℕ → List Rule
 rulesFrom chart o i = rules (endsAt o) i (operatorsFrom chart i (chart .count - i))
@@ -95,38 +148,67 @@ module _ (chart : Chart) (o : ℤ) (first pending : ℕ) (codes : List ℕ) (few
   abbrev added : List Row
   added = addedRows (entryOperator (entryAt chart i)) i (pendingAt o first pending) codes m n t
 
+  -- the same, the later start first
+  abbrev sorted : List Row
+  sorted = sortStably startsLater added
+
   abbrev later : List Row
-  later = extendRows events (rulesFrom chart o (i + 1)) (rowsIn n t ++ added)
+  later = extendRows events (rulesFrom chart o (i + 1)) (rowsIn n t ++ sorted)
 
   first-rule : extendRows events (rulesFrom chart o i) (rowsIn n t) ≡ later
   first-rule =
       let z : chart .count - i ≡ suc (chart .count - (i + 1)) = omega arith in
-      rw (z, add-one) (extend-on events _ _ (rowsIn n t) ∙ ap (λ l. extendRows events (rulesFrom chart o (suc i)) (rowsIn n t ++ l)) (derived-is o m n t g i (entryOperator (entryAt chart i)) first pending codes few))
+      rw (z, add-one) (extend-on events _ _ (rowsIn n t) ∙ ap (λ l. extendRows events (rulesFrom chart o (suc i)) (rowsIn n t ++ sortStably startsLater l)) (made-is o m n t g i (entryOperator (entryAt chart i)) first pending codes few))
 
-  left-cut : leftRows chart o events i n t ≡ added ++ drop (n + length added) later
+  left-cut : leftRows chart o events i n t ≡ sorted ++ drop (n + length sorted) later
   unfolding leftRows
   left-cut =
-      let p = extend-more events (rulesFrom chart o (i + 1)) (rowsIn n t ++ added) in
-      let size : length (rowsIn n t ++ added) ≡ n + length added = length-append (rowsIn n t) added ∙ ap (λ k. k + length added) (length-rows n t) in
-      let rest : drop (n + length added) later ≡ p .0 = ap (drop (n + length added)) (p .1) ∙ drop-at (rowsIn n t ++ added) (p .0) (n + length added) size in
-      ap (drop n) (first-rule ∙ p .1 ∙ append-assoc (rowsIn n t) added (p .0)) ∙ drop-at (rowsIn n t) (added ++ p .0) n (length-rows n t) ∙ ap (λ l. added ++ l) (sym rest)
+      let p = extend-more events (rulesFrom chart o (i + 1)) (rowsIn n t ++ sorted) in
+      let size : length (rowsIn n t ++ sorted) ≡ n + length sorted = length-append (rowsIn n t) sorted ∙ ap (λ k. k + length sorted) (length-rows n t) in
+      let rest : drop (n + length sorted) later ≡ p .0 = ap (drop (n + length sorted)) (p .1) ∙ drop-at (rowsIn n t ++ sorted) (p .0) (n + length sorted) size in
+      ap (drop n) (first-rule ∙ p .1 ∙ append-assoc (rowsIn n t) sorted (p .0)) ∙ drop-at (rowsIn n t) (sorted ++ p .0) n (length-rows n t) ∙ ap (λ l. sorted ++ l) (sym rest)
 
-  module _ {room n₀ : ℕ} {all : List Row} {t₀ : List ℤ} {k : ℕ} {u : List ℤ} (f : Filling room n₀ all t₀ n (leftRows chart o events i n t) t) (d : FilledBy room n added t k u) where
-    -- the entry's rows did not fit
-    pub entry-full : room < k → FilledBy room n₀ all t₀ k u
-    entry-full = full f added (drop (n + length added) later) k u left-cut d
+  ending : (r : Row) → List·Memᴰ r added → Ending o r
+  ending = added-ending o m n t g i (entryOperator (entryAt chart i)) first pending codes few
 
-    -- they did
-    pub entry-next : room * 5 ≤ length t → k ≤ room → Filling room n₀ all t₀ k (leftRows chart o events (i + 1) k u) u × Grown o m k u
-    unfolding leftRows
-    entry-next held l =
-        let w = fits-told room n added t k u d (f .most) l in
-        let e : k ≡ n + length added = w .1 in
-        let q : u ≡ putRows n added t = w .2 in
-        let size : (n + length added) * 5 ≤ length t = omega (arith, w .0) in
-        let rows : rowsIn k u ≡ rowsIn n t ++ added = rw (e, q) (rows-puts n added t size) in
-        let rest : leftRows chart o events (i + 1) k u ≡ drop (n + length added) later = rw (rows, e) in
-        (subst (λ l. Filling room n₀ all t₀ k l u) (sym rest) (next f added (drop (n + length added) later) k u left-cut d l), rw (e, q) (grown-more o m n t added g (added-ending o m n t g i (entryOperator (entryAt chart i)) first pending codes few) size))
+  module _ {room n₀ : ℕ} {all : List Row} {t₀ : List ℤ} {k : ℕ} {u : List ℤ} (f : Closing room n₀ all t₀ n (leftRows chart o events i n t) t) (held : room * 5 ≤ length t) (d : FilledBy room n added t k u) where
+    -- what is known once the entry's rows were appended: they did not fit; or they did, may be put in order, and then the next entry's are derived
+    pub record Entered : Type 0 where
+      pub full : room < k → Tried room n₀ all t₀ k u
+      pub grows : k ≤ room → n ≤ k
+      pub alike : k ≤ room → Alike n k u
+      pub next : k ≤ room → (v : List ℤ) → v ≡ ordered n (k - n) u → Closing room n₀ all t₀ k (leftRows chart o events (i + 1) k v) v × Grown o m k v
+
+    entry-full : room < k → Tried room n₀ all t₀ k u
+    entry-full h =
+        let w = full-told room n added t k u d (f .most) h in
+        closing-full f sorted (drop (n + length sorted) later) (take (room - n) added) k u left-cut held (omega (arith, w .0, length-sorted added)) (w .1) (omega (arith, f .most, length-take-le (room - n) added (omega (arith, w .0)))) (w .2)
+
+    module _ (l : k ≤ room) where
+      fits : (n + length added ≤ room) × (k ≡ n + length added) × (u ≡ putRows n added t)
+      fits = fits-told room n added t k u d (f .most) l
+
+      entry-alike : Alike n k u
+      entry-alike =
+          let w = fits in
+          rw (w .1, w .2) (rows-alike i o n added t (λ r h. (added-entry o m n t g i (entryOperator (entryAt chart i)) first pending codes few r h, ending r h .at)) (omega (arith, w .0)))
+
+      entry-next : (v : List ℤ) → v ≡ ordered n (k - n) u → Closing room n₀ all t₀ k (leftRows chart o events (i + 1) k v) v × Grown o m k v
+      unfolding leftRows
+      entry-next v z =
+          let w = fits in
+          let c : k ≡ n + length sorted = w .1 ∙ ap (λ x. n + x) (sym (length-sorted added)) in
+          let many : k - n ≡ length added = omega (arith, w .1) in
+          let size : (n + length sorted) * 5 ≤ length t = omega (arith, w .0, length-sorted added) in
+          let q : v ≡ putRows n sorted t = z ∙ ap (λ x. ordered n x u) many ∙ ap (ordered n (length added)) (w .2) ∙ rows-ordered n added t (omega (arith, w .0)) in
+          let rows : rowsIn k v ≡ rowsIn n t ++ sorted = rw (c, q) (rows-puts n sorted t size) in
+          let rest : leftRows chart o events (i + 1) k v ≡ drop (n + length sorted) later = rw (rows, c) in (
+            subst (λ x. Closing room n₀ all t₀ k x v) (sym rest) (closing-next f sorted (drop (n + length sorted) later) k v left-cut c l q),
+            rw (c, q) (grown-more o m n t sorted g (λ r h. ending r (stably-mem startsLater added h)) size),
+          )
+
+    pub entered : Entered
+    entered = record { full = entry-full; grows = λ l. omega (arith, fits l .1); alike = entry-alike; next = entry-next }
 
 -- the rows after the closing: those before it, and those that were to be appended
 module _ (chart : Chart) (w : WatchState) (t : List ℤ) where
@@ -142,28 +224,29 @@ module _ (chart : Chart) (w : WatchState) (t : List ℤ) where
       let p = close-more (w .instant) (eventsIn w) (operatorsOf chart) (rowsIn n t) in
       rw (p .1, drop-at (rowsIn n t) (p .0) n (length-rows n t), length-append, length-rows)
 
-  module _ (ready : Ready chart n t) (k : ℕ) (u : List ℤ) (d : FilledBy (roomIn t) n (drop n closed) t k u) where
+  module _ (ready : Ready chart n t) (k : ℕ) (u : List ℤ) where
+    abbrev Closed : Type 0
+    Closed = (k ≡ closedNumber chart w t) × (u ≡ closedTable chart w t)
+
+    abbrev Restored : Type 0
+    Restored = (k ≡ closedNumber chart w t) × (zeroed (n * 5) (roomIn t * 5) u ≡ closedTable chart w t)
+
     -- all fit
-    pub closed-fits : k ≤ roomIn t → (k ≡ closedNumber chart w t) × (u ≡ closedTable chart w t)
+    pub closed-fits : Tried (roomIn t) n (drop n closed) t k u → k ≤ roomIn t → Closed
     unfolding closedNumber closedTable
-    closed-fits h =
-        let f = fits-told (roomIn t) n (drop n closed) t k u d (ready .fit) h in
+    closed-fits (inl f) h =
         let l : leb (length closed) (roomIn t) ≡ true = le-leb (length closed) (roomIn t) (omega (arith, f .0, closed-length)) in
         rw l (f .1 ∙ sym closed-length, f .2)
+    closed-fits (inr f) h = absurd (omega (arith, f .1))
 
     -- not all fit
-    pub closed-full : roomIn t < k → (k ≡ closedNumber chart w t) × (zeroed (n * 5) (roomIn t * 5) u ≡ closedTable chart w t)
+    pub closed-full : Tried (roomIn t) n (drop n closed) t k u → roomIn t < k → Restored
     unfolding closedNumber closedTable
-    closed-full h =
+    closed-full (inl f) h = absurd (omega (arith, f .0, f .1))
+    closed-full (inr f) h =
         let room = roomIn t in
-        let f = full-told room n (drop n closed) t k u d (ready .fit) h in
         let l : leb (length closed) room ≡ false = lt-leb (length closed) room (omega (arith, f .0, closed-length)) in
-        let rs = take (room - n) (drop n closed) in
-        let all : n + length rs ≡ room = ap (λ x. n + x) (length-take-le (room - n) (drop n closed) (omega (arith, f .0))) ∙ omega (arith, ready .fit) in
-        let held : (n + length rs) * 5 ≤ length t = omega (arith, capacity-fits (length t)) in
-        let before : take (n * 5) u ≡ take (n * 5) t = ap (take (n * 5)) (f .2) ∙ take-puts n rs t held in
-        let behind : drop (room * 5) u ≡ drop (room * 5) t = ap (drop (room * 5)) (f .2) ∙ drop-puts n (room * 5) rs t (omega (arith, all)) in
-        rw l (f .1 ∙ sym (add-one room), zeroed-same (n * 5) (room * 5) u t before behind ∙ zeroed-again (n * 5) (room * 5) t (omega (arith, ready .fit)) (capacity-fits (length t)) (ready .zeros))
+        rw l (f .1 ∙ sym (add-one room), zeroed-same (n * 5) (room * 5) u t (f .2) (f .3) ∙ zeroed-again (n * 5) (room * 5) t (omega (arith, ready .fit)) (capacity-fits (length t)) (ready .zeros))
 
 -- For callers: the rows after the closing, and the number and the table by whether they fit
 module _ (chart : Chart) (w : WatchState) (t : List ℤ) where

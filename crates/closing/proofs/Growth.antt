@@ -7,7 +7,7 @@ use native.Mathlib.Decide.{ℕ-discrete}
 use mathlib.Core.Path.{_≡_, refl, sym, ap, _∙_, subst}
 use mathlib.Core.Logic.{inl, inr}
 use mathlib.Core.Bool.{Bool, true, false, cond, not, _&&_}
-use mathlib.Core.List.{List, [], _∷_, map, List·Memᴰ, List·Memᴰ·head, List·Memᴰ·tail, List·Memᴰ·not-nil, List·Memᴰ·eq-of-singleton, List·Memᴰ·append-cases}
+use mathlib.Core.List.{List, [], _∷_, map, List·Memᴰ, List·Memᴰ·head, List·Memᴰ·tail, List·Memᴰ·not-nil, List·Memᴰ·eq-of-singleton, List·Memᴰ·append-cases, Memᴰ·of-map}
 use lib.Dec.{eqb}
 use lib.IntN.{ℤ, pos}
 use lib.ListN.{length, getD, take}
@@ -20,7 +20,7 @@ use Rattle.chart.specs.declared.Chart.{Chart}
 use Rattle.model.specs.Lists.{each, numbers}
 use Rattle.model.specs.Recognitions.{Operator, event, related, or, absence, lasting, Arm, left, right}
 use Rattle.model.specs.Order.{Row, row, none}
-use Rattle.model.specs.RowSteps.{endsAt, numbered, make, places, nodeRow}
+use Rattle.model.specs.RowSteps.{Node, leaf, part, pair, endsAt, numbered, make, places, nodeRow}
 use Rattle.model.proofs.Sorted.{keep-mem, each-mem}
 use Rattle.model.proofs.Rows.{numbers-mem}
 use Rattle.table.specs.Table.{cell, rowsIn, putRow, putRows}
@@ -28,7 +28,7 @@ use Rattle.table.specs.Ready.{Ready, EndBefore}
 use Rattle.table.proofs.Rows.{length-put, cell-other, cell-put, row-put, puts-none, puts-on}
 use Rattle.closing.specs.Added.{pendingAt, span, when, eventRow, eventRows, partRow, takenRow, takenRows, orRows, isForbidden, absenceRow, absenceRows, topOf, pairRow, rightFrom, pairsOf, pairsWith, leftFrom, pairRows, addedRows}
 use Rattle.closing.proofs.Laws.{left-le, right-le}
-use Rattle.closing.proofs.Derived.{Grown, derived-is}
+use Rattle.closing.proofs.Derived.{Grown, made-is}
 
 -- before the first entry
 pub grown-none : (chart : Chart) (o : ℤ) (n : ℕ) (t : List ℤ) → Ready chart n t → EndBefore o n t → Grown o n n t
@@ -71,6 +71,12 @@ grown-more o m n t [] g e h = rw (add-zero n, puts-none) g
 grown-more o m n t (r ∷ rs) g e h =
     let z : suc n + length rs ≡ n + suc (length rs) = omega arith in
     rw puts-on (subst (λ k. Grown o m k (putRows (suc n) rs (putRow n r t))) z (grown-more o m (suc n) (putRow n r t) rs (grown-one o m n t r g (e r (List·Memᴰ·head refl)) (omega arith)) (λ q k. e q (List·Memᴰ·tail k)) (omega (arith, length-put n r t))))
+
+-- a row is of the entry that makes it
+node-entry : (rs : List Row) (n : ℕ) (x : Node ℕ) → (nodeRow rs n x) .entry ≡ n
+node-entry rs n (leaf s i) = refl
+node-entry rs n (part m i) = refl
+node-entry rs n (pair i j) = refl
 
 -- the rows that an entry adds
 when-mem : (b : Bool) (x r : Row) → List·Memᴰ r (when b x) → r ≡ x
@@ -122,6 +128,9 @@ module _ (o : ℤ) (m n : ℕ) (t : List ℤ) (g : Grown o m n t) (entry : ℕ) 
       go i h true w = pair-proper c b i h r w
       go i h false w = absurd (List·Memᴰ·not-nil w)
 
+  abbrev nodes : Operator → ℕ → ℕ → List ℕ → List (Node ℕ)
+  nodes op first pending codes = make (places (rowsIn n t)) op (numbered o first (take pending codes)) (numbers 0 (length (rowsIn n t)))
+
   abbrev isOf : ℕ → ℕ → Bool
   isOf a i = eqZ (cell t i 0) (pos a)
 
@@ -133,11 +142,16 @@ module _ (o : ℤ) (m n : ℕ) (t : List ℤ) (g : Grown o m n t) (entry : ℕ) 
   added-proper (absence e a b) first pending codes r w = parts-proper left (λ i. isOf a i && not (isForbidden e (pos b) (cell t i 3) (cell t i 4) t (topOf (pos b) n t))) r w
   added-proper (lasting c a d) first pending codes r w = parts-proper left (λ i. isOf a i && hasLength c d (cell t i 3) (cell t i 4)) r w
 
+  -- what an entry adds is what it makes of the rows there are
+  added-made : (op : Operator) (first pending : ℕ) (codes : List ℕ) → pending ≤ length codes → (r : Row) → List·Memᴰ r (addedRows op entry (pendingAt o first pending) codes m n t) → List·Memᴰ r (map (nodeRow (rowsIn n t) entry) (nodes op first pending codes)) × (r .end ≡ o)
+  added-made op first pending codes h r w =
+      let k = keep-mem (λ x. endsAt o (x .start) (x .end)) (map (nodeRow (rowsIn n t) entry) (nodes op first pending codes)) (subst (List·Memᴰ r) (sym (made-is o m n t g entry op first pending codes h)) w) in
+      (k .0, eqZ→ (r .end) o (k .1))
+
+  pub added-entry : (op : Operator) (first pending : ℕ) (codes : List ℕ) → pending ≤ length codes → (r : Row) → List·Memᴰ r (addedRows op entry (pendingAt o first pending) codes m n t) → r .entry ≡ entry
+  added-entry op first pending codes h r w =
+      let q = Memᴰ·of-map (nodeRow (rowsIn n t) entry) (nodes op first pending codes) (added-made op first pending codes h r w .0) in
+      sym (ap (λ x. x .entry) (q .2)) ∙ node-entry (rowsIn n t) entry (q .0)
+
   pub added-ending : (op : Operator) (first pending : ℕ) (codes : List ℕ) → pending ≤ length codes → (r : Row) → List·Memᴰ r (addedRows op entry (pendingAt o first pending) codes m n t) → Ending o r
-  added-ending op first pending codes h r w =
-      let es = numbered o first (take pending codes) in
-      let k = subst (List·Memᴰ r) (sym (derived-is o m n t g entry op first pending codes h)) w in
-      record {
-        at = eqZ→ (r .end) o (keep-mem (λ x. endsAt o (x .start) (x .end)) (map (nodeRow (rowsIn n t) entry) (make (places (rowsIn n t)) op es (numbers 0 (length (rowsIn n t))))) k .1);
-        proper = added-proper op first pending codes r w;
-      }
+  added-ending op first pending codes h r w = record { at = added-made op first pending codes h r w .1; proper = added-proper op first pending codes r w }

@@ -1,13 +1,14 @@
 -- What each operator's function appends, read off the table as the function reads it: m is the number of rows from before this
 -- closing, n that of all rows, a and b are operands. Nothing here has to be believed: the theorems of proofs/Derived.antt say that
--- these are the rows of the reference model's step.
+-- these are the rows that the reference model's step makes, before it puts them in order.
 use Prim.Native.Nat.{ℕ, zero, suc, _+_, _*_, _-_, _≤_, _<_}
 use mathlib.Core.Path.{_≡_}
+use mathlib.Core.Logic.{_⊎_}
 use mathlib.Core.Bool.{Bool, true, false, cond, not, _&&_, _||_}
 use mathlib.Core.List.{List, [], _∷_, _++_}
 use lib.Dec.{eqb, leb, ltb}
 use lib.IntN.{ℤ, pos, natAbs}
-use lib.ListN.{length, getD}
+use lib.ListN.{length, getD, take, drop}
 use lib.Signed.{leZ}
 use Rattle.interval.specs.Instants.{eqZ, least, greatest}
 use Rattle.interval.specs.Conditions.{isRelated, endingOf, isForbidding, hasLength}
@@ -18,7 +19,7 @@ use Rattle.interval.specs.declared.Edges.{Edges}
 use Rattle.model.specs.Lists.{each, numbers}
 use Rattle.model.specs.Recognitions.{Operator, event, related, or, absence, lasting, Arm, left, right}
 use Rattle.model.specs.Order.{Row, row, none, leftOf, rightOf}
-use Rattle.table.specs.Table.{cell, storedRow, fill}
+use Rattle.table.specs.Table.{cell, storedRow, fill, putRows}
 use Rattle.table.specs.Ends.{Ordered, endingBefore}
 use Rattle.table.specs.declared.Row as stored
 use Rattle.closing.specs.declared.Frame.{Frame}
@@ -41,6 +42,12 @@ pub record Appendable (f : Frame) (n : ℕ) (t : List ℤ) : Type 0 where
 -- the rows rs were appended to the n rows of the table t, as far as there was room: the count k and the table u after it
 abbrev pub FilledBy : ℕ → ℕ → List Row → List ℤ → ℕ → List ℤ → Type 0
 FilledBy room n rs t k u = (k ≡ (fill room n rs t) .count) × (u ≡ (fill room n rs t) .table)
+
+-- the rows rs were to be appended to the n rows of t: they were, or there is no room for them, and nothing but the rows behind was altered
+abbrev pub Tried : ℕ → ℕ → List Row → List ℤ → ℕ → List ℤ → Type 0
+Tried room n rs t k u =
+    ((n + length rs ≤ room) × (k ≡ n + length rs) × (u ≡ putRows n rs t)) ⊎
+    ((room < n + length rs) × (k ≡ suc room) × (take (n * 5) u ≡ take (n * 5) t) × (drop (room * 5) u ≡ drop (room * 5) t))
 
 abbrev pub Appended : Frame → ℕ → List Row → List ℤ → ℕ → List ℤ → Type 0
 Appended f n rs t k u = FilledBy (f .room) n rs t k u

@@ -15,7 +15,7 @@ ghost use Rattle.model.specs.Capacity.{capacity};
 ghost use Rattle.table.specs.Table.{cell, storedRow};
 ghost use Rattle.table.specs.Ends.{Ordered, endingBefore};
 ghost use Rattle.table.specs.Operators.{entryOperator};
-ghost use Rattle.closing.specs.Added.{Appendable, FilledBy, Appended, SerialsFit, serialRow, eventRows, armOf, partOf, partRow, isTaken, takenRow, takenRows, orRows, forbids, isWithin, absenceRows, topOf, SameTop, nextRow, Passed, leastStart, isWanted, pairOf, pairRow, rightFrom, pairsOf, leftFrom, pairRows, addedRows};
+ghost use Rattle.closing.specs.Added.{Appendable, Appended, Tried, SerialsFit, serialRow, eventRows, armOf, partOf, partRow, isTaken, takenRow, takenRows, orRows, forbids, isWithin, absenceRows, topOf, SameTop, nextRow, Passed, leastStart, isWanted, pairOf, pairRow, rightFrom, pairsOf, leftFrom, pairRows, addedRows};
 ghost use Rattle.closing.specs.Closed.{Closable, closedRows, closedNumber, closedTable};
 use chart::Chart;
 use chart::Entry;
@@ -521,10 +521,11 @@ fn entry_rows(t: &mut [i32], n: usize, f: Frame, e: Entry, p: Pending, codes: &[
     }
 }
 
-// The rows of all entries, in their order; `codes` are the state's, taken out of it to be lent. Costs what the entries' functions cost.
+// The rows of all entries, in their order, each entry's put in order before the next one refers to them; `codes` are the state's, taken out of it to be
+// lent. Costs what the entries' functions cost, and what `ordering::later_start_first` costs for each entry's rows.
 fn all_rows(chart: Chart, state: WatchState, codes: [u8; 64], t: &mut [i32], room: usize) -> usize
     requires { ⌜ Closable chart state (now t) × (codes ≡ state .codes) × (room ≡ capacity (length (now t))) ⌝ }
-    ensures { λ r. ⌜ FilledBy room (state .rows) (drop (state .rows) (closedRows chart state (now (t .entry)))) (now (t .entry)) r (now (t .exit)) ⌝ }
+    ensures { λ r. ⌜ Tried room (state .rows) (drop (state .rows) (closedRows chart state (now (t .entry)))) (now (t .entry)) r (now (t .exit)) ⌝ }
 {
     let rows = state.rows;
     let p = Pending {
@@ -537,23 +538,25 @@ fn all_rows(chart: Chart, state: WatchState, codes: [u8; 64], t: &mut [i32], roo
     let mut i: usize = 0;
     while i < count {
         let e = chart.entries[i];
+        let first = n;
         let f = Frame {
             first: rows,
-            end: n,
+            end: first,
             room,
             entry: i as i32,
         };
-        n = entry_rows(t, n, f, e, p, &codes);
+        n = entry_rows(t, first, f, e, p, &codes);
         if room < n {
             return n;
         }
+        ordering::later_start_first(t, first, n);
         i += 1;
     }
     n
 }
 
 // Appends, entry by entry, the rows that end at the open instant; hands back how many rows there are then, or one more than the table holds
-// where they do not fit, and then the table is as it was. Costs what the entries' functions cost, and where the rows do not fit, one store for
+// where they do not fit, and then the table is as it was. Costs what `all_rows` costs, and where the rows do not fit, one store for
 // each number behind the old rows. Where no event is pending, no row is looked at.
 pub fn close(chart: Chart, state: WatchState, table: &mut [i32]) -> usize
     requires { ⌜ Closable chart state (now table) ⌝ }

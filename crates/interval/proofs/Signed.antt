@@ -223,15 +223,38 @@ add-fact (pos a) (negsuc b) = omega (arith, sub-nat a (suc b))
 add-fact (negsuc a) (pos b) = omega (arith, sub-nat b (suc a))
 add-fact (negsuc a) (negsuc b) = omega arith
 
-neg-pos : (b : ℤ) → posPart (negℤ b) ≡ negPart b
+pub neg-pos : (b : ℤ) → posPart (negℤ b) ≡ negPart b
 neg-pos (pos zero) = refl
 neg-pos (pos (suc n)) = refl
 neg-pos (negsuc n) = refl
 
-neg-neg : (b : ℤ) → negPart (negℤ b) ≡ posPart b
+pub neg-neg : (b : ℤ) → negPart (negℤ b) ≡ posPart b
 neg-neg (pos zero) = refl
 neg-neg (pos (suc n)) = refl
 neg-neg (negsuc n) = refl
 
 pub sub-fact : (a b : ℤ) → posPart (a -ℤ b) + (negPart a + posPart b) ≡ negPart (a -ℤ b) + (posPart a + negPart b)
 sub-fact a b = omega (arith, add-fact a (negℤ b), neg-pos b, neg-neg b)
+
+-- negation turns the order round
+pub neg-turns : (a b : ℤ) → b <ᶻ a → negℤ a <ᶻ negℤ b
+neg-turns a b h = omega (arith, neg-pos a, neg-neg a, neg-pos b, neg-neg b)
+
+pub neg-lt : (a b : ℤ) → ltZ (negℤ a) (negℤ b) ≡ ltZ b a
+neg-lt a b = go (ltZ b a) refl
+  where
+    go : (c : Bool) → ltZ b a ≡ c → ltZ (negℤ a) (negℤ b) ≡ c
+    go true e = is-lt (negℤ a) (negℤ b) (neg-turns a b (lt-true b a e))
+    go false e = not-lt (negℤ a) (negℤ b) (omega (arith, lt-false b a e, neg-pos a, neg-neg a, neg-pos b, neg-neg b))
+
+pub neg-eq : (a b : ℤ) → eqZ (negℤ a) (negℤ b) ≡ eqZ b a
+neg-eq a b = go (eqZ (negℤ a) (negℤ b)) (eqZ b a) refl refl
+  where
+    at : posPart (negℤ a) + negPart (negℤ b) ≡ posPart (negℤ b) + negPart (negℤ a) → b ≡ a
+    at h = antisym b a (omega (arith, neg-pos a, neg-neg a, neg-pos b, neg-neg b)) (omega (arith, neg-pos a, neg-neg a, neg-pos b, neg-neg b))
+
+    go : (c d : Bool) → eqZ (negℤ a) (negℤ b) ≡ c → eqZ b a ≡ d → c ≡ d
+    go true true p q = refl
+    go true false p q = absurd (eq-false b a q (at (eq-told (negℤ a) (negℤ b) p)))
+    go false true p q = absurd (eq-false (negℤ a) (negℤ b) p (ap negℤ (sym (eq-true b a q))))
+    go false false p q = refl

@@ -7,9 +7,9 @@ use mathlib.Core.Path.{_≡_, refl, sym, ap, _∙_, subst, subst₂}
 use mathlib.Core.Logic.{_⊎_, inl, inr}
 use mathlib.Core.List.{List, [], _∷_, _++_, List·Memᴰ, List·Memᴰ·append-cases, Memᴰ·append-left, Memᴰ·append-right}
 use lib.Dec.{T}
-use lib.IntN.{ℤ, pos}
+use lib.IntN.{ℤ, pos, negℤ}
 use lib.Signed.{ltZ, leZ}
-use Rattle.interval.specs.Instants.{eqZ}
+use Rattle.interval.specs.Instants.{eqZ, least}
 use Rattle.interval.proofs.Signed.{_≤ᶻ_, _<ᶻ_, eq-fact, ltZ→, →ltZ, leZ→, →leZ, eqZ→, eqZ-refl, least-most, le-cases}
 use Rattle.model.specs.Lists.{keep}
 use Rattle.model.specs.Recognitions.{Event, Operator, Arm, Recognition, ofEvent, ofOne, ofTwo, entryOf, startOf, endOf, recognitions}
@@ -21,9 +21,9 @@ use Rattle.model.proofs.Order.{lex, lex-lt, lex-eq, key, lex→before, 
 use Rattle.model.proofs.Trees.{tree, trees, tree-start, tree-end}
 use Rattle.model.proofs.Made.{Made, made-all}
 use Rattle.model.proofs.Local.{Lower, Chart, local}
-use Rattle.model.proofs.Extend.{derived, extend, New, new, add, new-entry, op-low, recs-from, from-recs}
+use Rattle.model.proofs.Extend.{New, new-entry, op-low, recs-from, from-recs}
 use Rattle.model.proofs.Windows.{Inside, inside, leaves-mem}
-use Rattle.model.proofs.Rank.{derived-sorted, bySerial, ranked, tail, key-tree}
+use Rattle.model.proofs.Rank.{arranged, arranged-sorted, arranged-new, new-arranged, append, bySerial}
 
 -- a list in order that holds just those members of `all` for which P holds
 pub record Lists (P : Recognition → Type 0) (ts all : List Recognition) : Type 0 where
@@ -78,12 +78,12 @@ pub record Phase (ops : List Operator) (pe es : List Event) (j : Rule) (F P Q : 
   pub reach : (t u : Recognition) → Q t → Passes j t → Inside t u → entryOf u < j .entry → P u
   -- the order
   pub apart : (t u : Recognition) → P t → entryOf u ≡ j .entry → Passes j u → T (before t u)
-  pub alike : (x y : Node Recognition) → Passes j (tree (j .entry) x) → Passes j (tree (j .entry) y) → T (ranked x y) → T (before (tree (j .entry) x) (tree (j .entry) y))
+  pub alike : (t u : Recognition) → Passes j t → Passes j u → endOf t ≡ endOf u
 
 module _ (ops : List Operator) (c : Chart 0 ops) (pe es : List Event) where
-  pub phase : (j : Rule) (F P Q : Recognition → Type 0) → Phase ops pe es j F P Q → (ts : List Recognition) → Lists P ts (recognitions ops es) → Lists Q (ts ++ derived j pe ts) (recognitions ops es)
+  pub phase : (j : Rule) (F P Q : Recognition → Type 0) → Phase ops pe es j F P Q → (ts : List Recognition) → Lists P ts (recognitions ops es) → Lists Q (ts ++ arranged j pe ts) (recognitions ops es)
   phase j F P Q ph ts h = record {
-    sorted = sorted-append before ts (h .sorted) (derived-sorted j pe ts (ph .alike) (ph .serials) (h .sorted)) (λ t u m k. let w = new j pe ts u k in ph .apart t u (h .holds t m) (new-entry w) (w .ok));
+    sorted = sorted-append before ts (h .sorted) (arranged-sorted j pe ts (ph .alike) (ph .serials) (h .sorted)) (λ t u m k. let w = arranged-new j pe ts u k in ph .apart t u (h .holds t m) (new-entry w) (w .ok));
     sound = λ t m. sound′ t (List·Memᴰ·append-cases ts m);
     holds = λ t m. holds′ t (List·Memᴰ·append-cases ts m);
     full = λ t m q. full′ t m q (ph .splits t q);
@@ -98,10 +98,10 @@ module _ (ops : List Operator) (c : Chart 0 ops) (pe es : List Event) where
       done : (t : Recognition) → New j pe ts t → Q t
       done t k = ph .takes t (floor t k) (new-entry k) (k .ok)
 
-      sound′ : (t : Recognition) → List·Memᴰ t ts ⊎ List·Memᴰ t (derived j pe ts) → List·Memᴰ t (recognitions ops es)
+      sound′ : (t : Recognition) → List·Memᴰ t ts ⊎ List·Memᴰ t (arranged j pe ts) → List·Memᴰ t (recognitions ops es)
       sound′ t (inl m) = h .sound t m
       sound′ t (inr m) =
-          let k = new j pe ts t m in
+          let k = arranged-new j pe ts t m in
           let e : entryOf t ≡ n = new-entry k in
           from-recs ops c es t (record {
             operator = j .operator;
@@ -112,18 +112,18 @@ module _ (ops : List Operator) (c : Chart 0 ops) (pe es : List Event) where
             made = local (inside t) n pe es ts (recognitions ops es) (λ u l z. h .sound u) (λ u l z r. h .full u r (ph .reach t u (done t k) (k .ok) z l)) (j .operator) (ph .lower) (k .x) (subst (Inside t) (k .is) (omega arith)) (λ i. ph .news i (k .x) (subst (Passes j) (k .is) (k .ok))) (k .made);
           })
 
-      holds′ : (t : Recognition) → List·Memᴰ t ts ⊎ List·Memᴰ t (derived j pe ts) → Q t
+      holds′ : (t : Recognition) → List·Memᴰ t ts ⊎ List·Memᴰ t (arranged j pe ts) → Q t
       holds′ t (inl m) = ph .keeps t (h .holds t m)
-      holds′ t (inr m) = done t (new j pe ts t m)
+      holds′ t (inr m) = done t (arranged-new j pe ts t m)
 
-      full′ : (t : Recognition) → List·Memᴰ t (recognitions ops es) → Q t → P t ⊎ ((entryOf t ≡ n) × Passes j t) → List·Memᴰ t (ts ++ derived j pe ts)
-      full′ t m q (inl p) = Memᴰ·append-left (derived j pe ts) (h .full t m p)
+      full′ : (t : Recognition) → List·Memᴰ t (recognitions ops es) → Q t → P t ⊎ ((entryOf t ≡ n) × Passes j t) → List·Memᴰ t (ts ++ arranged j pe ts)
+      full′ t m q (inl p) = Memᴰ·append-left (arranged j pe ts) (h .full t m p)
       full′ t m q (inr p) =
           let k = recs-from ops c es t m in
           let e : entryOf t ≡ n = p .0 in
           let o : k .operator ≡ j .operator = op-same ops n (k .operator) (j .operator) (subst (λ i. OperatorAt ops i (k .operator)) e (k .at)) (ph .at) in
           let i : t ≡ tree n (k .x) = k .is ∙ ap (λ i. tree i (k .x)) e in
-          Memᴰ·append-right ts (add j pe ts t (record {
+          Memᴰ·append-right ts (new-arranged j pe ts t (record {
             x = k .x;
             is = i;
             ok = p .1;
@@ -135,9 +135,9 @@ abbrev pub Stage : ℤ → ℤ → ℕ → Recognition → Type 0
 Stage f o n t = (f ≤ᶻ startOf t) × ((endOf t <ᶻ o) ⊎ ((endOf t ≡ o) × (entryOf t < n)))
 
 pub key-front : (t : Recognition) → (z : List ℤ) × (key t ≡ endOf t ∷ pos (entryOf t) ∷ z)
-key-front (ofEvent n s i) = (pos 0 ∷ pos s ∷ [], refl)
-key-front (ofOne n m t) = (pos 1 ∷ pos (armNumber m) ∷ key t, refl)
-key-front (ofTwo n l r) = (pos 2 ∷ (key l ++ key r), refl)
+key-front (ofEvent n s i) = (negℤ i ∷ pos 0 ∷ pos s ∷ [], refl)
+key-front (ofOne n m t) = (negℤ (startOf t) ∷ pos 1 ∷ pos (armNumber m) ∷ key t, refl)
+key-front (ofTwo n l r) = (negℤ (least (startOf l) (startOf r)) ∷ pos 2 ∷ (key l ++ key r), refl)
 
 pub earlier-before : (t u : Recognition) → (endOf t <ᶻ endOf u) ⊎ ((endOf t ≡ endOf u) × (entryOf t < entryOf u)) → T (before t u)
 earlier-before t u h = lex→before t u (subst₂ (λ a b. T (lex a b)) (sym (key-front t .1)) (sym (key-front u .1)) (go h))
@@ -171,7 +171,7 @@ module _ (ops : List Operator) (c : Chart 0 ops) (f o : ℤ) (pe es : List Event
     splits = λ t q. split t (q .0) (q .1);
     reach = λ t u q p z l. (omega (arith, q .0), reached u l (le-cases (endOf u) o (omega (arith, eq-fact (eqZ→ (endOf t) o p)))));
     apart = λ t u p e q. earlier-before t u (across t u (p .1) e (eqZ→ (endOf u) o q));
-    alike = λ x y p q r. lex→before (tree n x) (tree n y) (subst₂ (λ a b. T (lex a b)) (sym (key-tree n x)) (sym (key-tree n y)) (lex-eq (nodeEnd trees x) (nodeEnd trees y) (pos n ∷ tail x) (pos n ∷ tail y) (end-is x p ∙ sym (end-is y q)) (lex-eq (pos n) (pos n) (tail x) (tail y) refl r)));
+    alike = λ t u p q. eqZ→ (endOf t) o p ∙ sym (eqZ→ (endOf u) o q);
   }
     where
       end-is : (x : Node Recognition) → T (eqZ (endOf (tree n x)) o) → nodeEnd trees x ≡ o
@@ -193,15 +193,15 @@ module _ (ops : List Operator) (c : Chart 0 ops) (f o : ℤ) (pe es : List Event
       across t u (inl k) e q = inl (omega (arith, eq-fact q))
       across t u (inr k) e q = inr (k .0 ∙ sym q, omega arith)
 
-  entries : (os : List Operator) (n : ℕ) (ts : List Recognition) → Chart n os → ((k : ℕ) (op : Operator) → OperatorAt os k op → OperatorAt ops (n + k) op) → Lists (Stage f o n) ts (recognitions ops es) → Lists (Stage f o (n + length os)) (extend pe (rules (endsAt o) n os) ts) (recognitions ops es)
-  unfolding extend
+  entries : (os : List Operator) (n : ℕ) (ts : List Recognition) → Chart n os → ((k : ℕ) (op : Operator) → OperatorAt os k op → OperatorAt ops (n + k) op) → Lists (Stage f o n) ts (recognitions ops es) → Lists (Stage f o (n + length os)) (append pe (rules (endsAt o) n os) ts) (recognitions ops es)
+  unfolding append
   entries [] n ts d a h = subst (λ i. Lists (Stage f o i) ts (recognitions ops es)) (omega arith) h
-  entries (op ∷ os) n ts d a h = subst (λ i. Lists (Stage f o i) (extend pe (rules (endsAt o) n (op ∷ os)) ts) (recognitions ops es)) (omega arith)
-      (entries os (suc n) (ts ++ derived (ending o n op) pe ts) (d .1) (λ k p q. subst (λ i. OperatorAt ops i p) (omega arith) (a (suc k) p q))
+  entries (op ∷ os) n ts d a h = subst (λ i. Lists (Stage f o i) (append pe (rules (endsAt o) n (op ∷ os)) ts) (recognitions ops es)) (omega arith)
+      (entries os (suc n) (ts ++ arranged (ending o n op) pe ts) (d .1) (λ k p q. subst (λ i. OperatorAt ops i p) (omega arith) (a (suc k) p q))
       (phase ops c pe es (ending o n op) (λ t. f ≤ᶻ startOf t) (Stage f o n) (Stage f o (suc n)) (ending-phase n op (subst (λ i. OperatorAt ops i op) (omega arith) (a 0 op refl)) (d .0)) ts h))
 
   -- from the recognitions that ended before o, those that end at o or before
-  pub closing : (ts : List Recognition) → Lists (Due f o) ts (recognitions ops es) → Lists (Past f o) (extend pe (rules (endsAt o) 0 ops) ts) (recognitions ops es)
+  pub closing : (ts : List Recognition) → Lists (Due f o) ts (recognitions ops es) → Lists (Past f o) (append pe (rules (endsAt o) 0 ops) ts) (recognitions ops es)
   closing ts l = record {
     sorted = h .sorted;
     sound = h .sound;
@@ -209,7 +209,7 @@ module _ (ops : List Operator) (c : Chart 0 ops) (f o : ℤ) (pe es : List Event
     full = λ t m d. h .full t m (d .0, elim (le-cases (endOf t) o (d .1)) as (λ z. (endOf t <ᶻ o) ⊎ ((endOf t ≡ o) × (entryOf t < 0 + length ops))) [ inl k ↦ inl k | inr k ↦ inr (k, let l : entryOf t < length ops = op-low ops (entryOf t) (recs-from ops c es t m .operator) (recs-from ops c es t m .at) in omega arith) ]);
   }
     where
-      h : Lists (Stage f o (0 + length ops)) (extend pe (rules (endsAt o) 0 ops) ts) (recognitions ops es)
+      h : Lists (Stage f o (0 + length ops)) (append pe (rules (endsAt o) 0 ops) ts) (recognitions ops es)
       h = entries ops 0 ts c (λ k op a. subst (λ i. OperatorAt ops i op) (omega arith) a) (record {
         sorted = l .sorted;
         sound = l .sound;

@@ -1,5 +1,5 @@
 -- Each operator at its boundary, the misreadings that document 01 forbids, and each refusal: one list of cases, one theorem that the checker
--- computes. What must come out was found by hand from document 01 and request N2. P1 to P8 are computed from text in crate `program`.
+-- computes. What must come out was found by hand from document 01 and requests N2 and N7. P1 to P8 are computed from text in crate `program`.
 use Prim.Native.Nat.{ℕ, suc, _<_, _≤_}
 use mathlib.Core.Path.{_≡_, refl}
 use mathlib.Core.List.{List, [], _∷_, _++_, map}
@@ -66,23 +66,21 @@ nearPoint op rows = case (R.event 1 ∷ R.event 2 ∷ R.event 3 ∷ related And 
 -- seq and a second meets go by the events of entries 1 and 2: at 0 and 1, at 1 and 2
 abbrev relations : List Case
 relations =
-    nearPoint (related Seq 1 2) (row-l 1 1 0 0 ∷ row-l 0 2 1 1 ∷ row-l 1 3 1 1 ∷ row-l 2 4 1 1 ∷ row-lr 3 0 3 0 1 ∷ row-lr 3 2 3 1 1 ∷ row-lr 4 0 3 0 1 ∷ row-l 2 5 2 2 ∷ row-lr 3 0 7 0 2 ∷ row-lr 3 2 7 1 2 ∷ row-lr 4 0 7 0 2 ∷ row-lr 4 2 7 1 2 ∷ []) ∷
-    nearPoint (related And 0 3) (row-l 1 1 0 0 ∷ row-l 0 2 1 1 ∷ row-l 1 3 1 1 ∷ row-l 2 4 1 1 ∷ row-lr 3 0 3 0 1 ∷ row-lr 3 2 3 1 1 ∷ row-lr 4 1 4 0 1 ∷ row-lr 4 1 5 1 1 ∷ row-l 2 5 2 2 ∷ row-lr 3 0 8 0 2 ∷ row-lr 3 2 8 1 2 ∷ row-lr 4 1 9 0 2 ∷ row-lr 4 1 10 1 2 ∷ []) ∷
-    nearPoint (or 0 3) (row-l 1 1 0 0 ∷ row-l 0 2 1 1 ∷ row-l 1 3 1 1 ∷ row-l 2 4 1 1 ∷ row-lr 3 0 3 0 1 ∷ row-lr 3 2 3 1 1 ∷ row-l 4 1 1 1 ∷ row-r 4 4 0 1 ∷ row-r 4 5 1 1 ∷ row-l 2 5 2 2 ∷ row-lr 3 0 9 0 2 ∷ row-lr 3 2 9 1 2 ∷ row-r 4 10 0 2 ∷ row-r 4 11 1 2 ∷ []) ∷
-    nearPoint (related Meets 0 3) (row-l 1 1 0 0 ∷ row-l 0 2 1 1 ∷ row-l 1 3 1 1 ∷ row-l 2 4 1 1 ∷ row-lr 3 0 3 0 1 ∷ row-lr 3 2 3 1 1 ∷ row-lr 4 1 5 1 1 ∷ row-l 2 5 2 2 ∷ row-lr 3 0 7 0 2 ∷ row-lr 3 2 7 1 2 ∷ row-lr 4 1 9 1 2 ∷ []) ∷
-    nearPoint (related Meets 1 2) (row-l 1 1 0 0 ∷ row-l 0 2 1 1 ∷ row-l 1 3 1 1 ∷ row-l 2 4 1 1 ∷ row-lr 3 0 3 0 1 ∷ row-lr 3 2 3 1 1 ∷ row-lr 4 2 3 1 1 ∷ row-l 2 5 2 2 ∷ row-lr 3 0 7 0 2 ∷ row-lr 3 2 7 1 2 ∷ []) ∷
-    nearPoint (related Starts 0 3) (row-l 1 1 0 0 ∷ row-l 0 2 1 1 ∷ row-l 1 3 1 1 ∷ row-l 2 4 1 1 ∷ row-lr 3 0 3 0 1 ∷ row-lr 3 2 3 1 1 ∷ row-l 2 5 2 2 ∷ row-lr 3 0 6 0 2 ∷ row-lr 3 2 6 1 2 ∷ row-lr 4 1 8 1 2 ∷ []) ∷
-    nearPoint (related During 0 3) (row-l 1 1 0 0 ∷ row-l 0 2 1 1 ∷ row-l 1 3 1 1 ∷ row-l 2 4 1 1 ∷ row-lr 3 0 3 0 1 ∷ row-lr 3 2 3 1 1 ∷ row-l 2 5 2 2 ∷ row-lr 3 0 6 0 2 ∷ row-lr 3 2 6 1 2 ∷ row-lr 4 1 7 0 2 ∷ []) ∷
-    nearPoint (related Finishes 0 3) (row-l 1 1 0 0 ∷ row-l 0 2 1 1 ∷ row-l 1 3 1 1 ∷ row-l 2 4 1 1 ∷ row-lr 3 0 3 0 1 ∷ row-lr 3 2 3 1 1 ∷ row-lr 4 1 4 0 1 ∷ row-l 2 5 2 2 ∷ row-lr 3 0 7 0 2 ∷ row-lr 3 2 7 1 2 ∷ []) ∷
-    nearPoint (related Equals 0 3) (row-l 1 1 0 0 ∷ row-l 0 2 1 1 ∷ row-l 1 3 1 1 ∷ row-l 2 4 1 1 ∷ row-lr 3 0 3 0 1 ∷ row-lr 3 2 3 1 1 ∷ row-lr 4 1 5 1 1 ∷ row-l 2 5 2 2 ∷ row-lr 3 0 7 0 2 ∷ row-lr 3 2 7 1 2 ∷ []) ∷ []
+    nearPoint (related Seq 1 2) (row-l 1 1 0 0 ∷ row-l 0 2 1 1 ∷ row-l 1 3 1 1 ∷ row-l 2 4 1 1 ∷ row-lr 3 2 3 1 1 ∷ row-lr 3 0 3 0 1 ∷ row-lr 4 0 3 0 1 ∷ row-l 2 5 2 2 ∷ row-lr 3 2 7 1 2 ∷ row-lr 3 0 7 0 2 ∷ row-lr 4 2 7 1 2 ∷ row-lr 4 0 7 0 2 ∷ []) ∷
+    nearPoint (related And 0 3) (row-l 1 1 0 0 ∷ row-l 0 2 1 1 ∷ row-l 1 3 1 1 ∷ row-l 2 4 1 1 ∷ row-lr 3 2 3 1 1 ∷ row-lr 3 0 3 0 1 ∷ row-lr 4 1 4 1 1 ∷ row-lr 4 1 5 0 1 ∷ row-l 2 5 2 2 ∷ row-lr 3 2 8 1 2 ∷ row-lr 3 0 8 0 2 ∷ row-lr 4 1 9 1 2 ∷ row-lr 4 1 10 0 2 ∷ []) ∷
+    nearPoint (or 0 3) (row-l 1 1 0 0 ∷ row-l 0 2 1 1 ∷ row-l 1 3 1 1 ∷ row-l 2 4 1 1 ∷ row-lr 3 2 3 1 1 ∷ row-lr 3 0 3 0 1 ∷ row-l 4 1 1 1 ∷ row-r 4 4 1 1 ∷ row-r 4 5 0 1 ∷ row-l 2 5 2 2 ∷ row-lr 3 2 9 1 2 ∷ row-lr 3 0 9 0 2 ∷ row-r 4 10 1 2 ∷ row-r 4 11 0 2 ∷ []) ∷
+    nearPoint (related Meets 0 3) (row-l 1 1 0 0 ∷ row-l 0 2 1 1 ∷ row-l 1 3 1 1 ∷ row-l 2 4 1 1 ∷ row-lr 3 2 3 1 1 ∷ row-lr 3 0 3 0 1 ∷ row-lr 4 1 4 1 1 ∷ row-l 2 5 2 2 ∷ row-lr 3 2 7 1 2 ∷ row-lr 3 0 7 0 2 ∷ row-lr 4 1 8 1 2 ∷ []) ∷
+    nearPoint (related Meets 1 2) (row-l 1 1 0 0 ∷ row-l 0 2 1 1 ∷ row-l 1 3 1 1 ∷ row-l 2 4 1 1 ∷ row-lr 3 2 3 1 1 ∷ row-lr 3 0 3 0 1 ∷ row-lr 4 2 3 1 1 ∷ row-l 2 5 2 2 ∷ row-lr 3 2 7 1 2 ∷ row-lr 3 0 7 0 2 ∷ []) ∷
+    nearPoint (related Starts 0 3) (row-l 1 1 0 0 ∷ row-l 0 2 1 1 ∷ row-l 1 3 1 1 ∷ row-l 2 4 1 1 ∷ row-lr 3 2 3 1 1 ∷ row-lr 3 0 3 0 1 ∷ row-l 2 5 2 2 ∷ row-lr 3 2 6 1 2 ∷ row-lr 3 0 6 0 2 ∷ row-lr 4 1 7 1 2 ∷ []) ∷
+    nearPoint (related During 0 3) (row-l 1 1 0 0 ∷ row-l 0 2 1 1 ∷ row-l 1 3 1 1 ∷ row-l 2 4 1 1 ∷ row-lr 3 2 3 1 1 ∷ row-lr 3 0 3 0 1 ∷ row-l 2 5 2 2 ∷ row-lr 3 2 6 1 2 ∷ row-lr 3 0 6 0 2 ∷ row-lr 4 1 8 0 2 ∷ []) ∷
+    nearPoint (related Finishes 0 3) (row-l 1 1 0 0 ∷ row-l 0 2 1 1 ∷ row-l 1 3 1 1 ∷ row-l 2 4 1 1 ∷ row-lr 3 2 3 1 1 ∷ row-lr 3 0 3 0 1 ∷ row-lr 4 1 5 0 1 ∷ row-l 2 5 2 2 ∷ row-lr 3 2 7 1 2 ∷ row-lr 3 0 7 0 2 ∷ []) ∷
+    nearPoint (related Equals 0 3) (row-l 1 1 0 0 ∷ row-l 0 2 1 1 ∷ row-l 1 3 1 1 ∷ row-l 2 4 1 1 ∷ row-lr 3 2 3 1 1 ∷ row-lr 3 0 3 0 1 ∷ row-lr 4 1 4 1 1 ∷ row-l 2 5 2 2 ∷ row-lr 3 2 7 1 2 ∷ row-lr 3 0 7 0 2 ∷ []) ∷ []
 
 -- overlaps: r, 6, from 0 to 2; of s, from 0, 1, 2 to 2 and from 0, 1, 2 to 3, only the one from 1 to 3
 abbrev overlaps : List Case
 overlaps =
     case (R.event 1 ∷ R.event 2 ∷ R.event 3 ∷ related Seq 0 0 ∷ related And 1 2 ∷ related Overlaps 3 4 ∷ []) 3000 (pos 0) (event 1 ∷ event 2 ∷ clock (pos 1) ∷ event 2 ∷ clock (pos 2) ∷ event 1 ∷ event 2 ∷ event 3 ∷ clock (pos 3) ∷ event 3 ∷ clock (pos 4) ∷ []) (taken 11)
-    (row-l 0 1 0 0 ∷ row-l 1 2 0 0 ∷ row-l 1 3 1 1 ∷ row-l 0 4 2 2 ∷ row-l 1 5 2 2 ∷ row-l 2 6 2 2 ∷
-    row-lr 3 0 3 0 2 ∷ row-lr 4 1 5 0 2 ∷ row-lr 4 2 5 1 2 ∷ row-lr 4 4 5 2 2 ∷ row-l 2 7 3 3 ∷
-    row-lr 4 1 10 0 3 ∷ row-lr 4 2 10 1 3 ∷ row-lr 4 4 10 2 3 ∷ row-lr 5 6 12 0 3 ∷ []) ∷ []
+    (row-l 0 1 0 0 ∷ row-l 1 2 0 0 ∷ row-l 1 3 1 1 ∷ row-l 0 4 2 2 ∷ row-l 1 5 2 2 ∷ row-l 2 6 2 2 ∷ row-lr 3 0 3 0 2 ∷ row-lr 4 4 5 2 2 ∷ row-lr 4 2 5 1 2 ∷ row-lr 4 1 5 0 2 ∷ row-l 2 7 3 3 ∷ row-lr 4 4 10 2 3 ∷ row-lr 4 2 10 1 3 ∷ row-lr 4 1 10 0 3 ∷ row-lr 5 6 12 0 3 ∷ []) ∷ []
 
 -- Absences: s at 2; r from 1 to 2, where s is at the late edge; from 1 to 3, inside; from 2 to 3, at the early edge.
 abbrev nearEdges : Edges → List Row → Case
@@ -91,10 +89,10 @@ nearEdges edges rows = case (R.event 1 ∷ R.event 2 ∷ related Seq 0 0 ∷ abs
 -- in the last case -[] with s just before and just after r, from 1 to 3
 abbrev absences : List Case
 absences =
-    nearEdges ClosedClosed (row-l 0 1 1 1 ∷ row-l 0 2 2 2 ∷ row-l 1 3 2 2 ∷ row-lr 2 0 1 1 2 ∷ row-l 0 4 3 3 ∷ row-lr 2 0 4 1 3 ∷ row-lr 2 1 4 2 3 ∷ []) ∷
-    nearEdges OpenOpen (row-l 0 1 1 1 ∷ row-l 0 2 2 2 ∷ row-l 1 3 2 2 ∷ row-lr 2 0 1 1 2 ∷ row-l 3 3 1 2 ∷ row-l 0 4 3 3 ∷ row-lr 2 0 5 1 3 ∷ row-lr 2 1 5 2 3 ∷ row-l 3 7 2 3 ∷ []) ∷
-    nearEdges ClosedOpen (row-l 0 1 1 1 ∷ row-l 0 2 2 2 ∷ row-l 1 3 2 2 ∷ row-lr 2 0 1 1 2 ∷ row-l 3 3 1 2 ∷ row-l 0 4 3 3 ∷ row-lr 2 0 5 1 3 ∷ row-lr 2 1 5 2 3 ∷ []) ∷
-    nearEdges OpenClosed (row-l 0 1 1 1 ∷ row-l 0 2 2 2 ∷ row-l 1 3 2 2 ∷ row-lr 2 0 1 1 2 ∷ row-l 0 4 3 3 ∷ row-lr 2 0 4 1 3 ∷ row-lr 2 1 4 2 3 ∷ row-l 3 6 2 3 ∷ []) ∷
+    nearEdges ClosedClosed (row-l 0 1 1 1 ∷ row-l 0 2 2 2 ∷ row-l 1 3 2 2 ∷ row-lr 2 0 1 1 2 ∷ row-l 0 4 3 3 ∷ row-lr 2 1 4 2 3 ∷ row-lr 2 0 4 1 3 ∷ []) ∷
+    nearEdges OpenOpen (row-l 0 1 1 1 ∷ row-l 0 2 2 2 ∷ row-l 1 3 2 2 ∷ row-lr 2 0 1 1 2 ∷ row-l 3 3 1 2 ∷ row-l 0 4 3 3 ∷ row-lr 2 1 5 2 3 ∷ row-lr 2 0 5 1 3 ∷ row-l 3 6 2 3 ∷ []) ∷
+    nearEdges ClosedOpen (row-l 0 1 1 1 ∷ row-l 0 2 2 2 ∷ row-l 1 3 2 2 ∷ row-lr 2 0 1 1 2 ∷ row-l 3 3 1 2 ∷ row-l 0 4 3 3 ∷ row-lr 2 1 5 2 3 ∷ row-lr 2 0 5 1 3 ∷ []) ∷
+    nearEdges OpenClosed (row-l 0 1 1 1 ∷ row-l 0 2 2 2 ∷ row-l 1 3 2 2 ∷ row-lr 2 0 1 1 2 ∷ row-l 0 4 3 3 ∷ row-lr 2 1 4 2 3 ∷ row-lr 2 0 4 1 3 ∷ row-l 3 5 2 3 ∷ []) ∷
     case (R.event 1 ∷ R.event 2 ∷ related Seq 0 0 ∷ absence ClosedClosed 2 1 ∷ []) 3000 (pos 0) (event 2 ∷ clock (pos 1) ∷ event 1 ∷ clock (pos 3) ∷ event 1 ∷ clock (pos 4) ∷ event 2 ∷ clock (pos 5) ∷ []) (taken 8)
     (row-l 1 1 0 0 ∷ row-l 0 2 1 1 ∷ row-l 0 3 3 3 ∷ row-lr 2 1 2 1 3 ∷ row-l 3 3 1 3 ∷ row-l 1 4 4 4 ∷ []) ∷ []
 
@@ -125,6 +123,21 @@ orders =
     twice : Operator → List Row → Case
     twice op rows = case (R.event 1 ∷ op ∷ []) 3000 (pos 0) (event 1 ∷ event 1 ∷ clock (pos 1) ∷ []) (taken 3) (row-l 0 1 0 0 ∷ row-l 0 2 0 0 ∷ rows)
 
+-- "The tightest match first" (request N7): one entry's rows of one end, the later start first, then as document 01 has it; rows that refer to
+-- them follow the new order; "after a forget too"
+abbrev tightest : List Case
+tightest =
+    case chart7 3000 (pos 0) log7 (taken 7)
+    (row-l 0 1 0 0 ∷ row-l 0 2 1 1 ∷ row-l 0 3 1 1 ∷ row-l 1 4 2 2 ∷ row-lr 2 1 3 1 2 ∷ row-lr 2 2 3 1 2 ∷ row-lr 2 0 3 0 2 ∷ row-l 3 4 1 2 ∷ row-l 3 5 1 2 ∷ row-r 3 4 1 2 ∷ row-r 3 5 1 2 ∷ row-l 3 6 0 2 ∷ row-r 3 6 0 2 ∷ []) ∷
+    case chart7 3000 (pos 0) (log7 ++ forget (pos 1) ∷ []) (taken 8)
+    (row-l 0 2 1 1 ∷ row-l 0 3 1 1 ∷ row-l 1 4 2 2 ∷ row-lr 2 0 2 1 2 ∷ row-lr 2 1 2 1 2 ∷ row-l 3 3 1 2 ∷ row-l 3 4 1 2 ∷ row-r 3 3 1 2 ∷ row-r 3 4 1 2 ∷ []) ∷ []
+  where
+    chart7 : List Operator
+    chart7 = R.event 1 ∷ R.event 2 ∷ related Seq 0 1 ∷ or 2 2 ∷ []
+
+    log7 : List Call
+    log7 = event 1 ∷ clock (pos 1) ∷ event 1 ∷ event 1 ∷ clock (pos 2) ∷ event 2 ∷ clock (pos 3) ∷ []
+
 -- An absence is not decided while its last instant is open: nothing stands there yet; a forbidding event may still come; once the
 -- instant is closed none comes too late.
 abbrev openInstants : List Case
@@ -140,7 +153,7 @@ openInstants =
 -- end before f. There are events at 0, 2 and 4.
 abbrev floors : List Case
 floors =
-    forgotten (pos 0) (row-l 0 1 0 0 ∷ row-l 0 2 2 2 ∷ row-lr 1 0 1 0 2 ∷ row-l 0 3 4 4 ∷ row-lr 1 0 3 0 4 ∷ row-lr 1 1 3 2 4 ∷ []) ∷
+    forgotten (pos 0) (row-l 0 1 0 0 ∷ row-l 0 2 2 2 ∷ row-lr 1 0 1 0 2 ∷ row-l 0 3 4 4 ∷ row-lr 1 1 3 2 4 ∷ row-lr 1 0 3 0 4 ∷ []) ∷
     forgotten (pos 1) (row-l 0 2 2 2 ∷ row-l 0 3 4 4 ∷ row-lr 1 0 1 2 4 ∷ []) ∷
     forgotten (pos 2) (row-l 0 2 2 2 ∷ row-l 0 3 4 4 ∷ row-lr 1 0 1 2 4 ∷ []) ∷
     forgotten (pos 3) (row-l 0 3 4 4 ∷ []) ∷ []
@@ -167,7 +180,7 @@ refusals =
     case (R.event 1 ∷ []) 3000 (pos 0) (event 1 ∷ forget (negsuc 1000000000) ∷ forget (negsuc 999999999) ∷ forget (pos 1) ∷ forget (pos 0) ∷ forget (pos 0) ∷ forget (negsuc 0) ∷ clock (pos 1) ∷ []) (0 ∷ 0 ∷ 11 ∷ 0 ∷ 11 ∷ 0 ∷ 0 ∷ 11 ∷ 0 ∷ []) (row-l 0 1 0 0 ∷ []) ∷ []
 
 pub cases : List Case
-cases = relations ++ overlaps ++ absences ++ lengths ++ codes ++ orders ++ openInstants ++ floors ++ fullTables ++ refusals
+cases = relations ++ overlaps ++ absences ++ lengths ++ codes ++ orders ++ tightest ++ openInstants ++ floors ++ fullTables ++ refusals
 
 pub examples : map outcome cases ≡ map expected cases
 unfolding cases opening eventStep clockStep forgetStep run numbersOf listing compare recognitions withEntries recognitionsOf isInstant firstFloor isMarkRefused isForgetRefused isRelated isForbidding hasLength

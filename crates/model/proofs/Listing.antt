@@ -18,10 +18,10 @@ use Rattle.model.proofs.Sorted.{sorted-keep, keep-mem, mem-keep}
 use Rattle.model.proofs.Trees.{tree, trees, tree-end, tree-start}
 use Rattle.model.proofs.Made.{Made}
 use Rattle.model.proofs.Local.{Chart}
-use Rattle.model.proofs.Extend.{extend, always, recognitions-extend, extend-all, recs-from}
+use Rattle.model.proofs.Extend.{always, recognitions-extend, extend-all, recs-from}
 use Rattle.model.proofs.Windows.{IsLeaf, leaves-mem, leaves-append, eventsFrom, event-same, floor-same}
-use Rattle.model.proofs.Rank.{bySerial}
-use Rattle.model.proofs.Rows.{Parts, Closed, extend-closed, extend-writes}
+use Rattle.model.proofs.Rank.{bySerial, append}
+use Rattle.model.proofs.Rows.{Parts, Closed, extend-closed, append-writes}
 use Rattle.model.proofs.Closing.{Lists, lists-same, Due, Past, listing-lists, closing}
 use Rattle.model.proofs.Forget.{Shape, Shaped, lateTree, forget-writes}
 
@@ -140,12 +140,12 @@ module _ (ops : List Operator) (c : Chart 0 ops) (old : List Event) (s : ℕ) (k
       go (inl h) = let l : e .instant <ᶻ o = past e h in omega arith
       go (inr h) = let q = numbered-mem o s ks e h in omega (arith, eq-fact (q .0))
 
-  after : Lists (Past f o) (extend now (rules (endsAt o) 0 ops) (listing ops all f o)) (recognitions ops all)
+  after : Lists (Past f o) (append now (rules (endsAt o) 0 ops) (listing ops all f o)) (recognitions ops all)
   after = closing ops c f o now all fo (numbered-sorted o s ks) in-now of-now (listing ops all f o) (listing-lists ops all f o)
 
   pub listing-clock : (t : ℤ) → o <ᶻ t → closeRows o now ops (asRows (listing ops all f o)) ≡ asRows (listing ops all f t)
   unfolding closeRows
-  listing-clock t lt = extend-writes now (rules (endsAt o) 0 ops) (listing ops all f o) (listing-closed ops all f o) (after .sorted) ∙ ap asRows (lists-same (Past f o) (Due f t) _ _ (recognitions ops all) (recognitions ops all) after (listing-lists ops all f t) (λ u m d. (m, omega arith)) (λ u m d. (m, (d .0, recs-end ops all o upto u m))))
+  listing-clock t lt = append-writes now (rules (endsAt o) 0 ops) (listing ops all f o) (listing-closed ops all f o) (after .sorted) ∙ ap asRows (lists-same (Past f o) (Due f t) _ _ (recognitions ops all) (recognitions ops all) after (listing-lists ops all f t) (λ u m d. (m, omega arith)) (λ u m d. (m, (d .0, recs-end ops all o upto u m))))
 
 -- with no events there are no recognitions
 empty : (ts : List Recognition) → ((t : Recognition) → List·Memᴰ t ts → ⊥) → ts ≡ []

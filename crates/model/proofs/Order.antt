@@ -6,12 +6,12 @@ use mathlib.Core.Logic.{_⊎_, inl, inr}
 use mathlib.Core.Bool.{Bool, true, false, cond, not, _&&_, _||_}
 use mathlib.Core.List.{List, [], _∷_, _++_, append-assoc, append-nil, head-eq-of-cons-eq, tail-eq-of-cons-eq}
 use lib.Dec.{T, T-not, not-T}
-use lib.IntN.{ℤ, pos}
+use lib.IntN.{ℤ, pos, negℤ}
 use lib.Signed.{ltZ}
-use Rattle.interval.specs.Instants.{eqZ, greatest}
-use Rattle.interval.proofs.Signed.{posPart, _<ᶻ_, eq-fact, ltZ→, →ltZ, eqZ→, eqZ-refl, antisym}
-use Rattle.model.specs.Recognitions.{Arm, only, left, right, Recognition, ofEvent, ofOne, ofTwo, endOf}
-use Rattle.model.specs.Order.{Comparison, less, equal, greater, _then_, compareZ, compareN, armNumber, compare, isLess, before}
+use Rattle.interval.specs.Instants.{eqZ, least, greatest}
+use Rattle.interval.proofs.Signed.{posPart, _<ᶻ_, eq-fact, ltZ→, →ltZ, eqZ→, eqZ-refl, antisym, neg-lt, neg-eq}
+use Rattle.model.specs.Recognitions.{Arm, only, left, right, Recognition, ofEvent, ofOne, ofTwo, entryOf, startOf, endOf}
+use Rattle.model.specs.Order.{Comparison, less, equal, greater, _then_, compareZ, compareN, armNumber, byEndEntryAndStart, compare, isLess, before}
 use Rattle.model.proofs.Sorted.{T-or, or-T, T-and, and-T}
 
 -- the dictionary order
@@ -89,11 +89,11 @@ pub lex-behind : (xs us vs : List ℤ) → T (lex us vs) → T (lex (xs ++ us) (
 lex-behind [] us vs h = h
 lex-behind (x ∷ xs) us vs h = lex-eq x x (xs ++ us) (xs ++ vs) refl (lex-behind xs us vs h)
 
--- the numbers by which a recognition is compared, one after another
+-- the numbers by which a recognition is compared, one after another; the start counts backwards
 abbrev pub key : Recognition → List ℤ
-key (ofEvent n s i) = i ∷ pos n ∷ pos 0 ∷ pos s ∷ []
-key (ofOne n m r) = endOf r ∷ pos n ∷ pos 1 ∷ pos (armNumber m) ∷ key r
-key (ofTwo n r s) = greatest (endOf r) (endOf s) ∷ pos n ∷ pos 2 ∷ (key r ++ key s)
+key (ofEvent n s i) = i ∷ pos n ∷ negℤ i ∷ pos 0 ∷ pos s ∷ []
+key (ofOne n m r) = endOf r ∷ pos n ∷ negℤ (startOf r) ∷ pos 1 ∷ pos (armNumber m) ∷ key r
+key (ofTwo n r s) = greatest (endOf r) (endOf s) ∷ pos n ∷ negℤ (least (startOf r) (startOf s)) ∷ pos 2 ∷ (key r ++ key s)
 
 -- the order of rows is the dictionary order of the keys
 abbrev compareLists : List ℤ → List ℤ → Comparison
@@ -107,40 +107,42 @@ then-equal less = refl
 then-equal equal = refl
 then-equal greater = refl
 
-regroup : (a b c d : Comparison) → (a then b then c then d) ≡ (((a then b) then c) then d)
-regroup less b c d = refl
-regroup greater b c d = refl
-regroup equal less c d = refl
-regroup equal greater c d = refl
-regroup equal equal less d = refl
-regroup equal equal greater d = refl
-regroup equal equal equal d = refl
+then-assoc : (a b c : Comparison) → ((a then b) then c) ≡ (a then b then c)
+then-assoc less b c = refl
+then-assoc equal b c = refl
+then-assoc greater b c = refl
 
-regroup-two : (a b c d e : Comparison) → (a then b then c then d then e) ≡ (((a then b) then c then d) then e)
-regroup-two less b c d e = refl
-regroup-two greater b c d e = refl
-regroup-two equal less c d e = refl
-regroup-two equal greater c d e = refl
-regroup-two equal equal less d e = refl
-regroup-two equal equal greater d e = refl
-regroup-two equal equal equal d e = refl
+compare-neg : (a b : ℤ) → compareZ (negℤ a) (negℤ b) ≡ compareZ b a
+compare-neg a b = ap₂ (λ p q. cond p less (cond q equal greater)) (neg-lt a b) (neg-eq a b)
+
+-- the front of two keys: end, entry and start
+abbrev compareFronts : Recognition → Recognition → Comparison → Comparison
+compareFronts t u c = compareZ (endOf t) (endOf u) then compareN (entryOf t) (entryOf u) then compareZ (negℤ (startOf t)) (negℤ (startOf u)) then c
+
+compare-front : (t u : Recognition) (c d : Comparison) → compareFronts t u (c then d) ≡ ((byEndEntryAndStart t u then c) then d)
+compare-front t u c d =
+    let e : Comparison = compareZ (endOf t) (endOf u) in
+    let n : Comparison = compareN (entryOf t) (entryOf u) in
+    let s : Comparison = compareZ (startOf u) (startOf t) in
+    ap (λ z. e then n then z then c then d) (compare-neg (startOf t) (startOf u)) ∙ sym (then-assoc (e then n then s) c d ∙ then-assoc e (n then s) (c then d) ∙ ap (λ z. e then z) (then-assoc n s (c then d)))
 
 compare-key : (t u : Recognition) (x y : List ℤ) → compareLists (key t ++ x) (key u ++ y) ≡ (compare t u then compareLists x y)
 unfolding compare
-compare-key (ofEvent n s i) (ofEvent n' s' i') x y = regroup (compareZ i i') (compareN n n') (compareN s s') (compareLists x y)
+compare-key (ofEvent n s i) (ofEvent n' s' i') x y = compare-front (ofEvent n s i) (ofEvent n' s' i') (compareN s s') (compareLists x y)
 compare-key (ofOne n m r) (ofOne n' m' r') x y =
-    ap (λ c. compareZ (endOf r) (endOf r') then compareN n n' then compareN (armNumber m) (armNumber m') then c) (compare-key r r' x y)
-    ∙ regroup-two (compareZ (endOf r) (endOf r')) (compareN n n') (compareN (armNumber m) (armNumber m')) (compare r r') (compareLists x y)
+    let a : Comparison = compareN (armNumber m) (armNumber m') in
+    ap (compareFronts (ofOne n m r) (ofOne n' m' r')) (ap (λ c. a then c) (compare-key r r' x y) ∙ sym (then-assoc a (compare r r') (compareLists x y)))
+    ∙ compare-front (ofOne n m r) (ofOne n' m' r') (a then compare r r') (compareLists x y)
 compare-key (ofTwo n r s) (ofTwo n' r' s') x y =
-    ap₂ (λ p q. compareZ (greatest (endOf r) (endOf s)) (greatest (endOf r') (endOf s')) then compareN n n' then compareLists p q) (append-assoc (key r) (key s) x) (append-assoc (key r') (key s') y)
-    ∙ ap (λ c. compareZ (greatest (endOf r) (endOf s)) (greatest (endOf r') (endOf s')) then compareN n n' then c) (compare-key r r' (key s ++ x) (key s' ++ y) ∙ ap (λ c. compare r r' then c) (compare-key s s' x y))
-    ∙ regroup-two (compareZ (greatest (endOf r) (endOf s)) (greatest (endOf r') (endOf s'))) (compareN n n') (compare r r') (compare s s') (compareLists x y)
-compare-key (ofEvent n s i) (ofOne n' m' r') x y = regroup (compareZ i (endOf r')) (compareN n n') less (compareLists x y)
-compare-key (ofEvent n s i) (ofTwo n' r' s') x y = regroup (compareZ i (greatest (endOf r') (endOf s'))) (compareN n n') less (compareLists x y)
-compare-key (ofOne n m r) (ofEvent n' s' i') x y = regroup (compareZ (endOf r) i') (compareN n n') greater (compareLists x y)
-compare-key (ofOne n m r) (ofTwo n' r' s') x y = regroup (compareZ (endOf r) (greatest (endOf r') (endOf s'))) (compareN n n') less (compareLists x y)
-compare-key (ofTwo n r s) (ofEvent n' s' i') x y = regroup (compareZ (greatest (endOf r) (endOf s)) i') (compareN n n') greater (compareLists x y)
-compare-key (ofTwo n r s) (ofOne n' m' r') x y = regroup (compareZ (greatest (endOf r) (endOf s)) (endOf r')) (compareN n n') greater (compareLists x y)
+    ap (compareFronts (ofTwo n r s) (ofTwo n' r' s')) (ap₂ compareLists (append-assoc (key r) (key s) x) (append-assoc (key r') (key s') y)
+    ∙ compare-key r r' (key s ++ x) (key s' ++ y) ∙ ap (λ c. compare r r' then c) (compare-key s s' x y) ∙ sym (then-assoc (compare r r') (compare s s') (compareLists x y)))
+    ∙ compare-front (ofTwo n r s) (ofTwo n' r' s') (compare r r' then compare s s') (compareLists x y)
+compare-key (ofEvent n s i) (ofOne n' m' r') x y = compare-front (ofEvent n s i) (ofOne n' m' r') less (compareLists x y)
+compare-key (ofEvent n s i) (ofTwo n' r' s') x y = compare-front (ofEvent n s i) (ofTwo n' r' s') less (compareLists x y)
+compare-key (ofOne n m r) (ofEvent n' s' i') x y = compare-front (ofOne n m r) (ofEvent n' s' i') greater (compareLists x y)
+compare-key (ofOne n m r) (ofTwo n' r' s') x y = compare-front (ofOne n m r) (ofTwo n' r' s') less (compareLists x y)
+compare-key (ofTwo n r s) (ofEvent n' s' i') x y = compare-front (ofTwo n r s) (ofEvent n' s' i') greater (compareLists x y)
+compare-key (ofTwo n r s) (ofOne n' m' r') x y = compare-front (ofTwo n r s) (ofOne n' m' r') greater (compareLists x y)
 
 isLess-lex : (xs ys : List ℤ) → isLess (compareLists xs ys) ≡ lex xs ys
 isLess-lex [] [] = refl
@@ -162,9 +164,9 @@ before→lex t u = subst T (before-key t u)
 pub lex→before : (t u : Recognition) → T (lex (key t) (key u)) → T (before t u)
 lex→before t u = subst T (sym (before-key t u))
 
--- the key of a tree can be read back, whatever stands behind it
-front : {a c a' c' : ℤ} {xs xs' : List ℤ} → Path (List ℤ) (a ∷ c ∷ xs) (a' ∷ c' ∷ xs') → (a ≡ a') × (c ≡ c') × (xs ≡ xs')
-front e = let p = tail-eq-of-cons-eq e in (head-eq-of-cons-eq e, head-eq-of-cons-eq p, tail-eq-of-cons-eq p)
+-- the key of a tree can be read back, whatever stands behind it; its start says nothing new
+front : {a c b a' c' b' : ℤ} {xs xs' : List ℤ} → Path (List ℤ) (a ∷ c ∷ b ∷ xs) (a' ∷ c' ∷ b' ∷ xs') → (a ≡ a') × (c ≡ c') × (xs ≡ xs')
+front e = let p = tail-eq-of-cons-eq e in (head-eq-of-cons-eq e, head-eq-of-cons-eq p, tail-eq-of-cons-eq (tail-eq-of-cons-eq p))
 
 pos-inj : {m n : ℕ} → pos m ≡ pos n → m ≡ n
 pos-inj e = ap posPart e

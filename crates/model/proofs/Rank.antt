@@ -1,21 +1,24 @@
--- What an operator makes stands in order, end and entry aside.
+-- What an operator makes stands in order, end, entry and start aside; sorted by later start, it stands in the order of rows.
 use Prim.Native.Nat.{ℕ, _<_}
 use native.Mathlib.Omega.{arith}
-use mathlib.Core.Path.{_≡_, refl, sym, subst, subst₂}
+use mathlib.Core.Path.{_≡_, refl, sym, ap, _∙_, subst, subst₂}
+use mathlib.Core.Logic.{inl, inr}
 use mathlib.Core.Bool.{Bool, not}
 use mathlib.Core.List.{List, [], _∷_, _++_, map, List·Memᴰ, List·Memᴰ·head, List·Memᴰ·tail, Memᴰ·of-map}
 use lib.Dec.{T, ltb, eqb, ltb→lt}
-use lib.IntN.{ℤ, pos}
+use lib.IntN.{ℤ, pos, negℤ}
+use lib.Signed.{ltZ}
 use Rattle.interval.specs.Conditions.{hasLength}
-use Rattle.model.specs.Lists.{keep, each}
+use Rattle.interval.proofs.Signed.{_≤ᶻ_, _<ᶻ_, eq-fact, ltZ→, nltZ→, neg-turns, le-cases}
+use Rattle.model.specs.Lists.{keep, each, sortStably}
 use Rattle.model.specs.Recognitions.{Event, Operator, event, related, or, absence, lasting, Arm, only, left, right, Recognition, entryOf, startOf, endOf}
 use Rattle.model.specs.Order.{armNumber, before}
-use Rattle.model.specs.RowSteps.{Node, leaf, part, pair, leaves, make, of, fits, forbidden, nodeEnd, Rule}
+use Rattle.model.specs.RowSteps.{Node, leaf, part, pair, leaves, make, of, fits, forbidden, nodeStart, nodeEnd, Rule}
 use Rattle.model.specs.Statements.{Sorted}
-use Rattle.model.proofs.Sorted.{sorted-append, sorted-keep, each-mem, keep-mem, keep-map}
-use Rattle.model.proofs.Order.{lex, lex-lt, lex-eq, lex-behind, key, before→lex, before-append}
-use Rattle.model.proofs.Trees.{tree, trees}
-use Rattle.model.proofs.Extend.{derived}
+use Rattle.model.proofs.Sorted.{sorted-append, sorted-keep, each-mem, keep-mem, keep-map, stably-mem, mem-stably, Decides, sorted-stably}
+use Rattle.model.proofs.Order.{lex, lex-lt, lex-eq, lex-behind, key, before→lex, lex→before, before-trans, before-append}
+use Rattle.model.proofs.Trees.{tree, trees, tree-start, tree-end}
+use Rattle.model.proofs.Extend.{derived, New, new, add}
 
 -- order carried over
 module _ {A B : Type 0} (R : A → A → Bool) (S : B → B → Bool) where
@@ -32,7 +35,7 @@ tail (leaf s i) = pos 0 ∷ pos s ∷ []
 tail (part m t) = pos 1 ∷ pos (armNumber m) ∷ key t
 tail (pair l r) = pos 2 ∷ (key l ++ key r)
 
-pub key-tree : (n : ℕ) (x : Node Recognition) → key (tree n x) ≡ nodeEnd trees x ∷ pos n ∷ tail x
+pub key-tree : (n : ℕ) (x : Node Recognition) → key (tree n x) ≡ nodeEnd trees x ∷ pos n ∷ negℤ (nodeStart trees x) ∷ tail x
 key-tree n (leaf s i) = refl
 key-tree n (part m t) = refl
 key-tree n (pair l r) = refl
@@ -85,17 +88,55 @@ make-ranked (or a b) es ts g h =
 make-ranked (absence c a b) es ts g h = sorted-map before ranked (part only) (keep (λ r. not (forbidden trees c (of trees b ts) r)) (of trees a ts)) (λ t u m n. part-ranked only t u) (sorted-keep before (λ r. not (forbidden trees c (of trees b ts) r)) (of trees a ts) (sorted-keep before (λ x. eqb (entryOf x) a) ts h))
 make-ranked (lasting c a d) es ts g h = sorted-map before ranked (part only) (keep (λ r. hasLength c d (startOf r) (endOf r)) (of trees a ts)) (λ t u m n. part-ranked only t u) (sorted-keep before (λ r. hasLength c d (startOf r) (endOf r)) (of trees a ts) (sorted-keep before (λ x. eqb (entryOf x) a) ts h))
 
--- what a rule derives, where its test fixes what the order looks at before the parts, stands in order
-pub derived-sorted : (j : Rule) (es : List Event) (ts : List Recognition)
-    → ((x y : Node Recognition) → T (j .test (startOf (tree (j .entry) x)) (endOf (tree (j .entry) x))) → T (j .test (startOf (tree (j .entry) y)) (endOf (tree (j .entry) y))) → T (ranked x y) → T (before (tree (j .entry) x) (tree (j .entry) y)))
-    → Sorted bySerial es → Sorted before ts → Sorted before (derived j es ts)
-derived-sorted j es ts up g h = subst (Sorted before) (sym (keep-map (λ t. j .test (startOf t) (endOf t)) (tree (j .entry)) (make trees (j .operator) es ts))) (sorted-map ranked before (tree (j .entry)) xs (λ x y m k. up x y (ok x m) (ok y k)) (sorted-keep ranked test (make trees (j .operator) es ts) (make-ranked (j .operator) es ts g h)))
+-- trees of one entry and end: the later start is before; where neither is later, as they are ranked
+abbrev pub laterTree : Recognition → Recognition → Bool
+laterTree t u = ltZ (startOf u) (startOf t)
+
+tree-before : (n : ℕ) (x y : Node Recognition) → nodeEnd trees x ≡ nodeEnd trees y → T (lex (negℤ (nodeStart trees x) ∷ tail x) (negℤ (nodeStart trees y) ∷ tail y)) → T (before (tree n x) (tree n y))
+tree-before n x y e h = lex→before (tree n x) (tree n y) (subst₂ (λ a b. T (lex a b)) (sym (key-tree n x)) (sym (key-tree n y)) (lex-eq (nodeEnd trees x) (nodeEnd trees y) (pos n ∷ negℤ (nodeStart trees x) ∷ tail x) (pos n ∷ negℤ (nodeStart trees y) ∷ tail y) e (lex-eq (pos n) (pos n) (negℤ (nodeStart trees x) ∷ tail x) (negℤ (nodeStart trees y) ∷ tail y) refl h)))
+
+later-before : (n : ℕ) (x y : Node Recognition) → nodeEnd trees x ≡ nodeEnd trees y → nodeStart trees y <ᶻ nodeStart trees x → T (before (tree n x) (tree n y))
+later-before n x y e h = tree-before n x y e (lex-lt (negℤ (nodeStart trees x)) (negℤ (nodeStart trees y)) (tail x) (tail y) (neg-turns (nodeStart trees x) (nodeStart trees y) h))
+
+ranked-before : (n : ℕ) (x y : Node Recognition) → nodeEnd trees x ≡ nodeEnd trees y → nodeStart trees y ≤ᶻ nodeStart trees x → T (ranked x y) → T (before (tree n x) (tree n y))
+ranked-before n x y e h r = elim (le-cases (nodeStart trees y) (nodeStart trees x) h) as (λ z. T (before (tree n x) (tree n y)))
+    [ inl l ↦ later-before n x y e l | inr q ↦ tree-before n x y e (lex-eq (negℤ (nodeStart trees x)) (negℤ (nodeStart trees y)) (tail x) (tail y) (ap negℤ (sym q)) r) ]
+
+-- what a rule derives, the later start first
+abbrev pub arranged : Rule → List Event → List Recognition → List Recognition
+arranged j es ts = sortStably laterTree (derived j es ts)
+
+pub arranged-new : (j : Rule) (es : List Event) (ts : List Recognition) (t : Recognition) → List·Memᴰ t (arranged j es ts) → New j es ts t
+arranged-new j es ts t m = new j es ts t (stably-mem laterTree (derived j es ts) m)
+
+pub new-arranged : (j : Rule) (es : List Event) (ts : List Recognition) (t : Recognition) → New j es ts t → List·Memᴰ t (arranged j es ts)
+new-arranged j es ts t k = mem-stably laterTree (derived j es ts) (add j es ts t k)
+
+-- the rules one after another, each over what the earlier ones left
+unfoldable pub append : List Event → List Rule → List Recognition → List Recognition
+append es [] ts = ts
+append es (j ∷ js) ts = append es js (ts ++ arranged j es ts)
+
+-- where the test of a rule fixes the end, what it derives stands in order
+pub arranged-sorted : (j : Rule) (es : List Event) (ts : List Recognition)
+    → ((t u : Recognition) → T (j .test (startOf t) (endOf t)) → T (j .test (startOf u) (endOf u)) → endOf t ≡ endOf u)
+    → Sorted bySerial es → Sorted before ts → Sorted before (arranged j es ts)
+arranged-sorted j es ts fixes g h = subst (λ z. Sorted before (sortStably laterTree z)) (sym (keep-map (λ t. j .test (startOf t) (endOf t)) (tree n) (make trees (j .operator) es ts))) (sorted-stably ranked laterTree before before-trans (tree n) xs decides (sorted-keep ranked test (make trees (j .operator) es ts) (make-ranked (j .operator) es ts g h)))
   where
+    n : ℕ
+    n = j .entry
+
     test : Node Recognition → Bool
-    test x = j .test (startOf (tree (j .entry) x)) (endOf (tree (j .entry) x))
+    test x = j .test (startOf (tree n x)) (endOf (tree n x))
 
     xs : List (Node Recognition)
     xs = keep test (make trees (j .operator) es ts)
 
-    ok : (x : Node Recognition) → List·Memᴰ x xs → T (test x)
-    ok x m = keep-mem test (make trees (j .operator) es ts) m .1
+    ends : (x y : Node Recognition) → List·Memᴰ x xs → List·Memᴰ y xs → nodeEnd trees x ≡ nodeEnd trees y
+    ends x y m k = sym (tree-end n x) ∙ fixes (tree n x) (tree n y) (keep-mem test (make trees (j .operator) es ts) m .1) (keep-mem test (make trees (j .operator) es ts) k .1) ∙ tree-end n y
+
+    decides : (x y : Node Recognition) → List·Memᴰ x xs → List·Memᴰ y xs → T (ranked x y) → Decides ranked laterTree before before-trans (tree n) (tree n x) (tree n y)
+    decides x y m k r = (
+      λ l. later-before n y x (ends y x k m) (omega (arith, ltZ→ (startOf (tree n x)) (startOf (tree n y)) l, eq-fact (tree-start n x), eq-fact (tree-start n y))),
+      λ l. ranked-before n x y (ends x y m k) (omega (arith, nltZ→ (startOf (tree n x)) (startOf (tree n y)) l, eq-fact (tree-start n x), eq-fact (tree-start n y))) r,
+    )

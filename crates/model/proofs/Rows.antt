@@ -8,19 +8,21 @@ use mathlib.Core.List.{List, [], _∷_, _++_, map, map-append, List·Memᴰ, Lis
 use lib.Dec.{eqb}
 use lib.ListN.{length, getD, List·getD-append, length-append, length-map}
 use lib.IntN.{ℤ, pos}
+use lib.Signed.{ltZ}
 use Rattle.interval.specs.Instants.{least, greatest}
 use Rattle.interval.specs.Conditions.{hasLength}
-use Rattle.model.specs.Lists.{keep, some, each, numbers}
+use Rattle.model.specs.Lists.{keep, some, each, numbers, sortStably}
 use Rattle.model.specs.Recognitions.{Event, Operator, event, related, or, absence, lasting, Arm, only, left, right, Recognition, ofEvent, ofOne, ofTwo, entryOf, startOf, endOf}
 use Rattle.model.specs.Order.{before, Row, row, place, leftOf, rightOf, asRow, asRows}
-use Rattle.model.specs.RowSteps.{Node, leaf, part, pair, View, leaves, make, of, fits, forbidden, Rule, rowAt, places, nodeRow, derivedRows, extendRows}
+use Rattle.model.specs.RowSteps.{Node, leaf, part, pair, View, leaves, make, of, fits, forbidden, Rule, rowAt, places, nodeRow, startsLater, derivedRows, extendRows}
 use Rattle.model.specs.Statements.{Sorted}
-use Rattle.model.proofs.Sorted.{keep-map, sorted-front}
+use Rattle.model.proofs.Sorted.{keep-map, sorted-front, map-stably}
 use Rattle.model.proofs.Trees.{tree, trees, map-map}
 use Rattle.model.proofs.Made.{make-made, made-all}
 use Rattle.model.proofs.Extend.{derived, extend, New, new}
 use Rattle.model.proofs.Windows.{leaves-mem}
 use Rattle.model.proofs.Place.{place-at, place-append}
+use Rattle.model.proofs.Rank.{laterTree, arranged, arranged-new, append}
 
 module _ {A B : Type 0} (g : A → B) where
   abbrev pub node : Node A → Node B
@@ -147,28 +149,29 @@ parts-more (ofTwo n l r) f h = (f l (h .0), f r (h .1))
 pub parts-leaf : (P : Recognition → Type 0) (n k : ℕ) (es : List Event) (x : Node Recognition) → List·Memᴰ x (leaves k es) → Parts P (tree n x)
 parts-leaf P n k es x m = let q = leaves-mem k es x m in subst (λ z. Parts P (tree n z)) (sym (q .is)) tt
 
-derived-closed : (j : Rule) (es : List Event) (ts : List Recognition) → Closed ts → Closed (ts ++ derived j es ts)
-derived-closed j es ts c t m = go (List·Memᴰ·append-cases ts m)
+-- what a rule derives of a closed list is made of its members
+new-closed : (j : Rule) (es : List Event) (ts us : List Recognition) → Closed ts → ((t : Recognition) → List·Memᴰ t us → New j es ts t) → Closed (ts ++ us)
+new-closed j es ts us c fresh t m = go (List·Memᴰ·append-cases ts m)
   where
-    more : (u : Recognition) → List·Memᴰ u ts → List·Memᴰ u (ts ++ derived j es ts)
-    more u k = Memᴰ·append-left (derived j es ts) k
+    more : (u : Recognition) → List·Memᴰ u ts → List·Memᴰ u (ts ++ us)
+    more u k = Memᴰ·append-left us k
 
-    fresh : New j es ts t → Parts (λ u. List·Memᴰ u ts) t
-    fresh k = subst (Parts (λ u. List·Memᴰ u ts)) (sym (k .is)) (made-all trees (λ u. List·Memᴰ u ts) (λ x. Parts (λ u. List·Memᴰ u ts) (tree (j .entry) x)) ts (λ r h. h) (λ i r h. h) (λ l r h h'. (h, h')) (j .operator) es (k .x) (λ i. parts-leaf (λ u. List·Memᴰ u ts) (j .entry) i es (k .x)) (k .made))
+    parts : New j es ts t → Parts (λ u. List·Memᴰ u ts) t
+    parts k = subst (Parts (λ u. List·Memᴰ u ts)) (sym (k .is)) (made-all trees (λ u. List·Memᴰ u ts) (λ x. Parts (λ u. List·Memᴰ u ts) (tree (j .entry) x)) ts (λ r h. h) (λ i r h. h) (λ l r h h'. (h, h')) (j .operator) es (k .x) (λ i. parts-leaf (λ u. List·Memᴰ u ts) (j .entry) i es (k .x)) (k .made))
 
-    go : List·Memᴰ t ts ⊎ List·Memᴰ t (derived j es ts) → Parts (λ u. List·Memᴰ u (ts ++ derived j es ts)) t
+    go : List·Memᴰ t ts ⊎ List·Memᴰ t us → Parts (λ u. List·Memᴰ u (ts ++ us)) t
     go (inl k) = parts-more t more (c t k)
-    go (inr k) = parts-more t more (fresh (new j es ts t k))
+    go (inr k) = parts-more t more (parts (fresh t k))
 
 pub extend-closed : (es : List Event) (js : List Rule) (ts : List Recognition) → Closed ts → Closed (extend es js ts)
 unfolding extend
 extend-closed es [] ts c = c
-extend-closed es (j ∷ js) ts c = extend-closed es js (ts ++ derived j es ts) (derived-closed j es ts c)
+extend-closed es (j ∷ js) ts c = extend-closed es js (ts ++ derived j es ts) (new-closed j es ts (derived j es ts) c (new j es ts))
 
-pub extend-front : (es : List Event) (js : List Rule) (ts : List Recognition) → Sorted before (extend es js ts) → Sorted before ts
-unfolding extend
-extend-front es [] ts h = h
-extend-front es (j ∷ js) ts h = sorted-front before ts (derived j es ts) (extend-front es js (ts ++ derived j es ts) h)
+pub append-front : (es : List Event) (js : List Rule) (ts : List Recognition) → Sorted before (append es js ts) → Sorted before ts
+unfolding append
+append-front es [] ts h = h
+append-front es (j ∷ js) ts h = sorted-front before ts (arranged j es ts) (append-front es js (ts ++ arranged j es ts) h)
 
 -- the rows of what was there stay
 row-more : (ts us : List Recognition) (t : Recognition) → Sorted before ts → Sorted before (ts ++ us) → Parts (λ u. List·Memᴰ u ts) t → asRow (ts ++ us) t ≡ asRow ts t
@@ -184,7 +187,7 @@ module _ (j : Rule) (es : List Event) (ts : List Recognition) (c : Closed ts) wh
   n = j .entry
 
   abbrev news : List Recognition
-  news = derived j es ts
+  news = arranged j es ts
 
   abbrev nums : List ℕ
   nums = numbers 0 (length (asRows ts))
@@ -212,15 +215,18 @@ module _ (j : Rule) (es : List Event) (ts : List Recognition) (c : Closed ts) wh
     rows-step : asRows (ts ++ news) ≡ asRows ts ++ derivedRows j es (asRows ts)
     rows-step = map-append (asRow (ts ++ news)) ts news ∙ ap₂ _++_ (map-same (asRow (ts ++ news)) (asRow ts) ts (λ t m. row-more ts news t (sorted-front before ts news h) h (c t m))) new-rows
       where
-        new-rows : map (asRow (ts ++ news)) news ≡ derivedRows j es (asRows ts)
-        new-rows =
+        made-rows : map (asRow (ts ++ news)) (derived j es ts) ≡ keep test (map (nodeRow (asRows ts) n) made)
+        made-rows =
             sym (keep-map test (asRow (ts ++ news)) (map (tree n) (make trees (j .operator) es ts)) ∙ ap (λ p. map (asRow (ts ++ news)) (keep p (map (tree n) (make trees (j .operator) es ts)))) (fun-ext (λ t. ap₂ (j .test) (row-start (ts ++ news) t) (row-end (ts ++ news) t))))
             ∙ ap (keep test) (ap (λ z. map (asRow (ts ++ news)) (map (tree n) z)) made-trees ∙ ap (map (asRow (ts ++ news))) (map-map (tree n) (node (nth ts)) made) ∙ map-map (asRow (ts ++ news)) (λ x. tree n (node (nth ts) x)) made ∙ map-same (λ x. asRow (ts ++ news) (tree n (node (nth ts) x))) (nodeRow (asRows ts) n) made row-is)
 
--- the rules on rows write what the rules on trees derive
-pub extend-writes : (es : List Event) (js : List Rule) (ts : List Recognition) → Closed ts → Sorted before (extend es js ts) → extendRows es js (asRows ts) ≡ asRows (extend es js ts)
-unfolding extend extendRows
-extend-writes es [] ts c h = refl
-extend-writes es (j ∷ js) ts c h =
-    ap (extendRows es js) (sym (rows-step j es ts c (extend-front es js (ts ++ derived j es ts) h)))
-    ∙ extend-writes es js (ts ++ derived j es ts) (derived-closed j es ts c) h
+        new-rows : map (asRow (ts ++ news)) news ≡ derivedRows j es (asRows ts)
+        new-rows = map-stably (asRow (ts ++ news)) laterTree startsLater (λ t u. ap₂ ltZ (sym (row-start (ts ++ news) u)) (sym (row-start (ts ++ news) t))) (derived j es ts) ∙ ap (sortStably startsLater) made-rows
+
+-- the rules on rows write what the rules on trees append
+pub append-writes : (es : List Event) (js : List Rule) (ts : List Recognition) → Closed ts → Sorted before (append es js ts) → extendRows es js (asRows ts) ≡ asRows (append es js ts)
+unfolding append extendRows
+append-writes es [] ts c h = refl
+append-writes es (j ∷ js) ts c h =
+    ap (extendRows es js) (sym (rows-step j es ts c (append-front es js (ts ++ arranged j es ts) h)))
+    ∙ append-writes es js (ts ++ arranged j es ts) (new-closed j es ts (arranged j es ts) c (arranged-new j es ts)) h

@@ -7,12 +7,12 @@ use mathlib.Core.List.{List, [], _∷_, _++_, map}
 use lib.Dec.{eqb, ltb, leb}
 use lib.IntN.{ℤ, pos, negsuc}
 use lib.ListN.{length, getD, take}
-use lib.Signed.{leZ}
+use lib.Signed.{ltZ, leZ}
 use Rattle.interval.specs.Instants.{isInstant, firstFloor, isMarkRefused, isForgetRefused, eqZ, least, greatest}
 use Rattle.interval.specs.Conditions.{isRelated, isForbidding, hasLength}
 use Rattle.interval.specs.declared.Relation.{Relation}
 use Rattle.interval.specs.declared.Edges.{Edges}
-use Rattle.model.specs.Lists.{keep, some, each, numbers}
+use Rattle.model.specs.Lists.{keep, some, each, numbers, sortStably}
 use Rattle.model.specs.Recognitions.{Event, Operator, event, related, or, absence, lasting, Arm, only, left, right}
 use Rattle.model.specs.Order.{Row, row, none, leftOf, rightOf}
 use Rattle.model.specs.Reference.{Model, Answer, accepted, refused, Call, isAt, rowsOf}
@@ -42,7 +42,7 @@ module _ {A : Type 0} (v : View A) where
   abbrev pub forbidden : Edges → List A → A → Bool
   forbidden c ss r = some (λ s. isForbidding c (v .start r) (v .end r) (v .start s) (v .end s)) ss
 
-  -- what an operator makes of the events and the parts there are, in the order of rows, end and entry aside
+  -- what an operator makes of the events and the parts there are, in the order of rows, end, entry and start aside
   abbrev pub make : Operator → List Event → List A → List (Node A)
   make (event k) es xs = leaves k es
   make (related c a b) es xs = each (λ r. map (pair r) (keep (fits c r) (of b xs))) (of a xs)
@@ -83,9 +83,16 @@ nodeRow rs n (leaf s i) = row n (pos s) none i i
 nodeRow rs n (part m i) = row n (leftOf m i) (rightOf m i) ((rowAt rs i) .start) ((rowAt rs i) .end)
 nodeRow rs n (pair i j) = row n (pos i) (pos j) (least ((rowAt rs i) .start) ((rowAt rs j) .start)) (greatest ((rowAt rs i) .end) ((rowAt rs j) .end))
 
--- the rows that a rule derives from those there are; the rules one after another, each over what the earlier ones left
+-- "later start first"
+abbrev pub startsLater : Row → Row → Bool
+startsLater r q = ltZ (q .start) (r .start)
+
+-- the rows that a rule makes of those there are; the same, the later start first; the rules one after another, each over what the earlier ones left
+abbrev pub madeRows : Rule → List Event → List Row → List Row
+madeRows j es rs = keep (λ r. j .test (r .start) (r .end)) (map (nodeRow rs (j .entry)) (make (places rs) (j .operator) es (numbers 0 (length rs))))
+
 abbrev pub derivedRows : Rule → List Event → List Row → List Row
-derivedRows j es rs = keep (λ r. j .test (r .start) (r .end)) (map (nodeRow rs (j .entry)) (make (places rs) (j .operator) es (numbers 0 (length rs))))
+derivedRows j es rs = sortStably startsLater (madeRows j es rs)
 
 unfoldable pub extendRows : List Event → List Rule → List Row → List Row
 extendRows es [] rs = rs

@@ -1,6 +1,6 @@
--- What the listing program prints, from text to text: P1 to P8, the four absences, the ends of the range of instants, and refusals. One list of
--- cases, one theorem that the checker computes by the definition alone. What must be printed stands in document 01 or request N2 or was found by
--- hand from them. P1 to P8 stand here only; behind the list is the tree of P1's row 7.
+-- What the listing program prints, from text to text: P1 to P8, the four absences, the tightest match first, the ends of the range of instants, and refusals.
+-- One list of cases, one theorem that the checker computes by the definition alone. What must be printed stands in document 01 or request N2 or was
+-- found by hand from them and request N7. P1 to P8 stand here only; behind the list is the tree of P1's row 7.
 use Prim.Native.Nat.{ℕ}
 use Prim.Native.String.{String}
 use mathlib.Core.Path.{_≡_, refl}
@@ -101,16 +101,32 @@ P1-P8 =
 abbrev absences : List Case
 absences =
     -- the edges included: s forbids each r
-    edges "3 -[] 2 1" ("0 0 1 -1 1 1" ∷ "1 0 2 -1 2 2" ∷ "2 1 3 -1 2 2" ∷ "3 2 0 1 1 2" ∷ "4 0 4 -1 3 3" ∷ "5 2 0 4 1 3" ∷ "6 2 1 4 2 3" ∷ []) ∷
+    edges "3 -[] 2 1" ("0 0 1 -1 1 1" ∷ "1 0 2 -1 2 2" ∷ "2 1 3 -1 2 2" ∷ "3 2 0 1 1 2" ∷ "4 0 4 -1 3 3" ∷ "5 2 1 4 2 3" ∷ "6 2 0 4 1 3" ∷ []) ∷
     -- neither edge: it forbids only the r from 1 to 3
-    edges "3 -][ 2 1" ("0 0 1 -1 1 1" ∷ "1 0 2 -1 2 2" ∷ "2 1 3 -1 2 2" ∷ "3 2 0 1 1 2" ∷ "4 3 3 -1 1 2" ∷ "5 0 4 -1 3 3" ∷ "6 2 0 5 1 3" ∷ "7 2 1 5 2 3" ∷ "8 3 7 -1 2 3" ∷ []) ∷
+    edges "3 -][ 2 1" ("0 0 1 -1 1 1" ∷ "1 0 2 -1 2 2" ∷ "2 1 3 -1 2 2" ∷ "3 2 0 1 1 2" ∷ "4 3 3 -1 1 2" ∷ "5 0 4 -1 3 3" ∷ "6 2 1 5 2 3" ∷ "7 2 0 5 1 3" ∷ "8 3 6 -1 2 3" ∷ []) ∷
     -- the early edge only: the r from 1 to 2 stays
-    edges "3 -[[ 2 1" ("0 0 1 -1 1 1" ∷ "1 0 2 -1 2 2" ∷ "2 1 3 -1 2 2" ∷ "3 2 0 1 1 2" ∷ "4 3 3 -1 1 2" ∷ "5 0 4 -1 3 3" ∷ "6 2 0 5 1 3" ∷ "7 2 1 5 2 3" ∷ []) ∷
+    edges "3 -[[ 2 1" ("0 0 1 -1 1 1" ∷ "1 0 2 -1 2 2" ∷ "2 1 3 -1 2 2" ∷ "3 2 0 1 1 2" ∷ "4 3 3 -1 1 2" ∷ "5 0 4 -1 3 3" ∷ "6 2 1 5 2 3" ∷ "7 2 0 5 1 3" ∷ []) ∷
     -- the late edge only: the r from 2 to 3 stays
-    edges "3 -]] 2 1" ("0 0 1 -1 1 1" ∷ "1 0 2 -1 2 2" ∷ "2 1 3 -1 2 2" ∷ "3 2 0 1 1 2" ∷ "4 0 4 -1 3 3" ∷ "5 2 0 4 1 3" ∷ "6 2 1 4 2 3" ∷ "7 3 6 -1 2 3" ∷ []) ∷ []
+    edges "3 -]] 2 1" ("0 0 1 -1 1 1" ∷ "1 0 2 -1 2 2" ∷ "2 1 3 -1 2 2" ∷ "3 2 0 1 1 2" ∷ "4 0 4 -1 3 3" ∷ "5 2 1 4 2 3" ∷ "6 2 0 4 1 3" ∷ "7 3 5 -1 2 3" ∷ []) ∷ []
   where
     edges : String → List String → Case
     edges last rows = lists 3000 ("0 event 1" ∷ "1 event 2" ∷ "2 seq 0 0" ∷ last ∷ []) ("open 1" ∷ "event 1" ∷ "clock 2" ∷ "event 1" ∷ "event 2" ∷ "clock 3" ∷ "event 1" ∷ "clock 4" ∷ []) rows
+
+-- "Among rows of equal end and entry the order becomes: later start first, then the order of document 01. Listings are compared in the new order, after a
+-- forget too." (request N7): three recognitions of one end, of which two start alike, and two arms that refer to them
+abbrev tightest : List Case
+tightest =
+    lists 3000 chart7 log7
+    ("0 0 1 -1 0 0" ∷ "1 0 2 -1 1 1" ∷ "2 0 3 -1 1 1" ∷ "3 1 4 -1 2 2" ∷ "4 2 1 3 1 2" ∷ "5 2 2 3 1 2" ∷ "6 2 0 3 0 2" ∷
+    "7 3 4 -1 1 2" ∷ "8 3 5 -1 1 2" ∷ "9 3 -1 4 1 2" ∷ "10 3 -1 5 1 2" ∷ "11 3 6 -1 0 2" ∷ "12 3 -1 6 0 2" ∷ []) ∷
+    lists 3000 chart7 (log7 ++ "forget 1" ∷ [])
+    ("0 0 2 -1 1 1" ∷ "1 0 3 -1 1 1" ∷ "2 1 4 -1 2 2" ∷ "3 2 0 2 1 2" ∷ "4 2 1 2 1 2" ∷ "5 3 3 -1 1 2" ∷ "6 3 4 -1 1 2" ∷ "7 3 -1 3 1 2" ∷ "8 3 -1 4 1 2" ∷ []) ∷ []
+  where
+    chart7 : List String
+    chart7 = "0 event 1" ∷ "1 event 2" ∷ "2 seq 0 1" ∷ "3 or 2 2" ∷ []
+
+    log7 : List String
+    log7 = "open 0" ∷ "event 1" ∷ "clock 1" ∷ "event 1" ∷ "event 1" ∷ "clock 2" ∷ "event 2" ∷ "clock 3" ∷ []
 
 -- the first and the last instant; a log that has only its opening; a table of no rows
 abbrev ends : List Case
@@ -168,7 +184,7 @@ refusals =
     log calls line = prints 3000 ("0 event 1" ∷ []) calls (line ∷ [])
 
 pub cases : List Case
-cases = P1-P8 ++ absences ++ ends ++ refusals
+cases = P1-P8 ++ absences ++ tightest ++ ends ++ refusals
 
 pub examples : map (λ (c : Case). printedFor (c .room) (c .input)) cases ≡ map (λ (c : Case). c .printed) cases
 unfolding cases bytes tabbed unended text split lines isInstant isLength firstFloor isMarkRefused isForgetRefused isRelated isForbidding hasLength isDigit allDigits valueFrom hasLeadingZero isNumber numberOf withoutMinus withMinus instantOf digitsWithin spelledNumber spelled words sameBytes placeOf operatorOf edgesOf relationOf lengthTestOf kindOf inRange areLower withCode eventLine withOperands secondOperand operandsLine byOperator operatorLine numbered parsedLine checkedEntry checkedLine answerTo noEntries withEntry refusedChart readLines orNoLine recognitionsOf withEntries recognitions compare listing opening eventStep clockStep forgetStep operatorBy operatorsOf callWords eventCall instantCall wordCall fieldsCall callOf numbersText rowTexts callIn openingAnswer callAnswer playCalls playLog chartLines logLines playLines outcomeText printedFor

@@ -1,5 +1,6 @@
 pub mod Laws
 pub mod Rows
+pub mod Puts
 pub mod Fill
 pub mod Operators
 pub mod Ends

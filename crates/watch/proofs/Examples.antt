@@ -189,7 +189,8 @@ markOrder =
     pendingOne : WatchState
     pendingOne = watch (pos 3) (pos 0) 1 0 (1 ∷ [])
 
--- Two events in sequence. Events of code 1 came at 1 and at 3; one of code 2, at 5, brings three rows more.
+-- Two events in sequence. Events of code 1 came at 1 and at 3; one of code 2, at 5, brings three rows more, of those in sequence the later start first
+-- (request N7).
 abbrev inSequence : Chart
 inSequence = chartOf ("0 event 1" ∷ "1 event 2" ∷ "2 seq 0 1" ∷ [])
 
@@ -197,16 +198,28 @@ abbrev twoRows : List String
 twoRows = "0 1 -1 1 1" ∷ "0 2 -1 3 3" ∷ []
 
 abbrev fiveRows : List String
-fiveRows = twoRows ++ "1 3 -1 5 5" ∷ "2 0 2 1 5" ∷ "2 1 2 3 5" ∷ []
+fiveRows = twoRows ++ "1 3 -1 5 5" ∷ "2 1 2 3 5" ∷ "2 0 2 1 5" ∷ []
 
 -- "12 table full: the due rows, old and new together, exceed the rows the table can hold"; "Closing alters only the new rows."
 abbrev marks : List Called
 marks =
     takes inSequence before (table (twoRows ++ replicate 3 "0 0 0 0 0" ++ "7 8 9" ∷ [])) (clock (pos 6)) (watch (pos 6) (pos 0) 3 5 []) (table (fiveRows ++ "7 8 9" ∷ [])) ∷
-    refuses inSequence before (table (twoRows ++ replicate 2 "0 0 0 0 0" ++ "7 8 9" ∷ [])) (clock (pos 6)) 12 ∷ []
+    refuses inSequence before (table (twoRows ++ replicate 2 "0 0 0 0 0" ++ "7 8 9" ∷ [])) (clock (pos 6)) 12 ∷
+    takes inSequenceShort (watch (pos 5) (pos 0) 4 3 (2 ∷ [])) (table (threeRows ++ replicate 7 "0 0 0 0 0")) (clock (pos 6)) (watch (pos 6) (pos 0) 4 10 []) (table (threeRows ++ "1 4 -1 5 5" ∷ moreRows)) ∷
+    refuses inSequenceShort (watch (pos 5) (pos 0) 4 3 (2 ∷ [])) (table (threeRows ++ replicate 6 "0 0 0 0 0")) (clock (pos 6)) 12 ∷ []
   where
     before : WatchState
     before = watch (pos 5) (pos 0) 3 2 (2 ∷ [])
+
+    -- The same with two events at 3, and an entry that refers to the rows in sequence: of two that start alike, the one with the lower left row stands first.
+    inSequenceShort : Chart
+    inSequenceShort = chartOf ("0 event 1" ∷ "1 event 2" ∷ "2 seq 0 1" ∷ "3 atmost 2 4" ∷ [])
+
+    threeRows : List String
+    threeRows = "0 1 -1 1 1" ∷ "0 2 -1 3 3" ∷ "0 3 -1 3 3" ∷ []
+
+    moreRows : List String
+    moreRows = "2 1 3 3 5" ∷ "2 2 3 3 5" ∷ "2 0 3 1 5" ∷ "3 4 -1 3 5" ∷ "3 5 -1 3 5" ∷ "3 6 -1 1 5" ∷ []
 
 -- the watch after that mark, with this floor and this many rows, and an event pending
 abbrev five : ℤ → ℕ → WatchState
@@ -227,7 +240,7 @@ pub callCases : List Called
 callCases = firstChecks ++ eventCalls ++ markOrder ++ marks ++ forgets
 
 pub calls : map (λ (c : Called). ofStep (call (c .chart) (record { watch = c .watch; table = c .table }) (c .call))) callCases ≡ map (λ (c : Called). c .expected) callCases
-unfolding callCases isInstant isMarkRefused isForgetRefused isRelated isForbidding hasLength split lines bytes tabbed unended text isDigit allDigits valueFrom hasLeadingZero isNumber numberOf withoutMinus withMinus instantOf words sameBytes placeOf operatorOf kindOf inRange areLower withCode eventLine withOperands secondOperand operandsLine byOperator operatorLine numbered parsedLine checkedEntry checkedLine answerTo noEntries withEntry refusedChart readLines orNoLine readChart entryFits allBelow isUsable capacity extendRows closeRows keepRows forgetRows rowsIn putRow putRows areZeros zeroed operatorBy operatorsOf isWatchInRange isTableRowConsistent areConsistent checked eventOwn eventStep closedRows clockOwn clockStep keptRows forgottenTable forgetOwn forgetStep call
+unfolding callCases isInstant isLength isMarkRefused isForgetRefused isRelated isForbidding hasLength split lines bytes tabbed unended text isDigit allDigits valueFrom hasLeadingZero isNumber numberOf withoutMinus withMinus instantOf words sameBytes placeOf operatorOf lengthTestOf kindOf inRange areLower withCode eventLine withOperands secondOperand operandsLine byOperator operatorLine numbered parsedLine checkedEntry checkedLine answerTo noEntries withEntry refusedChart readLines orNoLine readChart entryFits allBelow isUsable capacity extendRows closeRows keepRows forgetRows rowsIn putRow putRows areZeros zeroed operatorBy operatorsOf isWatchInRange isTableRowConsistent areConsistent checked eventOwn eventStep closedRows clockOwn clockStep keptRows forgottenTable forgetOwn forgetStep call
 calls = refl
 
 -- Trees of the five rows: chart, watch, row and output lent; the number, the length and the output after it.
@@ -256,8 +269,8 @@ pub treeCases : List Tree
 treeCases =
     -- "A tree is written `e` and serial for an event; `<L,R>` for two"; "Its length is handed back and the output past it stays."
     tree inSequence (five (pos 0) 5) 0 "....." (written 0 2 "e1...") ∷
-    tree inSequence (five (pos 0) 5) 4 "........." (written 0 7 "<e2,e3>..") ∷
-    tree inSequence (five (pos 0) 5) 4 "......." (written 0 7 "<e2,e3>") ∷
+    tree inSequence (five (pos 0) 5) 3 "........." (written 0 7 "<e2,e3>..") ∷
+    tree inSequence (five (pos 0) 5) 4 "......." (written 0 7 "<e1,e3>") ∷
     -- "a refused tree returns the number and length 0"; "After a refusal all lent memory holds what it held before."
     tree inSequence (five (pos 0) 5) 4 "......" (written 16 0 "......") ∷
     tree inSequence (five (pos 0) 5) 5 "........." (written 15 0 ".........") ∷
@@ -291,7 +304,7 @@ pub readCases : List Read
 readCases =
     -- "The rows with a given end are handed back as that part of the caller's table; it may be empty."
     reads inSequence (five (pos 0) 5) (pos 1) (found 0 1 ("0 1 -1 1 1" ∷ [])) ∷
-    reads inSequence (five (pos 0) 5) (pos 5) (found 2 3 ("1 3 -1 5 5" ∷ "2 0 2 1 5" ∷ "2 1 2 3 5" ∷ [])) ∷
+    reads inSequence (five (pos 0) 5) (pos 5) (found 2 3 ("1 3 -1 5 5" ∷ "2 1 2 3 5" ∷ "2 0 2 1 5" ∷ [])) ∷
     reads inSequence (five (pos 0) 5) (pos 4) (found 2 0 []) ∷
     reads inSequence (five (pos 0) 5) (pos 6) (found 5 0 []) ∷
     -- "A refused read returns an empty part"

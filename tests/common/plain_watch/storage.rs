@@ -57,8 +57,16 @@ pub struct Index {
 /// The rows of one entry, in their order, of which the first `old` end before the instant that is closed.
 #[derive(Default)]
 pub struct List {
-    pub spans: Vec<Span>,
+    spans: Vec<Span>,
     old: usize,
+}
+
+impl List {
+    /// Adds new rows, the first of which has the number `first`.
+    #[inline]
+    pub fn add(&mut self, first: usize, rows: &[Row]) {
+        self.spans.extend(rows.iter().zip(first as i32..).map(|(row, number)| Span::of(number, row)));
+    }
 }
 
 impl Index {
@@ -239,12 +247,10 @@ impl DoubleEndedIterator for TableSpans<'_> {
     }
 }
 
-/// The place of an entry's own rows: the table's free ones, of which the first has the number `first`, and its list.
+/// The place of an entry's own rows: the table's free ones.
 pub struct Own<'a> {
     pub entry: i32,
-    pub first: usize,
     pub free: &'a mut [Row],
-    pub list: Option<&'a mut Vec<Span>>,
     pub pushed: usize,
 }
 
@@ -253,9 +259,6 @@ impl Own<'_> {
     #[inline]
     pub fn push(&mut self, left: i32, right: i32, start: i32, end: i32) -> Option<()> {
         *self.free.get_mut(self.pushed)? = [self.entry, left, right, start, end];
-        if let Some(list) = &mut self.list {
-            list.push(Span { row: (self.first + self.pushed) as i32, start, end });
-        }
         self.pushed += 1;
         Some(())
     }

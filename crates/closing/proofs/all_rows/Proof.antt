@@ -20,12 +20,12 @@ use Rattle.closing.specs.declared.Pending.{Pending}
 use Rattle.table.specs.Table.{cell}
 use Rattle.table.specs.Operators.{entryOperator}
 use Rattle.chart.specs.Charts.{entryAt}
+use Rattle.ordering.proofs.Appended.{alike-behind}
 use Rattle.closing.specs.Added.{pendingAt, FilledBy, addedRows}
 use Rattle.closing.specs.Closed.{closedRows}
-use Rattle.closing.proofs.Filling.{Filling, begin, ended}
 use Rattle.closing.proofs.Derived.{Grown}
 use Rattle.closing.proofs.Growth.{grown-none}
-use Rattle.closing.proofs.Entries.{leftRows, left-first, left-last, entry-full, entry-next}
+use Rattle.closing.proofs.Entries.{Closing, closing-none, same-size, least, closing-ended, leftRows, left-first, left-last, Entered, entered}
 use Rattle.closing.proofs.all_rows.Statement.{statement}
 use Rattle.closing.proofs.all_rows.Tie as tie
 
@@ -38,7 +38,7 @@ Inv-loop t₀ room chart codes rows p count n₀ i₀ t n i =
     (i ≤ chart .count) ×
     (count ≡ chart .count) ×
     Grown (p .instant) rows n t ×
-    Filling room rows (leftRows chart (p .instant) (eventsOf p codes) 0 rows t₀) t₀ n (leftRows chart (p .instant) (eventsOf p codes) i n t) t
+    Closing room rows (leftRows chart (p .instant) (eventsOf p codes) 0 rows t₀) t₀ n (leftRows chart (p .instant) (eventsOf p codes) i n t) t
 
 abbrev μ-loop : tie.MeasureT-loop
 μ-loop t₀ room chart codes rows p count n₀ i₀ t n i = chart .count - i
@@ -52,7 +52,7 @@ loop-holds c =
     let s = c .before .before in
     let g = s .args in
     let p = s .pre .0 in
-    (omega arith, refl, simp (same32 _ (instant c)) (grown-none (g .t1) (g .state .instant) (g .state .rows) (g .t .now) (p .ready) (p .ended)), begin _ _ _ _ (rw (s .pre .2) (p .ready .fit)))
+    (omega arith, refl, simp (same32 _ (instant c)) (grown-none (g .t1) (g .state .instant) (g .state .rows) (g .t .now) (p .ready) (p .ended)), closing-none _ _ _ _ (rw (s .pre .2) (p .ready .fit)))
 
 -- the table is long enough
 held : (c : tie.Start Inv-loop μ-loop) → c .args .room * 5 ≤ length (c .args .t .now)
@@ -83,10 +83,10 @@ entry-rows-requires c κs =
       record {
         fit = f .most;
         most = omega (arith, capacity-most (length (g .t .now)));
-        held = omega (arith, held s, f .size);
+        held = omega (arith, held s, same-size f);
         above = is-le (pos 0) (pos (l .loop .i)) (omega arith);
         low = n .0;
-        few = f .least;
+        few = least f;
         inside = omega arith;
         ordered = λ i j h k. is-le (cell (l .loop .t) i 4) (cell (l .loop .t) j 4) (l .loop .inv .2 .ordered i j h k);
       },
@@ -108,30 +108,41 @@ appended c = simp (number (c .before .before .before .before) .1) at (c .entry-r
 few : (c : tie.Start Inv-loop μ-loop) → c .args .state .pending ≤ length (c .args .t3)
 few c = omega (arith, c .pre .0 .few)
 
-same-length : tie.Need-same-length Inv-loop μ-loop
-same-length c =
-    let d = c .before .before in
-    d .entry-rows .kept .0 ∙ d .before .before .before .before .before .loop .inv .3 .size
+-- what is known once the entry's rows were appended
+module _ (d : tie.After-entry-rows Inv-loop μ-loop) where
+  abbrev at : tie.At-loop Inv-loop μ-loop
+  at = d .before .before .before .before .before
+
+  abbrev start : tie.Start Inv-loop μ-loop
+  start = at .before .before .before
+
+  room : start .args .room * 5 ≤ length (at .loop .t)
+  room = omega (arith, held start, same-size (at .loop .inv .3))
+
+  known : let l = at in let g = start .args in let p = pendingOf start in
+      Entered (g .t1) (p .instant) (p .first) (p .count) (g .t3) (few start) (g .state .rows) (l .loop .i) (l .loop .n) (l .loop .t) (l .loop .inv .2) (below (d .before .before .before .before)) (l .loop .inv .3) room (appended d)
+  known = entered _ _ _ _ _ _ _ _ _ _ _ _ _ _ _
 
 returns : tie.Need-returns Inv-loop μ-loop
-returns c =
-    let d = c .before .before in
-    let l = d .before .before .before .before .before in
-    let e = l .before in
-    let s = e .before .before in
-    let g = s .args in
-    let p = pendingOf s in
-    simp (whole e) at (entry-full (g .t1) (p .instant) (p .first) (p .count) (g .t3) (few s) (g .state .rows) (l .loop .i) (l .loop .n) (l .loop .t) (l .loop .inv .2) (below (d .before .before .before .before)) (l .loop .inv .3) (appended d) (c .if1 .taken))
+returns c = let d = c .before .before in simp (whole (at d .before)) at (known d .full (c .if1 .taken))
+
+same-length : tie.Need-same-length Inv-loop μ-loop
+same-length c = let d = c .before .before in d .entry-rows .kept .0 ∙ same-size (at d .loop .inv .3)
+
+later-start-first-requires : tie.Need-later-start-first-requires Inv-loop μ-loop
+later-start-first-requires c κs =
+    let e = c .before in
+    let d = e .before .before in
+    let size : length (d .entry-rows .last .0) ≡ length (at d .loop .t) = d .entry-rows .kept .0 in
+    (omega (arith, room d), alike-behind (known d .alike (e .if1 .left)) (omega (arith, known d .grows (e .if1 .left))))
 
 loop-again : tie.Need-loop-again Inv-loop μ-loop
 loop-again c =
-    let d = c .before .before in
-    let l = d .before .before .before .before .before in
-    let s = l .before .before .before in
-    let g = s .args in
-    let p = pendingOf s in
-    let w = entry-next (g .t1) (p .instant) (p .first) (p .count) (g .t3) (few s) (g .state .rows) (l .loop .i) (l .loop .n) (l .loop .t) (l .loop .inv .2) (below (d .before .before .before .before)) (l .loop .inv .3) (appended d) (omega (arith, held s, l .loop .inv .3 .size)) (c .if1 .left) in
-    (omega arith, refl, w .1, w .0)
+    let v = c .before in
+    let e = v .before .before in
+    let d = e .before .before in
+    let w = known d .next (e .if1 .left) (v .later-start-first .last .0) (v .later-start-first .ensures) in
+    (omega (arith, below (d .before .before .before .before)), refl, w .1, w .0)
 
 returns-2 : tie.Need-returns-2 Inv-loop μ-loop
 returns-2 c =
@@ -140,7 +151,7 @@ returns-2 c =
     let s = e .before .before in
     let g = s .args in
     let p = pendingOf s in
-    simp (whole e) at (ended (l .loop .inv .3) (left-last (g .t1) (p .instant) (eventsOf p (g .t3)) (l .loop .i) (l .loop .n) (l .loop .t) (omega arith)))
+    simp (whole e) at (closing-ended (l .loop .inv .3) (left-last (g .t1) (p .instant) (eventsOf p (g .t3)) (l .loop .i) (l .loop .n) (l .loop .t) (omega arith)))
 
 pub all-rows-spec : {M : Type 1} → statement M
 all-rows-spec =
@@ -157,8 +168,9 @@ all-rows-spec =
     entry-rows-requires
     same-length
     returns
+    later-start-first-requires
     (λ c. omega arith)
     (λ c. omega arith)
     loop-again
-    (λ c. c .before .loop .inv .3 .size)
+    (λ c. same-size (c .before .loop .inv .3))
     returns-2)

@@ -1,5 +1,6 @@
 -- Each operator at its boundary, the misreadings that document 01 forbids, and each refusal: one list of cases, one theorem that the checker
--- computes. What must come out was found by hand from document 01 and requests N2 and N7. P1 to P8 are computed from text in crate `program`.
+-- computes. What must come out was found by hand from document 01 and request N2; where request N7 changes it, by a plain set-building program, and in
+-- `floors` by hand. P1 to P8 are computed from text in crate `program`.
 use Prim.Native.Nat.{ℕ, suc, _<_, _≤_}
 use mathlib.Core.Path.{_≡_, refl}
 use mathlib.Core.List.{List, [], _∷_, _++_, map}

@@ -27,13 +27,14 @@
  *     number  event  code      number: the entry's own, from 0 upwards
  *     number  PAIR   a  b      a, b:   numbers of earlier entries
  *     number  LENGTH a  d      d:      a length, 0 to 2000000000 milliseconds
- *                              code:   an event's code, 0 to 255
+ *     number  after  a  d      code:   an event's code, 0 to 255
  *
  *     PAIR is one of    seq or and -[] -][ -[[ -]]
  *                       meets overlaps starts during finishes equals
  *     LENGTH is one of  lasts    a lasts exactly d
  *                       atmost   d or less
  *                       atleast  d or more
+ *     after             each row of a, and d has passed: it ends d later
  *
  * A number has 1 to 10 decimal digits and no sign; only 0 itself begins with
  * the digit 0. The text is bytes: it needs no byte 0 at its end, and a byte 0
@@ -57,10 +58,16 @@
  *
  * An instant is -1000000000 to 1000000000, in milliseconds from the lamp
  * trigger. A watch is always at one open instant. An event happens there and
- * gets the next serial, 1 for the first. A clock mark closes the open instant,
- * which writes the rows that end at it, and opens a later one. A forget raises
- * the floor, which is -1000000000 at first, and drops every row that starts
- * before it. Events of the open instant are not in the table before it closes.
+ * gets the next serial, 1 for the first. A clock mark closes every instant from
+ * the open one to the last before the mark, which writes the rows that end at
+ * them, and opens the mark's own. The events belong to the open instant; at the
+ * others only rows of after end, and rows made of these. A forget raises the
+ * floor, which is -1000000000 at first, and drops every row that starts before
+ * it; no such row is made any more, also where the wait of an after still runs.
+ *
+ * Events of the open instant are not in the table before it closes. A row of
+ * after is there once a mark was later than its end. No mark is later than
+ * 1000000000: a row that ends there or later is never written.
  *
  *     struct chronicle_chart_answer read = chronicle_read_chart(text, length);
  *     int32_t table[5 * 3000];
@@ -89,10 +96,11 @@
  *
  *     entry        the chart's entry that the row is a recognition of
  *     left, right  of an event: its serial and -1. Of two operands: their rows.
- *                  Of an absence or a length test: the row of a, and -1. Of or:
- *                  a row and -1, or -1 and a row. Rows referred to are lower.
+ *                  Of an absence, a length test or after: the row of a, and
+ *                  -1. Of or: a row and -1, or -1 and a row. Rows referred to
+ *                  are lower.
  *     start, end   the least start and the greatest end of the rows referred
- *                  to; an event's are its instant
+ *                  to; an event's are its instant; after ends d later
  *
  * Rows stand by end, then by entry, then by start, the later start first: the
  * shortest recognition of an instant is the first of its entry. Rows that start
@@ -112,8 +120,8 @@
  *     9   a 65th event in one instant
  *     10  an event after serial 1000000
  *     11  a forget below the floor, above the open instant or out of range
- *     12  table full: the rows in use and the new ones exceed the rows that the
- *         table can hold
+ *     12  table full: the rows in use and the new ones, of every instant that
+ *         the mark closes, exceed the rows that the table can hold
  *     13  watch or table out of joint: no history leaves them so (see below)
  *     14  a chart of no entries, of over 32, or with an entry that breaks the
  *         operator table; never a chart that chronicle_read_chart has taken
@@ -140,9 +148,10 @@
  * not in use that is not all zeros; or a row in use whose entry is not in the
  * chart, whose start is below the floor, whose end is not before the open
  * instant or is before the end of the row above it, whose references are not
- * lower rows of the operands, with -1 just where it belongs, whose start, end or
- * condition disagrees with them (an absence's condition is not looked at), or
- * an event's whose serial is not 1 to the count or whose start is not its end.
+ * lower rows of the operands, with -1 just where it belongs, whose start, end
+ * (of after: d later than the row of a ends) or condition disagrees with them
+ * (an absence's condition is not looked at), or an event's whose serial is not 1
+ * to the count or whose start is not its end.
  * It is found before anything is done: no call goes wrong on damaged memory.
  *
  *
@@ -194,8 +203,8 @@ struct chronicle_verdict {
  * An entry of a chart. Operators by their code:
  *     0 event   1 seq   2 or   3 and   4 -[]   5 -][   6 -[[   7 -]]
  *     8 meets   9 overlaps   10 starts   11 during   12 finishes   13 equals
- *     14 lasts   15 atmost   16 atleast
- * An event has its code in a, and 0 in b; a length test has its length in b.
+ *     14 lasts   15 atmost   16 atleast   17 after
+ * An event has its code in a, and 0 in b; a length test and after have their length in b.
  */
 struct chronicle_entry {
     uint8_t op;
@@ -276,10 +285,13 @@ struct chronicle_answer chronicle_event(struct chronicle_watch watch, struct chr
                                         const int32_t *table, size_t length, uint8_t code);
 
 /*
- * A clock mark: closes the open instant and opens a later one. Time: a check and, where events are pending, a search
- * for new rows, which are those that end at the instant closed. An entry looks
+ * A clock mark: closes every instant from the open one to the last before the mark, and opens the mark's own. Time: a
+ * check and a search for new rows at the open instant and at each later one at which a row of after is due. The instants
+ * between cost nothing, however many they are. New rows are those that end at the instant closed. An entry looks
  *
- *     event                       at the pending events
+ *     event                       at the pending events, at the open instant alone
+ *     after                       at the rows, old or new, that ended d before, found by two
+ *                                 binary searches
  *     or lasts atmost atleast     at the new rows
  *     finishes equals             at the new rows; where one is of b, for each of a, at the
  *                                 new rows
@@ -298,6 +310,10 @@ struct chronicle_answer chronicle_event(struct chronicle_watch watch, struct chr
  *
  * The new rows of an entry are then put in order, the later start first. Time for k of them: one look at each where they
  * stand so already, two writes of each where no start is before the one above it, otherwise k log k steps.
+ *
+ * At each of these instants an after also finds when its next row is due: by a binary search, and one look at each row
+ * from there to the next one of a. Every later instant gives a new row, so that the rows that fit bound how many there
+ * are. Where no event is pending and nothing is due, rows are looked at for after alone.
  */
 CHRONICLE_CALL
 struct chronicle_answer chronicle_clock(struct chronicle_watch watch, struct chronicle_chart chart, int32_t *table,
@@ -326,8 +342,8 @@ struct chronicle_rows chronicle_rows_ending(struct chronicle_watch watch, struct
 
 /*
  * Writes the tree of a row into `out` and leaves the bytes past it: `e` and the serial for an event, <L,R> for two
- * operands, <L,_> or <_,R> for or, <L> for an absence or a length test. No byte 0 follows. Time: a check and at most
- * about two steps for each byte of the output, however long the tree would be.
+ * operands, <L,_> or <_,R> for or, <L> for an absence, a length test or after. No byte 0 follows. Time: a check and at
+ * most about two steps for each byte of the output, however long the tree would be.
  */
 CHRONICLE_CALL
 struct chronicle_tree_answer chronicle_tree(struct chronicle_watch watch, struct chronicle_chart chart,

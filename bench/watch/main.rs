@@ -1,8 +1,9 @@
 //! Times the proved watch beside the unproved one, both release builds, on the same watches and tables in one run. With
 //! --any-order the two may have the rows of one end and entry in different orders, as a proved watch from before request N7
-//! has them, and marks that are to put many in order are left out.
+//! has them, and marks that are to put many in order, and those that jump, are left out.
 
 mod blocks;
+mod delays;
 mod measure;
 
 use common::interface::{Chart, Watch};
@@ -28,6 +29,7 @@ fn main() {
     println!("ns/row: time over the rows in use before the call");
     if order == Order::Same {
         blocks::time_marks();
+        delays::time_marks();
     }
 }
 

@@ -42,8 +42,17 @@ fn operands() -> Charts {
 fn entry_numbers() -> Charts {
     Box::new((0..32).flat_map(|index| {
         SPELLINGS.iter().flat_map(move |number| {
-            ["event\t1\n", "event\t256\n", "lasts\t99\t5\n", "lasts\t99\t2000000001\n", "event\n"]
-                .map(|rest| [events(index), format!("{number}\t{rest}").into_bytes()].concat())
+            let rests = [
+                "event\t1\n",
+                "event\t256\n",
+                "lasts\t99\t5\n",
+                "lasts\t99\t2000000001\n",
+                "event\n",
+                "after\t0\n",
+                "after\t99\t5\n",
+                "after\t0\t2000000001\n",
+            ];
+            rests.map(|rest| [events(index), format!("{number}\t{rest}").into_bytes()].concat())
         })
     }))
 }
@@ -64,7 +73,8 @@ fn line_lengths() -> Charts {
 
 /// A chart of every kind of operator with each byte in turn replaced by every other.
 fn changed_bytes() -> Charts {
-    let chart = b"0\tevent\t255\n1\tseq\t0\t0\n2\t-[]\t1\t0\n3\toverlaps\t2\t0\n4\tlasts\t3\t2000000000\n";
+    let chart = b"0\tevent\t255\n1\tseq\t0\t0\n2\t-[]\t1\t0\n3\toverlaps\t2\t0\n4\tlasts\t3\t2000000000\n\
+        5\tafter\t4\t2000000000\n";
     Box::new((0..chart.len()).flat_map(move |place| {
         (0..=u8::MAX).map(move |byte| {
             let mut changed = chart.to_vec();

@@ -4,9 +4,9 @@
 use common::careless::{with_last_byte, without_carriage_returns};
 use common::harness::Named;
 use common::paper::lines;
-use common::plain_chart::{check, has_lower_operands, record, Verdict};
+use common::plain_chart::{check, has_lower_operands, record, Entry, Operator, Verdict, TAKEN};
 
-pub const ALL: [Named<fn(&[u8]) -> Verdict>; 8] = [
+pub const ALL: [Named<fn(&[u8]) -> Verdict>; 12] = [
     ("refusal 5 before 6", operand_before_range),
     ("lines counted from 0", lines_from_0),
     ("a last line taken without byte 10", |bytes| check(&with_last_byte(bytes))),
@@ -15,6 +15,10 @@ pub const ALL: [Named<fn(&[u8]) -> Verdict>; 8] = [
     ("empty lines skipped", empty_lines_skipped),
     ("spaces taken for tabs", spaces_as_tabs),
     ("all after a byte 0 left out", text_before_0),
+    ("after: not known", |bytes| with_delays_as(bytes, b"later")),
+    ("after: its length taken for an operand", |bytes| with_delays_as(bytes, b"and")),
+    ("after: a length above 2,000,000,000 taken", any_delay),
+    ("after: 5 before 6", delay_before_range),
 ];
 
 fn operand_before_range(bytes: &[u8]) -> Verdict {
@@ -23,6 +27,39 @@ fn operand_before_range(bytes: &[u8]) -> Verdict {
     let refused = lines(bytes).nth(index).and_then(record);
     match refused {
         Some((_, entry)) if verdict.refusal == 6 && !has_lower_operands(&entry, index as u64) => {
+            Verdict { refusal: 5, ..verdict }
+        }
+        _ => verdict,
+    }
+}
+
+/// Every `after` read as another word.
+fn with_delays_as(bytes: &[u8], word: &[u8]) -> Verdict {
+    let field = |field: &[u8]| if field == b"after" { word.to_vec() } else { field.to_vec() };
+    let line = |line: &[u8]| line.split(|byte| *byte == b'\t').map(field).collect::<Vec<_>>().join(&b'\t');
+    check(&lines(bytes).flat_map(line).collect::<Vec<u8>>())
+}
+
+/// The entry of the line that a chart is refused for, where it is an `after`, and the line's place.
+fn refused_delay(bytes: &[u8], verdict: Verdict) -> Option<(Entry, u64)> {
+    let index = (verdict.line as usize).wrapping_sub(1);
+    let (_, entry) = lines(bytes).nth(index).and_then(record)?;
+    (entry.operator == Operator::After).then_some((entry, index as u64))
+}
+
+/// Takes a chart whose first fault is such a length, whatever follows.
+fn any_delay(bytes: &[u8]) -> Verdict {
+    let verdict = check(bytes);
+    match refused_delay(bytes, verdict) {
+        Some((entry, index)) if verdict.refusal == 6 && has_lower_operands(&entry, index) => TAKEN,
+        _ => verdict,
+    }
+}
+
+fn delay_before_range(bytes: &[u8]) -> Verdict {
+    let verdict = check(bytes);
+    match refused_delay(bytes, verdict) {
+        Some((entry, index)) if verdict.refusal == 6 && !has_lower_operands(&entry, index) => {
             Verdict { refusal: 5, ..verdict }
         }
         _ => verdict,

@@ -41,6 +41,7 @@ pub enum Operator {
     /// The early edge, then the late one.
     Absence(Edge, Edge),
     Length(LengthTest),
+    After,
 }
 
 /// An entry: `first` is the code or the operand a, `second` the operand b or the length d, 0 for `event`.
@@ -61,10 +62,10 @@ pub struct Verdict {
 
 pub const TAKEN: Verdict = Verdict { refusal: 0, line: 0 };
 
-/// Every operator word, in the order of document 01's table.
-pub const WORDS: [&str; 17] = [
+/// Every operator word, in the order of document 01's table; request N1's stands behind them.
+pub const WORDS: [&str; 18] = [
     "event", "seq", "or", "and", "-[]", "-][", "-[[", "-]]", "meets", "overlaps", "starts", "during", "finishes",
-    "equals", "lasts", "atmost", "atleast",
+    "equals", "lasts", "atmost", "atleast", "after",
 ];
 
 /// "In the four absences the first sign is the early edge and the second the late one": an early `[` and a late `]` are
@@ -88,6 +89,7 @@ pub fn operator(word: &[u8]) -> Option<Operator> {
         b"lasts" => Operator::Length(LengthTest::Lasts),
         b"atmost" => Operator::Length(LengthTest::AtMost),
         b"atleast" => Operator::Length(LengthTest::AtLeast),
+        b"after" => Operator::After,
         _ => return None,
     })
 }
@@ -107,7 +109,7 @@ pub fn record(line: &[u8]) -> Option<(u64, Entry)> {
 pub fn is_in_range(entry: &Entry) -> bool {
     match entry.operator {
         Operator::Event => entry.first <= GREATEST_CODE,
-        Operator::Length(_) => entry.second <= GREATEST_LENGTH,
+        Operator::Length(_) | Operator::After => entry.second <= GREATEST_LENGTH,
         _ => true,
     }
 }
@@ -116,7 +118,7 @@ pub fn is_in_range(entry: &Entry) -> bool {
 pub fn has_lower_operands(entry: &Entry, index: u64) -> bool {
     match entry.operator {
         Operator::Event => true,
-        Operator::Length(_) => entry.first < index,
+        Operator::Length(_) | Operator::After => entry.first < index,
         _ => entry.first < index && entry.second < index,
     }
 }

@@ -19,9 +19,9 @@ pub const SPELLINGS: [&str; 30] = [
 ];
 
 /// Words that are no operator, most of them close to one.
-const WRONG_WORDS: [&str; 20] = [
+const WRONG_WORDS: [&str; 22] = [
     "", "Event", "EVENT", "even", "events", "event ", " seq", "-[", "-[]]", "[]", "-()", "-[)", "-", "atmos", "atleas",
-    "at most", "after", "cut", "x", "\u{e9}vent",
+    "at most", "afte", "afters", "After", "cut", "x", "\u{e9}vent",
 ];
 
 /// Bytes that mean something to a reader of text, or that a careless one takes for something else.
@@ -65,7 +65,7 @@ fn valid_line(random: &mut Random, index: usize) -> Vec<u8> {
     let (a, b) = (random.below(index.max(1)), random.below(index.max(1)));
     match operator(word.as_bytes()) {
         Some(Operator::Event) => format!("{index}\t{word}\t{code}\n"),
-        Some(Operator::Length(_)) => format!("{index}\t{word}\t{a}\t{length}\n"),
+        Some(Operator::Length(_) | Operator::After) => format!("{index}\t{word}\t{a}\t{length}\n"),
         _ => format!("{index}\t{word}\t{a}\t{b}\n"),
     }
     .into_bytes()

@@ -8,22 +8,39 @@ use crate::random::Random;
 const MOST_LEAVES: usize = 3;
 const LENGTHS: [u32; 5] = [7, 999_999_999, 1_000_000_000, 1_999_999_999, 2_000_000_000];
 
+/// Draws an entry over earlier ones with the leaves given, as its line's operator and operands, and its own leaves.
+type DrawEntry = fn(&mut Random, &[usize], usize) -> (String, usize);
+
 /// A sound chart and a log of up to 30 lines, in which a mark or a forget is refused now and then.
 pub fn any(random: &mut Random) -> Vec<u8> {
     let operators = random.below(8);
-    format!("{}\n{}", chart(random, operators, MOST_LEAVES), log(random)).into_bytes()
+    let draw = random.pick(&[chart, delay_chart]);
+    format!("{}\n{}", draw(random, operators, MOST_LEAVES), log(random)).into_bytes()
 }
 
 /// A sound chart of one to three events and so many operators. Of n events an entry has no more recognitions than about
 /// n to the power of the most leaves of a tree.
 pub fn chart(random: &mut Random, operators: usize, most_leaves: usize) -> String {
     let event_entries = 1 + random.below(3);
-    let mut leaves: Vec<usize> = Vec::new();
-    let mut text = String::new();
-    for index in 0..event_entries + operators {
-        let (rest, count) =
-            if index < event_entries { (event_entry(random, index), 1) } else { entry(random, &leaves, most_leaves) };
-        text += &format!("{index}\t{rest}\n");
+    chart_of(random, event_entries, &vec![entry as DrawEntry; operators], most_leaves)
+}
+
+/// A sound chart of one to three events, a delay of one of them, and so many operators more, many of them delays too or
+/// over delayed rows.
+pub fn delay_chart(random: &mut Random, operators: usize, most_leaves: usize) -> String {
+    let event_entries = 1 + random.below(3);
+    let others = (0..operators).map(|_| random.pick(&[delay, entry, entry_over_last]));
+    let draws: Vec<DrawEntry> = std::iter::once(delay as DrawEntry).chain(others).collect();
+    chart_of(random, event_entries, &draws, most_leaves)
+}
+
+fn chart_of(random: &mut Random, event_entries: usize, draws: &[DrawEntry], most_leaves: usize) -> String {
+    let mut leaves: Vec<usize> = vec![1; event_entries];
+    let mut text: String =
+        (0..event_entries).map(|index| format!("{index}\t{}\n", event_entry(random, index))).collect();
+    for draw in draws {
+        let (rest, count) = draw(random, &leaves, most_leaves);
+        text += &format!("{}\t{rest}\n", leaves.len());
         leaves.push(count);
     }
     text
@@ -35,10 +52,9 @@ pub fn interval_chart(random: &mut Random, operators: usize) -> String {
     for index in 4..4 + operators {
         let word = random.pick(&WORDS[4..]);
         let a = 2 + random.below(2);
-        let second = if matches!(operator(word.as_bytes()), Some(Operator::Length(_))) {
-            random.below(6)
-        } else {
-            random.pick(&[0, 2, 3, 2, 3, index - 1])
+        let second = match operator(word.as_bytes()) {
+            Some(Operator::Length(_) | Operator::After) => random.below(6),
+            _ => random.pick(&[0, 2, 3, 2, 3, index - 1]),
         };
         text += &format!("{index}\t{word}\t{a}\t{second}\n");
     }
@@ -65,11 +81,22 @@ fn event_entry(random: &mut Random, index: usize) -> String {
     format!("event\t{code}")
 }
 
-/// An entry over earlier ones with the leaves given, as its line's operator and operands, and its own leaves.
 fn entry(random: &mut Random, leaves: &[usize], most_leaves: usize) -> (String, usize) {
+    let operands = (random.below(leaves.len()), random.below(leaves.len()));
+    entry_over(random, operands, leaves, most_leaves)
+}
+
+/// An entry one operand of which, or both, is the last so far.
+fn entry_over_last(random: &mut Random, leaves: &[usize], most_leaves: usize) -> (String, usize) {
+    let (last, other) = (leaves.len() - 1, random.below(leaves.len()));
+    let operands = random.pick(&[(last, other), (other, last), (last, last)]);
+    entry_over(random, operands, leaves, most_leaves)
+}
+
+fn entry_over(random: &mut Random, (a, b): (usize, usize), leaves: &[usize], most_leaves: usize) -> (String, usize) {
     let word = random.pick(&WORDS[1..]);
-    let (a, b) = (random.below(leaves.len()), random.below(leaves.len()));
     match operator(word.as_bytes()) {
+        Some(Operator::After) => (format!("{word}\t{a}\t{}", delay_length(random)), leaves[a]),
         Some(Operator::Length(_)) => {
             let length = if random.one_in(8) { random.pick(&LENGTHS) } else { random.below(6) as u32 };
             (format!("{word}\t{a}\t{length}"), leaves[a])
@@ -82,6 +109,21 @@ fn entry(random: &mut Random, leaves: &[usize], most_leaves: usize) -> (String, 
     }
 }
 
+/// A delay, of the last entry so far as often as of any other.
+fn delay(random: &mut Random, leaves: &[usize], _: usize) -> (String, usize) {
+    let a = if random.one_in(2) { leaves.len() - 1 } else { random.below(leaves.len()) };
+    (format!("after\t{a}\t{}", delay_length(random)), leaves[a])
+}
+
+fn delay_length(random: &mut Random) -> u32 {
+    match random.below(16) {
+        0 => random.pick(&LENGTHS),
+        1 | 2 => 0,
+        3..=5 => 1,
+        _ => 2 + random.below(11) as u32,
+    }
+}
+
 fn log(random: &mut Random) -> String {
     let mut instant = random.below(11) as i64 - 5;
     let mut text = format!("open\t{instant}\n");
@@ -89,12 +131,13 @@ fn log(random: &mut Random) -> String {
         text += &match random.below(12) {
             0 => format!("forget\t{}\n", instant - random.below(8) as i64),
             1..=4 => {
-                instant += if random.one_in(50) { 0 } else { 1 + random.below(3) as i64 };
+                let longest = random.pick(&[3, 3, 3, 30]);
+                instant += if random.one_in(50) { 0 } else { 1 + random.below(longest) as i64 };
                 format!("clock\t{instant}\n")
             }
             // Code 4 is named by no entry, and counts in the serials all the same.
             _ => format!("event\t{}\n", 1 + random.below(4)),
         };
     }
-    text + &format!("clock\t{}\n", instant + 1)
+    text + &format!("clock\t{}\n", instant + 1 + random.pick(&[0, 0, 30]))
 }

@@ -27,14 +27,16 @@ pub struct Case {
 
 pub struct Kind {
     pub name: &'static str,
-    /// How many of a hundred inputs are of this kind.
+    /// How many inputs are of this kind, beside the others' shares.
     share: usize,
     pub draw: fn(&mut Random) -> Case,
 }
 
-const KINDS: [Kind; 9] = [
+const KINDS: [Kind; 11] = [
     Kind { name: "sound", share: 20, draw: |random| on_full_table(sound(random)) },
     Kind { name: "small table", share: 10, draw: on_small_table },
+    Kind { name: "delays", share: 16, draw: |random| on_full_table(with_delays(random)) },
+    Kind { name: "delays, small table", share: 6, draw: with_delays_on_small_table },
     Kind { name: "damaged", share: 34, draw: |random| on_full_table(damaged(random)) },
     Kind { name: "damaged chart", share: 12, draw: |random| on_full_table(damaged_chart(random)) },
     Kind { name: "edge of the range", share: 12, draw: |random| on_full_table(at_an_edge(random)) },
@@ -69,8 +71,22 @@ fn on_small_table(random: &mut Random) -> Case {
 fn sound(random: &mut Random) -> Vec<u8> {
     let opening = opening(random);
     let length = random.below(40);
-    let log = log(random, opening, length);
+    let log = log(random, opening, length, 3);
     format!("{}\n{log}", chart(random)).into_bytes()
+}
+
+/// The same with a delay among the operators, and marks that go over none, one or many of their ends.
+fn with_delays(random: &mut Random) -> Vec<u8> {
+    let opening = opening(random);
+    let (length, longest_step) = (random.below(40), random.pick(&[3, 12, 30]));
+    let log = log(random, opening, length, longest_step);
+    let operators = random.below(8);
+    format!("{}\n{log}", random_inputs::delay_chart(random, operators, 3)).into_bytes()
+}
+
+fn with_delays_on_small_table(random: &mut Random) -> Case {
+    let table_rows = random.below(60);
+    Case { input: with_delays(random), table_rows }
 }
 
 fn chart(random: &mut Random) -> String {
@@ -91,7 +107,7 @@ fn opening(random: &mut Random) -> i64 {
     }
 }
 
-fn log(random: &mut Random, opening: i64, length: usize) -> String {
+fn log(random: &mut Random, opening: i64, length: usize, longest_step: usize) -> String {
     let (mut instant, mut floor) = (opening, LEAST);
     let mut text = format!("open\t{opening}\n");
     for _ in 0..length {
@@ -101,22 +117,22 @@ fn log(random: &mut Random, opening: i64, length: usize) -> String {
                 format!("forget\t{floor}\n")
             }
             1..=4 => {
-                instant = new_instant(random, instant);
+                instant = new_instant(random, instant, longest_step);
                 format!("clock\t{instant}\n")
             }
             _ => format!("event\t{}\n", code(random)),
         };
     }
-    text + &format!("clock\t{}\n", instant + 1)
+    text + &format!("clock\t{}\n", instant + 1 + random.below(longest_step) as i64)
 }
 
 /// A mark after the open instant; now and then far after it, or not after it.
-fn new_instant(random: &mut Random, instant: i64) -> i64 {
+fn new_instant(random: &mut Random, instant: i64, longest_step: usize) -> i64 {
     match random.below(100) {
         0 => instant - random.below(2) as i64,
         1 => GREATEST + random.below(2) as i64,
         2 | 3 => instant + random.below(1_000_000_000) as i64,
-        _ => instant + 1 + random.below(3) as i64,
+        _ => instant + 1 + random.below(longest_step) as i64,
     }
 }
 
@@ -161,7 +177,8 @@ fn damaged_chart(random: &mut Random) -> Vec<u8> {
 /// A log with an instant of `SPELLINGS` in one to three of its lines.
 fn at_an_edge(random: &mut Random) -> Vec<u8> {
     let limit = random.pick(&[0, 1_999_999_998, 1_999_999_999]);
-    let mut text = format!("0\tevent\t1\n1\tseq\t0\t0\n2\tatleast\t1\t{limit}\n\n");
+    let delay = random.pick(&[0, 1, 1_999_999_998, 1_999_999_999, 2_000_000_000]);
+    let mut text = format!("0\tevent\t1\n1\tseq\t0\t0\n2\tatleast\t1\t{limit}\n3\tafter\t0\t{delay}\n\n");
     let opening = if random.one_in(2) { "-1000000000" } else { random.pick(&SPELLINGS) };
     text += &format!("open\t{opening}\nevent\t1\n");
     for _ in 0..random.below(4) {
@@ -205,7 +222,7 @@ fn filling(random: &mut Random) -> Vec<u8> {
 fn of_short_intervals(random: &mut Random) -> Vec<u8> {
     let operators = 1 + random.below(4);
     let chart = random_inputs::short_interval_chart(random, operators);
-    format!("{chart}\n{}", log(random, -20, 120)).into_bytes()
+    format!("{chart}\n{}", log(random, -20, 120, 3)).into_bytes()
 }
 
 /// No chart at all, but bytes that occur in one.

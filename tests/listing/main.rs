@@ -10,13 +10,14 @@ mod wrong_programs;
 
 use common::harness::{self, Compared, Met as _, Named, Test, LEAST_MET};
 use common::paper::{self, lines};
+use common::plain_chart::{self, Operator};
 use common::random::Random;
 use inputs::Case;
 use oracle::listing::{listing, TABLE_ROWS};
 use oracle::model::Over;
 use plain_listing::long_logs::{one_event_too_many, FULL_TABLE, FULL_TABLE_ROWS, WORKLOADS};
 use proved_listing::Lent;
-use std::collections::BTreeMap;
+use std::collections::{BTreeMap, BTreeSet};
 use std::process::ExitCode;
 use wrong_programs::{list_all, Listing};
 
@@ -71,6 +72,8 @@ struct Met {
     full_tables: usize,
     /// How many listings had rows of one end and entry whose starts decide their order, without a forget and with one.
     by_start: [usize; 2],
+    /// How many had delayed rows, of which none, one or many ends have no other row, without a forget and with one.
+    delayed: [[usize; 3]; 2],
 }
 
 impl Met {
@@ -85,14 +88,40 @@ impl Met {
             self.full_tables += usize::from(rows == case.table_rows);
             let has_forget = lines(&case.input).any(|line| line.starts_with(b"forget"));
             self.by_start[usize::from(has_forget)] += usize::from(has_rows_by_start(printed));
+            if let Some(ends) = ends_of_delays_alone(&case.input, printed) {
+                self.delayed[usize::from(has_forget)][ends.min(2)] += 1;
+            }
         }
     }
 }
 
+/// The rows of a listing, each as its fields.
+fn rows_of(printed: &[u8]) -> Vec<Vec<&[u8]>> {
+    let fields = |line| paper::fields(line).map_or(Vec::new(), Iterator::collect);
+    lines(printed).skip(1).map(fields).collect()
+}
+
+/// How many ends a listing has at which no event happened; none where it has no delayed row.
+fn ends_of_delays_alone(input: &[u8], printed: &[u8]) -> Option<usize> {
+    let chart: Vec<&[u8]> = lines(input).take_while(|line| *line != b"\n").collect();
+    let entries = plain_chart::read(&chart.concat()).ok()?;
+    let rows = rows_of(printed);
+    let of = |operator: Operator| {
+        let is_of = |row: &&Vec<&[u8]>| operator_at(&entries, row[1]) == Some(operator);
+        rows.iter().filter(is_of).map(|row| row[5]).collect::<BTreeSet<&[u8]>>()
+    };
+    let delayed = of(Operator::After);
+    (!delayed.is_empty()).then(|| delayed.difference(&of(Operator::Event)).count())
+}
+
+/// The operator of the entry that a field names.
+fn operator_at(entries: &[plain_chart::Entry], field: &[u8]) -> Option<Operator> {
+    entries.get(paper::number(field)? as usize).map(|entry| entry.operator)
+}
+
 /// Whether two neighbours of one entry and end have different starts.
 fn has_rows_by_start(printed: &[u8]) -> bool {
-    let fields = |line| paper::fields(line).map_or(Vec::new(), Iterator::collect);
-    let rows: Vec<Vec<&[u8]>> = lines(printed).skip(1).map(fields).collect();
+    let rows = rows_of(printed);
     let is_one_block = |row: &[&[u8]], next: &[&[u8]]| row[1] == next[1] && row[5] == next[5];
     rows.windows(2).any(|pair| is_one_block(&pair[0], &pair[1]) && pair[0][4] != pair[1][4])
 }
@@ -100,25 +129,29 @@ fn has_rows_by_start(printed: &[u8]) -> bool {
 impl harness::Met for Met {
     fn nothing() -> Met {
         let refusals = (0..=12).map(|number| (number, 0)).collect();
-        Met { refusals, kinds: BTreeMap::new(), rows: 0, full_tables: 0, by_start: [0; 2] }
+        Met { refusals, kinds: BTreeMap::new(), rows: 0, full_tables: 0, by_start: [0; 2], delayed: [[0; 3]; 2] }
     }
 
     /// 10 takes a million events and is met once.
     fn is_enough(&self) -> bool {
         let least = |number: u32| if number == 10 { 1 } else { LEAST_MET };
-        let mut listings = self.by_start.iter().chain([&self.full_tables]);
+        let mut listings = self.by_start.iter().chain([&self.full_tables]).chain(self.delayed.as_flattened());
         self.refusals.iter().all(|(number, count)| *count >= least(*number))
             && listings.all(|count| *count >= LEAST_MET)
     }
 
     fn print(&self) {
         println!("{} inputs, no difference", self.kinds.values().sum::<usize>());
-        self.kinds.iter().for_each(|(kind, count)| println!("  {kind:<18} {count:>7}"));
+        self.kinds.iter().for_each(|(kind, count)| println!("  {kind:<19} {count:>7}"));
         let counts: Vec<String> = self.refusals.iter().map(|(number, count)| format!("{number}: {count}")).collect();
         println!("refused with each number (0: not refused)\n  {}", counts.join("  "));
         println!("{} rows listed, {} tables full to the last row", self.rows, self.full_tables);
         let [without, with] = self.by_start;
         println!("rows of one end and entry with different starts: {without} listings, {with} with a forget");
+        println!("listings with delayed rows that alone have no end, one or many ends of theirs");
+        for (forget, [none, one, many]) in ["no forget", "a forget"].iter().zip(self.delayed) {
+            println!("  {forget:<9}  none: {none}  one: {one}  many: {many}");
+        }
     }
 }
 

@@ -9,7 +9,7 @@ use plain_listing::list;
 /// What a program prints for an input on a table of so many rows.
 pub type Listing = fn(&[u8], usize) -> Vec<u8>;
 
-pub const ALL: [Named<Listing>; 22] = [
+pub const ALL: [Named<Listing>; 24] = [
     ("line number one too high in the log", |i, n| log_line_moved(i, n, 1)),
     ("empty line not counted", |i, n| log_line_moved(i, n, -1)),
     ("log lines counted from the log's first", counted_from_log),
@@ -30,6 +30,8 @@ pub const ALL: [Named<Listing>; 22] = [
     ("a chart without an empty line not looked at", unparted_chart_not_read),
     ("one row less than the table holds", |i, n| list_all(i, n.saturating_sub(1))),
     ("one row more than the table holds", |i, n| list_all(i, n + 1)),
+    ("after not known", |i, n| list_all(&with_word(i, b"after", b"later"), n)),
+    ("after taken for a length test", |i, n| list_all(&with_word(i, b"after", b"atleast"), n)),
     ("one fixed listing", |_, _| b"row\tentry\tleft\tright\tstart\tend\n".to_vec()),
     ("everything refused", |_, _| b"refused\t7\t1\n".to_vec()),
 ];
@@ -158,6 +160,12 @@ fn empty_log_lines_skipped(input: &[u8], rows: usize) -> Vec<u8> {
         lines.extend(log.into_iter().filter(|line| *line != b"\n"));
     }
     list_all(&lines.concat(), rows)
+}
+
+/// The input with another word in the place of one, wherever it is a field.
+fn with_word(input: &[u8], word: &[u8], other: &[u8]) -> Vec<u8> {
+    let field = |field: &[u8]| if field == word { other.to_vec() } else { field.to_vec() };
+    input.split(|byte| *byte == b'\t').map(field).collect::<Vec<_>>().join(&b'\t')
 }
 
 /// 7 past the last line wherever there is no empty line.

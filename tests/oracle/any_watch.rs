@@ -94,7 +94,7 @@ fn clock(watch: &Watch, chart: &[Entry], table: &[i32], instant: i64) -> Result<
     if !INSTANTS.contains(&instant) || instant <= i64::from(watch.instant) {
         return Err(8);
     }
-    let rows = closed_rows(watch, chart, table).ok_or(12u32)?;
+    let rows = closed_rows(watch, chart, table, instant).ok_or(12u32)?;
     let next = Watch { instant: instant as i32, rows: rows.len(), pending: 0, codes: [0; MOST_PENDING], ..*watch };
     Ok((next, flat(&rows, table)))
 }
@@ -107,25 +107,49 @@ fn forget(watch: &Watch, chart: &[Entry], table: &[i32], floor: i64) -> Result<(
     Ok((Watch { floor: floor as i32, rows: rows.len(), ..*watch }, flat(&rows, table)))
 }
 
-/// The rows there are and, entry by entry, those that end at the open instant; none where they are more than fit. An
-/// entry's rows stand "later start first, then the order of document 01", in which they are made and which a stable
-/// sort leaves; later entries refer to them there.
-fn closed_rows(watch: &Watch, chart: &[Entry], table: &[i32]) -> Option<Vec<Row>> {
+/// The rows there are and those that a mark adds; none where they are more than fit. "A clock mark t closes every
+/// instant from the open one to t-1." Rows end where an event happens, where a row that they are made of ends, or a
+/// delay after that: at an instant that is neither the open one nor the end of a row and a delay, there is none to add.
+/// So only these are closed, and looked for anew after each, since a delayed row may be delayed again.
+fn closed_rows(watch: &Watch, chart: &[Entry], table: &[i32], mark: i64) -> Option<Vec<Row>> {
     let held = rows_held(table.len());
     let mut rows = rows_in_use(watch, table);
+    let mut closing = Some(i64::from(watch.instant));
+    while let Some(instant) = closing {
+        add_rows_ending(instant, watch, chart, held, &mut rows)?;
+        let later = delayed_ends(chart, &rows).filter(|end| *end > instant && *end < mark);
+        closing = later.min();
+    }
+    Some(rows)
+}
+
+/// The end of every row that a delay makes of these rows, whether it is among them or not.
+fn delayed_ends<'a>(chart: &'a [Entry], rows: &'a [Row]) -> impl Iterator<Item = i64> + 'a {
+    let delays = chart.iter().filter(|entry| entry.operator == Operator::After);
+    delays.flat_map(|delay| {
+        let operands = rows.iter().filter(|row| row.entry as u64 == delay.first);
+        operands.map(|row| row.end + delay.second as i64)
+    })
+}
+
+/// Adds, entry by entry, the rows that end at an instant; none where they are more than fit. An entry's rows stand
+/// "later start first, then the order of document 01", in which they are made and which a stable sort leaves; later
+/// entries refer to them there.
+fn add_rows_ending(instant: i64, watch: &Watch, chart: &[Entry], held: usize, rows: &mut Vec<Row>) -> Option<()> {
     for (number, entry) in chart.iter().enumerate() {
-        let ends_now = |row: &Row| row.end == i64::from(watch.instant);
-        let mut made: Vec<Row> = rows_of(watch, number, entry, &rows).filter(ends_now).take(held + 1).collect();
+        let ends_now = |row: &Row| row.end == instant;
+        let mut made: Vec<Row> = rows_of(watch, number, entry, rows).filter(ends_now).take(held + 1).collect();
         made.sort_by_key(|row| Reverse(row.start));
         rows.extend(made);
         if rows.len() > held {
             return None;
         }
     }
-    Some(rows)
+    Some(())
 }
 
-/// What an entry's line of the operator table makes of the pending events and the rows, in the order of document 01.
+/// What an entry's line of the operator table makes of the pending events, which are at the open instant, and the rows,
+/// in the order of document 01.
 fn rows_of<'a>(
     watch: &'a Watch,
     number: usize,
@@ -154,6 +178,7 @@ fn rows_of<'a>(
         Operator::Length(test) => {
             Box::new(a.filter(move |r| has_length(test, interval(*r), entry.second as i64)).map(one))
         }
+        Operator::After => Box::new(a.map(move |r| row(r as i64, NONE, interval(r).delayed(entry.second as i64)))),
     }
 }
 
@@ -189,7 +214,7 @@ fn tree_lengths(chart: &[Entry], rows: &[Row]) -> Vec<u64> {
         let length = match chart[row.entry].operator {
             Operator::Event => 1 + row.left.to_string().len() as u64,
             Operator::Or | Operator::Pair(_) => part(row.left).saturating_add(part(row.right)).saturating_add(3),
-            Operator::Absence(..) | Operator::Length(_) => part(row.left).saturating_add(2),
+            Operator::Absence(..) | Operator::Length(_) | Operator::After => part(row.left).saturating_add(2),
         };
         lengths.push(length);
     }
@@ -205,6 +230,6 @@ fn tree_text(chart: &[Entry], rows: &[Row], reference: i64) -> String {
     match chart[row.entry].operator {
         Operator::Event => format!("e{}", row.left),
         Operator::Or | Operator::Pair(_) => format!("<{},{}>", part(row.left), part(row.right)),
-        Operator::Absence(..) | Operator::Length(_) => format!("<{}>", part(row.left)),
+        Operator::Absence(..) | Operator::Length(_) | Operator::After => format!("<{}>", part(row.left)),
     }
 }

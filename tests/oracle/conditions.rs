@@ -1,4 +1,5 @@
-//! The conditions of document 01's operator table on two intervals, r of operand a and s of operand b.
+//! The conditions of document 01's operator table on two intervals, r of operand a and s of operand b, and the
+//! intervals that are made of them.
 
 use common::plain_chart::{Edge, LengthTest, Relation};
 
@@ -12,6 +13,11 @@ impl Interval {
     /// "The least start and the greatest end of the rows referred to."
     pub fn spanning(r: Interval, s: Interval) -> Interval {
         Interval { start: r.start.min(s.start), end: r.end.max(s.end) }
+    }
+
+    /// Request N1: "the same start and end = end r + d".
+    pub fn delayed(self, delay: i64) -> Interval {
+        Interval { end: self.end + delay, ..self }
     }
 }
 

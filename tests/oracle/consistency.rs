@@ -148,7 +148,7 @@ fn operands(entry: &Entry, row: Numbers, lower: &[Numbers]) -> Result<(Interval,
     };
     match (entry.operator, row.left != -1, row.right != -1) {
         (Operator::Pair(_), true, true) => Ok((operand(row.left, entry.first)?, operand(row.right, entry.second)?)),
-        (Operator::Or | Operator::Absence(..) | Operator::Length(_), true, false) => {
+        (Operator::Or | Operator::Absence(..) | Operator::Length(_) | Operator::After, true, false) => {
             operand(row.left, entry.first).map(|r| (r, r))
         }
         (Operator::Or, false, true) => operand(row.right, entry.second).map(|s| (s, s)),
@@ -156,19 +156,21 @@ fn operands(entry: &Entry, row: Numbers, lower: &[Numbers]) -> Result<(Interval,
     }
 }
 
-/// "Or whose start, end or non-absence condition disagrees with them."
+/// "Or whose start, end or non-absence condition disagrees with them"; of a delay, "the same start and end = end r +
+/// d".
 fn add_disagreements(entry: &Entry, interval: Interval, r: Interval, s: Interval, found: &mut BTreeSet<Cause>) {
-    let spanned = Interval::spanning(r, s);
-    if interval.start != spanned.start {
+    let delay = if entry.operator == Operator::After { entry.second as i64 } else { 0 };
+    let made = Interval::spanning(r, s).delayed(delay);
+    if interval.start != made.start {
         found.insert(Cause::StartDisagrees);
     }
-    if interval.end != spanned.end {
+    if interval.end != made.end {
         found.insert(Cause::EndDisagrees);
     }
     let fulfilled = match entry.operator {
         Operator::Pair(relation) => is_related(relation, r, s),
         Operator::Length(test) => has_length(test, r, entry.second as i64),
-        Operator::Event | Operator::Or | Operator::Absence(..) => true,
+        Operator::Event | Operator::Or | Operator::Absence(..) | Operator::After => true,
     };
     if !fulfilled {
         found.insert(Cause::ConditionDisagrees);

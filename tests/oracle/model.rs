@@ -1,6 +1,6 @@
 //! The state that the calls on a watch determine, and the refusals 8 to 12. Document 01 calls it the book.
 
-use crate::recognitions::{enumerate, Event, Recognitions, Row};
+use crate::recognitions::{enumerate, Event, Limits, Recognitions, Row, NO_LIMITS};
 use common::plain_chart::Entry;
 use std::ops::RangeInclusive;
 
@@ -13,9 +13,10 @@ pub const MOST_PENDING: usize = 64;
 pub enum Over {
     /// Every event, as the definition has it: "no floor heeded". Forgotten events go on costing.
     AllEvents,
-    /// Those at the floor or later and before the instant asked for. The same rows come out, since "the events of a
-    /// recognition that starts at the floor or later are all at the floor or later, and so are those that could forbid
-    /// it" (tests.rs compares the two), and no more are enumerated than the table can hold, and one.
+    /// Those at the floor or later and before the instant asked for, and only recognitions that end before it. The same
+    /// rows come out, since "the events of a recognition that starts at the floor or later are all at the floor or
+    /// later, and so are those that could forbid it" (tests.rs compares the two), and no more are enumerated than the
+    /// table can hold, and one.
     EventsFromFloor,
 }
 
@@ -119,7 +120,7 @@ impl<'a> Model<'a> {
 
     /// The recognitions found, and which of them the rows are, in their order.
     pub fn recognitions(&self) -> (Recognitions, Vec<usize>) {
-        let found = enumerate(self.chart, self.taking_part(self.open_instant), usize::MAX).expect("no limit is set");
+        let found = self.enumerated(self.open_instant, usize::MAX).expect("their number is not limited");
         let in_order = found.due_in_order(self.floor, self.open_instant);
         (found, in_order)
     }
@@ -127,16 +128,18 @@ impl<'a> Model<'a> {
     /// Whether the recognitions that end before the instant and start at the floor or later are no more than the rows
     /// that the table can hold.
     fn fits(&self, instant: i64) -> bool {
-        let most = if self.over == Over::AllEvents { usize::MAX } else { self.table_rows };
-        let found = enumerate(self.chart, self.taking_part(instant), most);
+        let found = self.enumerated(instant, self.table_rows);
         found.is_some_and(|found| found.due(self.floor, instant).count() <= self.table_rows)
     }
 
-    /// The events whose recognitions are looked for, where only ends before the instant are asked for.
-    fn taking_part(&self, before: i64) -> &[Event] {
+    /// All recognitions, or enough of them where only ends before the instant are asked for and no more than `most`.
+    fn enumerated(&self, before: i64, most: usize) -> Option<Recognitions> {
         match self.over {
-            Over::AllEvents => &self.events,
-            Over::EventsFromFloor => &self.events[self.events_before(self.floor)..self.events_before(before)],
+            Over::AllEvents => enumerate(self.chart, &self.events, NO_LIMITS),
+            Over::EventsFromFloor => {
+                let events = &self.events[self.events_before(self.floor)..self.events_before(before)];
+                enumerate(self.chart, events, Limits { end_before: before, most })
+            }
         }
     }
 

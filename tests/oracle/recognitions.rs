@@ -1,5 +1,5 @@
 //! The recognitions of a chart over a list of events, by set-building. Document 01, "Operators of a chart" and "The
-//! book behind demand 3"; source document 003, definition 16.
+//! book behind demand 3"; source document 003, definition 16; request N1 for `after`.
 
 use crate::conditions::{has_length, is_forbidding, is_related, Interval};
 use common::plain_chart::{Entry, Operator, Relation};
@@ -21,7 +21,7 @@ pub enum Parts {
     Event(i64),
     /// Both operands.
     Both(usize, usize),
-    /// The operand of an absence or of a length test.
+    /// The operand of an absence, of a length test or of a delay.
     One(usize),
     /// The left arm of `or`.
     LeftArm(usize),
@@ -53,12 +53,25 @@ pub struct Row {
     pub end: i64,
 }
 
-/// The recognitions of a chart over some events; none where there are more than `most`.
-pub fn enumerate(chart: &[Entry], events: &[Event], most: usize) -> Option<Recognitions> {
+/// Which recognitions are looked for.
+#[derive(Clone, Copy)]
+pub struct Limits {
+    /// Only those that end before this instant.
+    pub end_before: i64,
+    /// None at all where there are more.
+    pub most: usize,
+}
+
+pub const NO_LIMITS: Limits = Limits { end_before: i64::MAX, most: usize::MAX };
+
+/// The recognitions of a chart over some events. What a recognition is made of, and what could forbid it, ends no later
+/// than it does, so that those left out by their end are missed by none.
+pub fn enumerate(chart: &[Entry], events: &[Event], Limits { end_before, most }: Limits) -> Option<Recognitions> {
     let mut found = Recognitions { all: Vec::new(), of_entry: Vec::new() };
     for (number, entry) in chart.iter().enumerate() {
         let room = most.saturating_sub(found.all.len()).saturating_add(1);
-        let made: Vec<Recognition> = found.of(number, entry, events).take(room).collect();
+        let ends_before = |recognition: &Recognition| recognition.interval.end < end_before;
+        let made: Vec<Recognition> = found.of(number, entry, events).filter(ends_before).take(room).collect();
         let first = found.all.len();
         found.all.extend(made);
         found.of_entry.push(first..found.all.len());
@@ -90,6 +103,9 @@ impl Recognitions {
                 let lasts = move |r: &usize| has_length(test, self.interval(*r), entry.second as i64);
                 Box::new(self.a(entry).filter(lasts).map(Parts::One))
             }
+            Operator::After => {
+                return Box::new(self.a(entry).map(move |r| self.delayed(number, r, entry.second as i64)))
+            }
         };
         Box::new(parts.map(move |parts| self.recognition(number, parts)))
     }
@@ -120,6 +136,11 @@ impl Recognitions {
             Parts::Event(_) => unreachable!("an event has no operand"),
         };
         Recognition { entry, parts, interval: Interval::spanning(self.interval(r), self.interval(s)) }
+    }
+
+    /// "For each row r of a, a row with left r, right -1, the same start and end = end r + d."
+    fn delayed(&self, entry: usize, r: usize, delay: i64) -> Recognition {
+        Recognition { entry, parts: Parts::One(r), interval: self.interval(r).delayed(delay) }
     }
 
     fn interval(&self, index: usize) -> Interval {

@@ -1,7 +1,7 @@
 //! The set-building program's own tests, beside the examples of tests/examples.
 
 use common::chart_value;
-use common::interface::Watch;
+use common::interface::{Answer, Chart, Watch};
 use common::plain_chart::{self, Entry, Operator};
 use common::random::Random;
 use common::random_inputs;
@@ -12,6 +12,7 @@ use oracle::listing::{listing, TABLE_ROWS};
 use oracle::model::{Call, Model, Over, MOST_EVENTS, MOST_PENDING};
 use oracle::recognitions::Row;
 use std::cmp::Reverse;
+use std::collections::BTreeSet;
 
 const INPUTS: usize = 30_000;
 const HISTORIES: usize = 5_000;
@@ -67,6 +68,131 @@ fn shortest_first() {
     assert_eq!(references, [3, 2, 0, 1, 6, 7, 8]);
     model.forget(10).unwrap();
     assert_eq!(model.trees(), ["e3", "e4", "e5", "<e4,e5>", "<e3,e5>", "<<e3,e5>>"]);
+}
+
+/// The table after one event of code 1 at an instant and a mark.
+fn rows_after_mark(chart: &[Entry], instant: i64, mark: i64) -> Vec<Row> {
+    let mut model = opened(chart, instant);
+    model.event(1).unwrap();
+    model.clock(mark).unwrap();
+    model.rows()
+}
+
+fn row([entry, left, right, start, end]: [i64; 5]) -> Row {
+    Row { entry: entry as usize, left, right, start, end }
+}
+
+/// A delay of 5, one of 0 of that and one of 3 of that: the first two end at 5, the last at 8. "Due rows are those
+/// ending before t": each end is there from the next mark on, however far the mark goes.
+#[test]
+fn delays_of_delays() {
+    let chart = chart("0\tevent\t1\n1\tafter\t0\t5\n2\tafter\t1\t0\n3\tafter\t2\t3\n");
+    let rows = [[0, 1, -1, 0, 0], [1, 0, -1, 0, 5], [2, 1, -1, 0, 5], [3, 2, -1, 0, 8]].map(row);
+    for (mark, expected) in [(1, 1), (5, 1), (6, 3), (8, 3), (9, 4), (1_000_000_000, 4)] {
+        assert_eq!(rows_after_mark(&chart, 0, mark), rows[..expected], "after the mark {mark}");
+    }
+    let mut model = opened(&chart, 0);
+    model.event(1).unwrap();
+    (1..=9).for_each(|mark| model.clock(mark).unwrap());
+    assert_eq!(model.rows(), rows);
+    assert_eq!(model.trees(), ["e1", "<e1>", "<<e1>>", "<<<e1>>>"]);
+}
+
+/// "Each in order of end": entry 2 ends before entry 1, and what pairs the two delays stands behind both.
+#[test]
+fn later_ends_behind() {
+    let chart = chart("0\tevent\t1\n1\tafter\t0\t7\n2\tafter\t0\t3\n3\tand\t1\t2\n");
+    let rows = [[0, 1, -1, 0, 0], [2, 0, -1, 0, 3], [1, 0, -1, 0, 7], [3, 2, 1, 0, 7]].map(row);
+    assert_eq!(rows_after_mark(&chart, 0, 8), rows);
+    assert_eq!(rows_after_mark(&chart, 0, 7), rows[..2]);
+}
+
+/// A stop at 0 and a move at 1,000: the wait from 0 is forbidden. The stop at 1,500 is followed by none.
+#[test]
+fn absence_over_a_wait() {
+    let chart = chart("0\tevent\t1\n1\tevent\t2\n2\tafter\t0\t2000\n3\t-]]\t2\t1\n");
+    let mut model = opened(&chart, 0);
+    for (code, mark) in [(1, 1_000), (2, 1_500), (1, 4_000)] {
+        model.event(code).unwrap();
+        model.clock(mark).unwrap();
+    }
+    assert_eq!(model.trees(), ["e1", "e2", "e3", "<e1>", "<e3>", "<<e3>>"]);
+    assert_eq!(model.rows()[3..], [[2, 0, -1, 0, 2_000], [2, 2, -1, 1_500, 3_500], [3, 4, -1, 1_500, 3_500]].map(row));
+}
+
+/// `seq` from a delayed end at 5: an event at 5 does not come after it, one at 6 does. As s a delayed row is found
+/// where it starts, at 6, however late it ends.
+#[test]
+fn seq_over_delays() {
+    let chart = chart("0\tevent\t1\n1\tafter\t0\t5\n2\tseq\t1\t0\n3\tseq\t1\t1\n");
+    let mut model = opened(&chart, 0);
+    for mark in [5, 6, 100] {
+        model.event(1).unwrap();
+        model.clock(mark).unwrap();
+    }
+    assert_eq!(model.trees(), ["e1", "e2", "<e1>", "e3", "<<e1>,e3>", "<e2>", "<e3>", "<<e1>,<e3>>"]);
+}
+
+/// "An end at 1,000,000,000 or later is never closed", and no sum of an end and a length is too great.
+#[test]
+fn ends_at_the_end_of_the_range() {
+    let chart = |delay: u32| chart(&format!("0\tevent\t1\n1\tafter\t0\t{delay}\n2\tafter\t1\t2000000000\n"));
+    let ends = |instant: i64, delay: u32| -> Vec<i64> {
+        rows_after_mark(&chart(delay), instant, 1_000_000_000).iter().map(|row| row.end).collect()
+    };
+    assert_eq!(ends(999_999_990, 9), [999_999_990, 999_999_999]);
+    assert_eq!(ends(999_999_990, 10), [999_999_990]);
+    assert_eq!(ends(999_999_990, 2_000_000_000), [999_999_990]);
+    assert_eq!(ends(-1_000_000_000, 1_999_999_999), [-1_000_000_000, 999_999_999]);
+    assert_eq!(ends(-1_000_000_000, 2_000_000_000), [-1_000_000_000]);
+}
+
+/// A row forgotten before its delay has passed leaves none behind; one that starts at the floor does.
+#[test]
+fn forget_before_the_due_end() {
+    let chart = chart("0\tevent\t1\n1\tafter\t0\t5\n");
+    for (floor, trees) in [(1, vec![]), (0, vec!["e1", "<e1>"])] {
+        let mut model = opened(&chart, 0);
+        model.event(1).unwrap();
+        model.clock(3).unwrap();
+        model.forget(floor).unwrap();
+        model.clock(10).unwrap();
+        assert_eq!(model.trees(), trees, "after a forget of {floor}");
+    }
+}
+
+/// 12 counts the rows of every due end of the jump: the third ends at 2.
+#[test]
+fn table_full_within_a_jump() {
+    let chart = chart("0\tevent\t1\n1\tafter\t0\t1\n2\tafter\t1\t1\n");
+    let open = |rows: usize| Model::open(&chart, rows, Over::EventsFromFloor, 0).unwrap();
+    for (rows, mark, expected) in
+        [(3, 100, Ok(())), (2, 100, Err(12)), (2, 3, Err(12)), (2, 2, Ok(())), (1, 2, Err(12))]
+    {
+        let mut model = open(rows);
+        model.event(1).unwrap();
+        assert_eq!(model.clock(mark), expected, "a table of {rows} rows, the mark {mark}");
+        assert_eq!(model.open_instant, if expected.is_ok() { mark } else { 0 });
+    }
+}
+
+/// On a table that no history made: a delayed row that was due before the open instant and is not there stays away;
+/// what is due at the open instant or later comes, and what is delayed from that.
+#[test]
+fn delays_on_any_table() {
+    let chart = chart_value::of(&chart("0\tevent\t1\n1\tafter\t0\t5\n2\tafter\t1\t2\n"));
+    let play = |instant: i32, mark: i64| {
+        let watch = Watch { instant, events: 1, rows: 1, ..Watch::empty(0) };
+        let table = [[0, 1, -1, 0, 0], [0; 5], [0; 5]].concat();
+        let (answer, table) = any_watch::play(&watch, &chart, &table, Call::Clock(mark));
+        (answer.refusal, answer.watch.rows, table)
+    };
+    let [event, first, second] = [[0, 1, -1, 0, 0], [1, 0, -1, 0, 5], [2, 1, -1, 0, 7]];
+    assert_eq!(play(6, 100), (0, 1, [event, [0; 5], [0; 5]].concat()));
+    assert_eq!(play(5, 100), (0, 3, [event, first, second].concat()));
+    assert_eq!(play(1, 100), (0, 3, [event, first, second].concat()));
+    assert_eq!(play(1, 7), (0, 2, [event, first, [0; 5]].concat()));
+    assert_eq!(play(1, 5), (0, 1, [event, [0; 5], [0; 5]].concat()));
 }
 
 /// "10 an event after serial 1,000,000", checked "10 before 9".
@@ -148,19 +274,13 @@ fn rows_stand_in_order() {
 fn steps_on_rows_follow_the_recognitions() {
     let mut random = Random::new(13);
     for _ in 0..HISTORIES {
-        let operators = random.below(8);
-        let chart = chart(&random_inputs::chart(&mut random, operators, 3));
+        let chart = any_chart(&mut random);
         let value = chart_value::of(&chart);
         let table = vec![7; random.below(400)];
         let mut history = History::open(&chart, &table, random.between(-5, 5), 0).unwrap();
         assert_eq!(any_watch::open(&value, &table, history.watch.instant).1, history.table);
         for _ in 0..random.below(30) {
-            let instant = history.watch.instant;
-            let call = match random.below(12) {
-                0 => Call::Forget(random.between(instant - 8, instant + 1).into()),
-                1..=4 => Call::Clock(random.between(instant, instant + 3).into()),
-                _ => Call::Event(random.between(1, 4) as u8),
-            };
+            let call = any_call(&mut random, history.watch.instant);
             let (answer, table) = any_watch::play(&history.watch, &value, &history.table, call);
             let refusal = history.play(call).err().unwrap_or(0);
             assert_eq!((answer.refusal, answer.watch), (refusal, history.watch), "{call:?} on {chart:?}");
@@ -169,6 +289,68 @@ fn steps_on_rows_follow_the_recognitions() {
             let tree = any_watch::tree(&history.watch, &value, &history.table, row, 20);
             assert_eq!(tree, history.tree(row, 20), "the tree of row {row} on {chart:?}");
         }
+    }
+}
+
+/// "A clock mark t closes every instant from the open one to t-1": on what a history left, and with its open instant
+/// moved, one mark does what a mark at each instant does.
+#[test]
+fn a_jump_closes_instant_by_instant() {
+    let mut random = Random::new(14);
+    let mut jumps = [0; 3];
+    for _ in 0..HISTORIES {
+        let entries = any_chart(&mut random);
+        let mut history = History::open(&entries, &vec![0; random.below(400)], random.between(-5, 5), 0).unwrap();
+        for _ in 0..random.below(30) {
+            let _ = history.play(any_call(&mut random, history.watch.instant));
+        }
+        let last_end = history.rows.last().map_or(history.watch.instant - 1, |row| row.end as i32);
+        let instant = random.between(last_end.max(history.watch.floor - 1) + 1, history.watch.instant);
+        let watch = Watch { instant, ..history.watch };
+        let (chart, mark) = (chart_value::of(&entries), instant + 1 + random.below(30) as i32);
+        let jump = any_watch::play(&watch, &chart, &history.table, Call::Clock(mark.into()));
+        let expected = match marks_at_each_instant(watch, &chart, &history.table, mark) {
+            (Answer { refusal: 0, watch }, table) => (Answer { refusal: 0, watch }, table),
+            // A mark that is refused leaves what was there before it.
+            (Answer { refusal, .. }, _) => (Answer { refusal, watch }, history.table.clone()),
+        };
+        assert_eq!(jump, expected, "{entries:?}");
+        jumps[ends_from(&jump, instant + 1).min(2)] += 1;
+    }
+    assert!(jumps.iter().all(|count| *count > 300), "too few jumps over 0, 1 and many ends: {jumps:?}");
+}
+
+/// What marks at each instant up to the last leave, or the first that is refused.
+fn marks_at_each_instant(mut watch: Watch, chart: &Chart, table: &[i32], last: i32) -> any_watch::Outcome {
+    let mut table = table.to_vec();
+    for mark in watch.instant + 1..=last {
+        let (answer, after) = any_watch::play(&watch, chart, &table, Call::Clock(mark.into()));
+        if answer.refusal != 0 {
+            return (answer, after);
+        }
+        (watch, table) = (answer.watch, after);
+    }
+    (Answer { refusal: 0, watch }, table)
+}
+
+/// How many different ends from an instant on the rows of a table have.
+fn ends_from((answer, table): &any_watch::Outcome, instant: i32) -> usize {
+    let ends = table[..answer.watch.rows * 5].chunks(5).map(|row| row[4]).filter(|end| *end >= instant);
+    ends.collect::<BTreeSet<i32>>().len()
+}
+
+fn any_chart(random: &mut Random) -> Vec<Entry> {
+    let operators = random.below(8);
+    let draw = random.pick(&[random_inputs::chart, random_inputs::delay_chart]);
+    chart(&draw(random, operators, 3))
+}
+
+fn any_call(random: &mut Random, instant: i32) -> Call {
+    match random.below(12) {
+        0 => Call::Forget(random.between(instant - 8, instant + 1).into()),
+        1..=3 => Call::Clock(random.between(instant, instant + 3).into()),
+        4 => Call::Clock(random.between(instant, instant + 20).into()),
+        _ => Call::Event(random.between(1, 4) as u8),
     }
 }
 
@@ -241,6 +423,34 @@ fn each_cause_of_13() {
     assert_eq!(with(&[(26, 5)]), only(Cause::SerialOutOfRange));
     assert_eq!(with(&[(28, 2)]), only(Cause::EventStartNotEnd));
     assert_eq!(CAUSES.len(), 19, "each cause has its example above");
+}
+
+/// A delayed row by itself out of joint, for each number of it: "left r, right -1, the same start and end = end r + d".
+#[test]
+fn each_cause_of_13_in_a_delay() {
+    let chart = chart("0\tevent\t1\n1\tevent\t2\n2\tafter\t0\t5\n3\tafter\t0\t0\n");
+    let watch = Watch { instant: 9, events: 2, rows: 5, ..Watch::empty(0) };
+    let rows = [[0, 1, -1, 0, 0], [3, 0, -1, 0, 0], [1, 2, -1, 1, 1], [2, 0, -1, 0, 5], [0, 1, -1, 5, 5]];
+    let causes = |changed: &[(usize, [i32; 5])]| {
+        let mut rows = rows;
+        changed.iter().for_each(|(place, row)| rows[*place] = *row);
+        Vec::from_iter(consistency::causes(&watch, &chart, &rows.concat()))
+    };
+    let none: Vec<Cause> = vec![];
+    assert_eq!(causes(&[]), none);
+    assert_eq!(causes(&[(3, [2, 0, -1, 0, 4])]), [Cause::EndDisagrees], "an instant too early");
+    assert_eq!(causes(&[(3, [2, 0, -1, 0, 6]), (4, [0, 1, -1, 6, 6])]), [Cause::EndDisagrees], "an instant too late");
+    assert_eq!(causes(&[(2, [2, 0, -1, 0, 0])]), [Cause::EndDisagrees], "the end without the delay");
+    assert_eq!(causes(&[(3, [3, 0, -1, 0, 5])]), [Cause::EndDisagrees], "the end with another delay");
+    assert_eq!(causes(&[(3, [2, 0, -1, 5, 5])]), [Cause::StartDisagrees]);
+    assert_eq!(causes(&[(3, [2, 0, -1, -5, 5])]), [Cause::StartDisagrees]);
+    assert_eq!(causes(&[(3, [2, 0, 0, 0, 5])]), [Cause::NoneMisplaced]);
+    assert_eq!(causes(&[(3, [2, -1, -1, 0, 5])]), [Cause::NoneMisplaced]);
+    assert_eq!(causes(&[(3, [2, -1, 0, 0, 5])]), [Cause::NoneMisplaced], "the right arm of or");
+    assert_eq!(causes(&[(3, [2, 2, -1, 1, 6]), (4, [0, 1, -1, 6, 6])]), [Cause::ReferenceNotLowerRowOfOperand]);
+    assert_eq!(causes(&[(3, [2, 3, -1, 0, 5])]), [Cause::ReferenceNotLowerRowOfOperand], "its own number");
+    assert_eq!(causes(&[(3, [3, 4, -1, 5, 5])]), [Cause::ReferenceNotLowerRowOfOperand], "a row behind it");
+    assert_eq!(causes(&[(4, [3, 0, -1, 0, 5])]), [Cause::EndDisagrees], "a delay of 0 with another end");
 }
 
 /// Where a row stands among others, read off the row alone: end, entry, the later start first, arm, then serial or left

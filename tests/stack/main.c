@@ -2,9 +2,10 @@
  * Measures the stack that each call of include/chronicle.h uses, and fails where one uses more than CHRONICLE_STACK.
  *
  * Each call is made in a thread of its own, whose stack is painted before: what is no longer painted afterwards was
- * used. What a thread uses for itself is measured by one that makes no call, and taken off. The calls are made where they
- * reach deepest: on charts that nest all 32 entries, by operators of every form; and a mark also where it puts as many
- * rows of one entry in order as a table holds, the starts of which rise and fall.
+ * used. What a thread uses for itself is measured by one that makes no call, and taken off. The calls are made where
+ * they reach deepest: on charts that nest all 32 entries, by operators of every form, with marks that go over the ends
+ * of all delays; and a mark also where it puts as many rows of one entry in order as a table holds, the starts of which
+ * rise and fall.
  */
 #define _POSIX_C_SOURCE 200809L
 #include "chronicle.h"
@@ -22,6 +23,7 @@ enum {
     OUTPUT = 40 + 81 * ROWS,
     TREE = 4000,
     ENTRIES = 32,
+    JUMP = 40,
     BLOCK_STARTS = 270,
     BLOCK_ENDS = 60,
     BLOCK_EVENTS = 3,
@@ -54,7 +56,7 @@ static void read_chart(void) { s.read = chronicle_read_chart(s.text, s.chart_len
 static void rows_that_fit(void) { s.fitting = chronicle_rows_that_fit(NUMBERS); }
 static void open_watch(void) { s.answer = chronicle_open(s.chart, s.table, NUMBERS, 0); }
 static void event(void) { s.answer = chronicle_event(s.watch, s.chart, s.table, NUMBERS, 1); }
-static void mark(void) { s.answer = chronicle_clock(s.watch, s.chart, s.table, NUMBERS, s.watch.instant + 1); }
+static void mark(void) { s.answer = chronicle_clock(s.watch, s.chart, s.table, NUMBERS, s.watch.instant + JUMP); }
 static void forget(void) { s.answer = chronicle_forget(s.watch, s.chart, s.table, NUMBERS, s.watch.instant - 1); }
 static void check(void) { s.refusal = chronicle_check(s.watch, s.chart, s.table, NUMBERS); }
 static void rows_ending(void) { s.rows = chronicle_rows_ending(s.watch, s.chart, s.table, NUMBERS, 0); }
@@ -219,7 +221,8 @@ int main(void)
 {
     static const struct {
         const char *word, *second;
-    } charts[] = {{"lasts", "0"}, {"-[]", "1"}, {"equals", "0"}, {"or", "1"}, {"and", "1"}, {"seq", "1"}};
+    } charts[] = {{"lasts", "0"}, {"-[]", "1"}, {"equals", "0"}, {"or", "1"},
+                  {"and", "1"},   {"seq", "1"}, {"after", "0"},  {"after", "1"}};
     static const size_t rows[] = {1, 2000};
     used_by(no_call);
     size_t of_thread = used_by(no_call);

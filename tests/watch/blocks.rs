@@ -16,7 +16,7 @@ pub enum On {
     NoHistory,
 }
 
-const TABLES: [&str; 3] = ["nothing forgotten", "after a forget", "of no history"];
+pub const TABLES: [&str; 3] = ["nothing forgotten", "after a forget", "of no history"];
 
 /// What a block has: rows of one start alone; rows that stand elsewhere than they were made; such rows and others of one
 /// start; moved rows that a later entry refers to; rows of one start that stand by the starts of their parts.
@@ -33,7 +33,7 @@ impl Blocks {
     /// Counts the blocks that a mark made, by the rows that it left.
     pub fn count(&mut self, on: On, chart: &Chart, rows: &[Row], closed: i64) {
         let mut place = rows.partition_point(|row| row.end < closed);
-        for block in rows[place..].chunk_by(|row, next| row.entry == next.entry) {
+        for block in rows[place..].chunk_by(|row, next| (row.end, row.entry) == (next.end, next.entry)) {
             let places = place..place + block.len();
             let later = &rows[places.end..];
             let has_moved = is_moved(block);

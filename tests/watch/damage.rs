@@ -2,21 +2,23 @@
 //! answer what `oracle::any_watch` says, 13 exactly where `oracle::consistency` finds a cause.
 
 use crate::blocks::On;
-use crate::histories::{any_row, compare_check_and_rows, compare_tree};
+use crate::delays::{delays, Fault, Mark, FAULTS};
+use crate::histories::{any_row, compare_check_and_rows, compare_tree, count_full};
 use crate::met::Met;
 use crate::random_calls::{self, near_instant_of_row, number, Frequencies, OUT_OF_RANGE};
 use crate::subject::{lent_table, name, Subject};
 use common::chart_value;
 use common::harness::Compared;
-use common::interface::{Answer, Calls, Chart};
+use common::interface::{Answer, Calls, Chart, Entry};
 use common::random::Random;
-use oracle::layout::rows_in_use;
+use oracle::layout::{flat, rows_in_use};
 use oracle::model::Call;
+use oracle::recognitions::Row;
 use oracle::{any_watch, consistency};
 
 type Change = fn(&mut Random, &mut Subject);
 
-const CHANGES: [Change; 20] = [
+const CHANGES: [Change; 21] = [
     change_instant,
     change_floor,
     change_count,
@@ -37,20 +39,20 @@ const CHANGES: [Change; 20] = [
     append_row,
     change_entry,
     change_entry,
+    change_delay,
 ];
 
 /// Changes a history's last state in one place or more and compares every call on it.
 pub fn compare(calls: &Calls, last: &Subject, random: &mut Random, met: &mut Met) -> Compared {
     let mut changed = last.clone();
-    let changes = if random.one_in(4) { 2 + random.below(2) } else { 1 };
-    for _ in 0..changes {
-        random.pick(&CHANGES)(random, &mut changed);
-    }
-    if random.one_in(16) {
-        break_chart(random, &mut changed.chart);
+    let fault = if random.one_in(4) { append_faulty_delay(random, &mut changed) } else { None };
+    if fault.is_none() {
+        change(random, &mut changed);
     }
     if let Some(entries) = chart_value::entries(&changed.chart) {
-        met.count_causes(&consistency::causes(&changed.watch, &entries, changed.table.part()));
+        let causes = consistency::causes(&changed.watch, &entries, changed.table.part());
+        met.count_causes(&causes);
+        fault.filter(|_| causes.len() == 1).into_iter().for_each(|fault| met.delays.count_fault(fault));
     }
     let compared =
         compare_plays(calls, &changed, random, met).and_then(|()| compare_reads(calls, &changed, random, met));
@@ -60,6 +62,17 @@ pub fn compare(calls: &Calls, last: &Subject, random: &mut Random, met: &mut Met
         let table = table.part();
         format!("{difference}\nchart of {}: {entries:?}\nwatch {watch:?}\ntable {table:?}", chart.count)
     })
+}
+
+/// One change or more.
+fn change(random: &mut Random, subject: &mut Subject) {
+    let changes = if random.one_in(4) { 2 + random.below(2) } else { 1 };
+    for _ in 0..changes {
+        random.pick(&CHANGES)(random, subject);
+    }
+    if random.one_in(16) {
+        break_chart(random, &mut subject.chart);
+    }
 }
 
 /// An event, a clock mark and a forget, each on the watch given.
@@ -72,8 +85,14 @@ fn compare_plays(calls: &Calls, given: &Subject, random: &mut Random, met: &mut 
         let mut subject = given.clone();
         let answer = subject.play(calls, call);
         met.count_answer(name(call), expected.refusal);
-        if let (Call::Clock(_), 0) = (call, expected.refusal) {
-            met.blocks.count(On::NoHistory, chart, &rows_in_use(&expected.watch, &table), watch.instant.into());
+        match (call, expected.refusal) {
+            (Call::Clock(instant), 0) => {
+                let rows = &rows_in_use(&expected.watch, &table);
+                met.blocks.count(On::NoHistory, chart, rows, watch.instant.into());
+                met.delays.count_mark(On::NoHistory, &Mark { watch, chart, rows, instant });
+            }
+            (Call::Clock(_), 12) => count_full(given, false, met),
+            _ => {}
         }
         compare_outcome(&format!("{call:?}"), (answer, &subject), (expected, &table))?;
     }
@@ -269,6 +288,56 @@ fn append_row(random: &mut Random, subject: &mut Subject) {
     }
 }
 
+/// A row behind the last that is a delayed one but for one number, and the open instant after it; none where the rows
+/// there are give no such row that stands in its place by its end.
+fn append_faulty_delay(random: &mut Random, subject: &mut Subject) -> Option<Fault> {
+    let Subject { watch, chart, table } = subject;
+    let (place, held) = (watch.rows, table.part().len() / 5);
+    let entries: Vec<(usize, Entry)> = delays(chart).map(|(number, entry)| (number, *entry)).collect();
+    if entries.is_empty() || place == 0 || place + 2 > held.min(65_535) {
+        return None;
+    }
+    let (number, entry) = random.pick(&entries);
+    let rows = rows_in_use(watch, table.part());
+    let of_operand: Vec<usize> = (0..place).filter(|index| rows[*index].entry == entry.a as usize).collect();
+    let left = *of_operand.get(random.below(of_operand.len().max(1)))?;
+    let (fault, _) = random.pick(&FAULTS);
+    let Row { start, end, .. } = rows[left];
+    let right_row = Row { entry: number, left: left as i64, right: -1, start, end: end + i64::from(entry.b) };
+    let faulty = with_fault(random, fault, right_row, &rows)?;
+    let added = if let Fault::LeftNotLower = fault { vec![faulty, rows[left]] } else { vec![faulty] };
+    let last_end = added.last()?.end;
+    if faulty.end < rows[place - 1].end || last_end < faulty.end || last_end >= 1_000_000_000 {
+        return None;
+    }
+    let all = [rows, added].concat();
+    let numbers = flat(&all, table.part());
+    table.part_mut().copy_from_slice(&numbers);
+    watch.rows = all.len();
+    watch.instant = watch.instant.max(last_end as i32 + 1);
+    Some(fault)
+}
+
+/// A row that would be the next with one number changed; none where the rows before it have nothing for the fault.
+fn with_fault(random: &mut Random, fault: Fault, row: Row, rows: &[Row]) -> Option<Row> {
+    let off = random.pick(&[-1, 1]);
+    let left = &rows[row.left as usize];
+    Some(match fault {
+        Fault::EndOffByOne => Row { end: row.end + off, ..row },
+        Fault::EndWithoutDelay if row.end == left.end => return None,
+        Fault::EndWithoutDelay => Row { end: left.end, ..row },
+        Fault::Start => Row { start: row.start + off, ..row },
+        Fault::Right => Row { right: random.pick(&[0, row.left, rows.len() as i64]), ..row },
+        Fault::LeftOfAnotherEntry => {
+            let is_another =
+                |other: &&Row| other.entry != left.entry && (other.start, other.end) == (left.start, left.end);
+            let place = rows.iter().position(|other| is_another(&other))?;
+            Row { left: place as i64, ..row }
+        }
+        Fault::LeftNotLower => Row { left: rows.len() as i64 + 1, ..row },
+    })
+}
+
 // What can be changed in a chart.
 
 /// Another operator, mostly one that a watch may use too, another operand, code or length.
@@ -278,11 +347,20 @@ fn change_entry(random: &mut Random, subject: &mut Subject) {
     let entry = &mut chart.entries[index];
     match (random.below(4), entry.op) {
         (0 | 1, 4..=7) => entry.op = 4 + random.below(4) as u8,
-        (0 | 1, 14..=16) => entry.op = 14 + random.below(3) as u8,
+        (0 | 1, 14..=17) => entry.op = 14 + random.below(4) as u8,
         (0 | 1, 1 | 3 | 8..=13) => entry.op = random.pick(&[1, 3, 8, 9, 10, 11, 12, 13]),
         (2, _) => entry.a = random.below(index.max(1)) as u32,
         (3, _) => entry.b = random.below(index.max(6)) as u32,
         _ => chart.count = chart.count.clamp(2, 32) - 1,
+    }
+}
+
+/// Another delay, shorter or longer by an instant or as long as can be.
+fn change_delay(random: &mut Random, subject: &mut Subject) {
+    let numbers: Vec<usize> = delays(&subject.chart).map(|(number, _)| number).collect();
+    if !numbers.is_empty() {
+        let length = &mut subject.chart.entries[random.pick(&numbers)].b;
+        *length = random.pick(&[length.saturating_sub(1), length.saturating_add(1), 0, 1, 2_000_000_000]);
     }
 }
 
@@ -293,11 +371,11 @@ fn break_chart(random: &mut Random, chart: &mut Chart) {
     let entry = &mut chart.entries[index];
     match random.below(6) {
         0 => chart.count = random.pick(&[0, 33, 34, 1 << 32, usize::MAX]),
-        1 => entry.op = random.pick(&[17, 18, 128, 255]),
+        1 => entry.op = random.pick(&[18, 18, 19, 128, 255]),
         2 => entry.a = random.pick(&[index as u32, index as u32 + 1, 32, 255, 256, 257, 1 << 31, u32::MAX]),
         3 => entry.b = random.pick(&[index as u32, 1, 32, 2_000_000_000, 2_000_000_001, u32::MAX]),
         4 => *entry = another,
-        _ => entry.op = random.below(17) as u8,
+        _ => entry.op = random.below(18) as u8,
     }
 }
 

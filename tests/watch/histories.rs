@@ -3,17 +3,20 @@
 
 use crate::blocks::On;
 use crate::damage;
+use crate::delays::{self, due_ends, Mark};
 use crate::met::Met;
 use crate::random_calls::{self, Frequencies};
 use crate::subject::{lent_table, name, Lent, Subject};
 use common::chart_value;
 use common::harness::Compared;
-use common::interface::{Calls, Chart, MOST_ENTRIES};
+use common::interface::{Calls, Chart, Watch, MOST_ENTRIES};
 use common::plain_chart::{self, Entry};
 use common::random::Random;
 use common::random_inputs;
+use oracle::any_watch;
 use oracle::history::History;
 use oracle::model::{Call, MOST_EVENTS};
+use oracle::recognitions::Row;
 use std::ops::Range;
 
 /// The floor while nothing was forgotten.
@@ -24,6 +27,8 @@ pub struct Run<'a> {
     calls: &'a Calls,
     opening: i32,
     played: Vec<Call>,
+    /// The ends that delayed rows of forgotten ones would have had, as far as no mark went past them.
+    missed_ends: Vec<i64>,
     pub subject: Subject,
     pub history: History<'a>,
 }
@@ -31,16 +36,35 @@ pub struct Run<'a> {
 /// A short history on a small chart and table, and what becomes of its last state when something in it is changed.
 pub fn short(calls: &Calls, random: &mut Random, met: &mut Met) -> Compared {
     let frequencies = Frequencies { events: 10, clocks: 7, forgets: 1, longest_step: 3, clocks_to_a_jump: 30 };
-    let table = random_calls::table(random);
     let entries = entries(random);
-    let chart = chart(random, &entries);
+    short_on(calls, random, met, &entries, frequencies)
+}
+
+/// The same with a delay among the operators, marks that go further and more forgets.
+pub fn with_delays(calls: &Calls, random: &mut Random, met: &mut Met) -> Compared {
+    let frequencies = Frequencies { events: 10, clocks: 8, forgets: 2, longest_step: 12, clocks_to_a_jump: 30 };
+    let operators = if random.one_in(40) { MOST_ENTRIES - 4 } else { random.below(8) };
+    let most_leaves = random.pick(&[2, 3]);
+    let entries = sound(&random_inputs::delay_chart(random, operators, most_leaves));
+    short_on(calls, random, met, &entries, frequencies)
+}
+
+fn short_on(
+    calls: &Calls,
+    random: &mut Random,
+    met: &mut Met,
+    entries: &[Entry],
+    frequencies: Frequencies,
+) -> Compared {
+    let table = random_calls::table(random);
+    let chart = chart(random, entries);
     if random.one_in(10) {
         damage::compare_openings(calls, random, met, &chart, &table)?;
     }
     // Serials that are nearly spent, as after some 15,000 instants of 64 events that no entry names.
     let spent = if random.one_in(40) { MOST_EVENTS - random.below(12) } else { 0 };
     let opening = random_calls::opening(random);
-    let mut run = Run::open(calls, &entries, chart, &table, opening, spent, met)?;
+    let mut run = Run::open(calls, entries, chart, &table, opening, spent, met)?;
     if random.one_in(80) {
         let count = 60 + random.below(8);
         (0..count).try_for_each(|_| run.event(random, met))?;
@@ -124,25 +148,54 @@ impl<'a> Run<'a> {
         met.count_answer("open", 0);
         let mut watch = answer.watch;
         watch.events += unlisted_events;
-        let run = Run { calls, opening, played: Vec::new(), subject: Subject { watch, chart, table }, history };
+        let subject = Subject { watch, chart, table };
+        let run = Run { calls, opening, played: Vec::new(), missed_ends: Vec::new(), subject, history };
         run.compare_state(0, answer.refusal)?;
         Ok(run)
     }
 
     pub fn play(&mut self, call: Call, met: &mut Met) -> Compared {
-        let closed = self.history.watch.instant;
+        let before = self.history.watch;
+        if let Call::Forget(floor) = call {
+            self.count_forget(floor, met);
+        }
         let expected = self.history.play(call).err().unwrap_or(0);
-        if let (Call::Clock(_), 0) = (call, expected) {
-            let (chart, History { rows, watch, .. }) = (&self.subject.chart, &self.history);
-            let has_forgotten = watch.floor > FIRST_FLOOR;
-            met.searches.count(chart, rows, closed.into(), has_forgotten);
-            let on = if has_forgotten { On::AfterForget } else { On::NothingForgotten };
-            met.blocks.count(on, chart, rows, closed.into());
+        match (call, expected) {
+            (Call::Clock(instant), 0) => self.count_mark(&before, instant, met),
+            (Call::Clock(_), 12) => count_full(&self.subject, true, met),
+            _ => {}
         }
         let answer = self.subject.play(self.calls, call);
         self.played.push(call);
         met.count_answer(name(call), expected);
         self.compare_state(expected, answer.refusal)
+    }
+
+    /// Counts a mark by the watch before it and the rows that it left.
+    fn count_mark(&mut self, before: &Watch, instant: i64, met: &mut Met) {
+        let (chart, rows, closed) = (&self.subject.chart, &self.history.rows, before.instant.into());
+        let has_forgotten = before.floor > FIRST_FLOOR;
+        let on = if has_forgotten { On::AfterForget } else { On::NothingForgotten };
+        met.searches.count(chart, rows, closed, has_forgotten);
+        met.blocks.count(on, chart, rows, closed);
+        met.delays.count_mark(on, &Mark { watch: before, chart, rows, instant });
+        if self.missed_ends.iter().any(|end| *end < instant) {
+            met.delays.count_missed_end();
+            self.missed_ends.retain(|end| *end >= instant);
+        }
+    }
+
+    /// Counts a forget by what it drops.
+    fn count_forget(&mut self, floor: i64, met: &mut Met) {
+        let (chart, History { watch, rows, .. }) = (&self.subject.chart, &self.history);
+        if floor > watch.instant.into() {
+            return;
+        }
+        let dropped: Vec<Row> = rows.iter().filter(|row| row.start < floor).copied().collect();
+        self.missed_ends.extend(due_ends(chart, &dropped).filter(|end| *end >= i64::from(watch.instant)));
+        if delays::delays(chart).any(|(number, _)| dropped.iter().any(|row| row.entry == number)) {
+            met.delays.count_forgotten();
+        }
     }
 
     /// So many calls, and reads now and then.
@@ -203,6 +256,14 @@ impl<'a> Run<'a> {
         let chart = &self.subject.chart.entries[..self.subject.chart.count];
         let (length, opening, played) = (self.history.table.len(), self.opening, &self.played);
         format!("{difference}\nchart {chart:?}\ntable of {length} numbers, opened at {opening}, then {played:?}")
+    }
+}
+
+/// Counts a mark that is refused with 12 where the open instant alone would have fitted.
+pub fn count_full(Subject { watch, chart, table }: &Subject, is_history: bool, met: &mut Met) {
+    let next = Call::Clock(i64::from(watch.instant) + 1);
+    if delays::delays(chart).next().is_some() && any_watch::play(watch, chart, table.part(), next).0.refusal == 0 {
+        met.delays.count_full(is_history);
     }
 }
 

@@ -1,6 +1,8 @@
-//! What a run reached: answers of each call, causes of 13, operators of rows, edges of searches, blocks of rows.
+//! What a run reached: answers of each call, causes of 13, operators of rows, edges of searches, blocks of rows,
+//! delays.
 
 use crate::blocks::Blocks;
+use crate::delays::{self, Delays};
 use crate::searches::Searches;
 use common::harness::{self, LEAST_MET};
 use common::interface::{Chart, Watch};
@@ -19,6 +21,8 @@ const ANSWERS: [(&str, &[u32]); 7] = [
     ("tree", &[0, 13, 14, 15, 16]),
 ];
 
+const LEAST_HISTORIES_WITH_DELAYS: usize = 100_000;
+
 pub struct Met {
     pub histories: usize,
     pub charts: usize,
@@ -33,6 +37,7 @@ pub struct Met {
     operators: [usize; WORDS.len()],
     pub searches: Searches,
     pub blocks: Blocks,
+    pub delays: Delays,
 }
 
 impl Met {
@@ -55,6 +60,7 @@ impl Met {
     /// Counts a history by the rows that it ends with.
     pub fn count_history(&mut self, chart: &Chart, watch: &Watch, table: &[i32]) {
         self.histories += 1;
+        self.delays.histories += usize::from(delays::delays(chart).next().is_some());
         for row in table[..watch.rows * 5].chunks(5) {
             self.operators[usize::from(chart.entries[row[0] as usize].op)] += 1;
         }
@@ -74,13 +80,15 @@ impl harness::Met for Met {
             operators: [0; WORDS.len()],
             searches: Searches::default(),
             blocks: Blocks::default(),
+            delays: Delays::default(),
         }
     }
 
     fn is_enough(&self) -> bool {
         let answers = self.answers.values().chain(self.causes.values());
         let reads = answers.chain(&self.operators).chain(&self.rows_read).chain([&self.consistent]);
-        reads.chain(self.searches.counts()).chain(self.blocks.counts()).all(|count| *count >= LEAST_MET)
+        let rows = self.searches.counts().chain(self.blocks.counts()).chain(self.delays.counts());
+        self.delays.histories >= LEAST_HISTORIES_WITH_DELAYS && reads.chain(rows).all(|count| *count >= LEAST_MET)
     }
 
     fn print(&self) {
@@ -100,5 +108,6 @@ impl harness::Met for Met {
         WORDS.iter().zip(self.operators).for_each(|(word, count)| println!("  {word:<8} {count:>8}"));
         self.searches.print();
         self.blocks.print();
+        self.delays.print();
     }
 }

@@ -1,5 +1,5 @@
-//! What is compared by plan, not by chance: charts on paper, every short table, the largest table, blocks of many rows to
-//! be put in order, and trees of billions of bytes.
+//! What is compared by plan, not by chance: charts on paper, every short table, delays, jumps over many ends and over
+//! most of the range, the largest table, blocks of many rows to be put in order, and trees of billions of bytes.
 
 use crate::histories::{any_row, compare_tree, compare_tree_in, Run};
 use crate::met::Met;
@@ -17,6 +17,10 @@ use oracle::model::Call;
 use std::time::{Duration, Instant};
 
 const CHARTS: usize = 30_000;
+/// The events of a long jump, each of which is delayed twice.
+const DELAYED_EVENTS: i64 = 300;
+/// A watch that goes from instant to instant takes longer for a jump over the whole range.
+const LONGEST_JUMP: Duration = Duration::from_secs(5);
 const BLOCK_ROWS: [usize; 3] = [100, 1_000, 3_000];
 const TREES_OF_BLOCK: usize = 10;
 /// The greatest table that is all rows.
@@ -59,6 +63,113 @@ pub fn short_tables(calls: &Calls, met: &mut Met) -> Compared {
         let table: Vec<i32> = (0..length).map(|place| 1_000 - place).collect();
         let mut run = Run::open(calls, &entries, chart_value::of(&entries), &table, -2, 0, met)?;
         log.into_iter().try_for_each(|call| run.play(call, met))?;
+    }
+    Ok(())
+}
+
+/// A log under a chart with delays.
+struct Planned {
+    chart: &'static str,
+    opening: i32,
+    log: &'static [Call],
+}
+
+const DELAYS: [Planned; 7] = [
+    // Delays of delays, by one mark and by several; one of 0, and pairs of two delays.
+    Planned {
+        chart: "0\tevent\t1\n1\tafter\t0\t5\n2\tafter\t1\t0\n3\tafter\t2\t3\n4\tand\t1\t3\n",
+        opening: 0,
+        log: &[Call::Event(1), Call::Clock(5), Call::Clock(6), Call::Event(1), Call::Clock(100), Call::Clock(101)],
+    },
+    // The jump's length, an instant less and one more: only the first delay ends before the mark.
+    Planned {
+        chart: "0\tevent\t1\n1\tafter\t0\t6\n2\tafter\t0\t5\n3\tafter\t0\t4\n4\tor\t1\t3\n",
+        opening: -5,
+        log: &[Call::Event(1), Call::Event(1), Call::Clock(0), Call::Clock(1), Call::Clock(2)],
+    },
+    // A wait after a stop (1) that no move (2) follows, and an opened shutter (3) after that.
+    Planned {
+        chart: "0\tevent\t1\n1\tevent\t2\n2\tevent\t3\n3\tafter\t0\t2000\n4\t-]]\t3\t1\n5\tseq\t4\t2\n",
+        opening: -7,
+        log: &[
+            Call::Event(1),
+            Call::Clock(1_000),
+            Call::Event(2),
+            Call::Clock(1_500),
+            Call::Event(1),
+            Call::Clock(3_500),
+            Call::Event(3),
+            Call::Clock(3_501),
+            Call::Event(3),
+            Call::Clock(9_000),
+        ],
+    },
+    // Absences between delays: -[] forbids, -][ does not.
+    Planned {
+        chart: "0\tevent\t1\n1\tafter\t0\t3\n2\tafter\t0\t7\n3\t-[]\t2\t1\n4\t-][\t2\t1\n5\t-[]\t1\t2\n",
+        opening: 0,
+        log: &[Call::Event(1), Call::Clock(2), Call::Event(1), Call::Clock(30)],
+    },
+    // Forgets before the end of a delay, at the row's start, and after it.
+    Planned {
+        chart: "0\tevent\t1\n1\tafter\t0\t10\n2\tafter\t1\t10\n",
+        opening: 0,
+        log: &[
+            Call::Event(1),
+            Call::Clock(2),
+            Call::Event(1),
+            Call::Clock(4),
+            Call::Event(1),
+            Call::Clock(5),
+            Call::Forget(2),
+            Call::Clock(13),
+            Call::Forget(3),
+            Call::Clock(50),
+            Call::Forget(50),
+            Call::Clock(51),
+        ],
+    },
+    // Ends at and behind the end of the range.
+    Planned {
+        chart: "0\tevent\t1\n1\tafter\t0\t9\n2\tafter\t0\t10\n3\tafter\t0\t2000000000\n4\tafter\t1\t1\n",
+        opening: 999_999_990,
+        log: &[Call::Event(1), Call::Clock(999_999_999), Call::Event(1), Call::Clock(1_000_000_000), Call::Event(1)],
+    },
+    Planned {
+        chart: "0\tevent\t1\n1\tafter\t0\t1999999999\n2\tafter\t0\t2000000000\n3\tafter\t1\t2000000000\n",
+        opening: -1_000_000_000,
+        log: &[Call::Event(1), Call::Event(2), Call::Clock(999_999_999), Call::Clock(1_000_000_000)],
+    },
+];
+
+/// Each of these on a table of each length from 0 to 80, so that it is full at each row of a jump.
+pub fn delays(calls: &Calls, met: &mut Met) -> Compared {
+    for Planned { chart, opening, log } in &DELAYS {
+        let entries = entries(chart);
+        for length in 0..=80 {
+            let table: Vec<i32> = (0..length).map(|place| 1_000 - place).collect();
+            let mut run = Run::open(calls, &entries, chart_value::of(&entries), &table, *opening, 0, met)?;
+            log.iter().try_for_each(|call| run.play(*call, met))?;
+        }
+    }
+    Ok(())
+}
+
+/// One mark over hundreds of ends, and marks over most of the range with nothing due.
+pub fn long_jumps(calls: &Calls, met: &mut Met) -> Compared {
+    let entries = entries("0\tevent\t1\n1\tafter\t0\t5000\n2\tafter\t1\t5000\n3\t-]]\t1\t0\n4\tmeets\t1\t0\n");
+    let mut run = Run::open(calls, &entries, chart_value::of(&entries), &[7; 10_000], -1_000_000_000, 0, met)?;
+    let begun = Instant::now();
+    run.play(Call::Clock(-20_000), met)?;
+    for instant in -20_000..DELAYED_EVENTS - 20_000 {
+        run.play(Call::Event(1), met)?;
+        run.play(Call::Clock(instant + 1), met)?;
+    }
+    run.play(Call::Clock(999_999_999), met)?;
+    run.play(Call::Clock(1_000_000_000), met)?;
+    assert_eq!(run.history.rows.len() as i64, 3 * DELAYED_EVENTS + 1, "only the last event is followed by none");
+    if begun.elapsed() > LONGEST_JUMP {
+        return Err(format!("jumps took {:?}: the work is not bounded by the rows", begun.elapsed()));
     }
     Ok(())
 }

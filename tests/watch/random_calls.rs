@@ -1,5 +1,6 @@
 //! Tables, openings and the arguments of calls from a seed, most of them near what the watch at hand makes interesting.
 
+use crate::delays::delays;
 use common::interface::{Chart, Watch};
 use common::random::Random;
 use oracle::model::Call;
@@ -53,7 +54,7 @@ pub fn call(random: &mut Random, frequencies: Frequencies, watch: &Watch, chart:
     let Frequencies { events, clocks, forgets, .. } = frequencies;
     match random.below(events + clocks + forgets) {
         n if n < events => Call::Event(code(random, chart)),
-        n if n < events + clocks => Call::Clock(clock_mark(random, watch, frequencies).into()),
+        n if n < events + clocks => Call::Clock(clock_mark(random, frequencies, watch, chart, table).into()),
         _ => Call::Forget(floor(random, watch, table).into()),
     }
 }
@@ -69,16 +70,34 @@ pub fn code(random: &mut Random, chart: &Chart) -> u8 {
     }
 }
 
-fn clock_mark(random: &mut Random, watch: &Watch, frequencies: Frequencies) -> i32 {
+fn clock_mark(random: &mut Random, frequencies: Frequencies, watch: &Watch, chart: &Chart, table: &[i32]) -> i32 {
     let instant = watch.instant;
     if random.one_in(frequencies.clocks_to_a_jump) {
         return if random.one_in(2) { GREATEST - random.between(0, 12) } else { random.between(instant, i32::MAX) };
+    }
+    if let Some(due) = near_due_end(random, watch, chart, table).filter(|_| random.one_in(2)) {
+        return due;
     }
     match random.below(40) {
         0 => random.pick(&OUT_OF_RANGE),
         1 => instant.saturating_sub(random.between(0, 2)),
         _ => instant.saturating_add(random.between(1, frequencies.longest_step)),
     }
+}
+
+/// An instant around the end of a delayed row, of a row in use or of one that the open instant may have yet; none where
+/// that has passed or, mostly, where it is far away. The end of the range where it lies behind that.
+fn near_due_end(random: &mut Random, watch: &Watch, chart: &Chart, table: &[i32]) -> Option<i32> {
+    let lengths: Vec<u32> = delays(chart).map(|(_, entry)| entry.b).collect();
+    let rows = watch.rows.min(table.len() / 5);
+    if lengths.is_empty() {
+        return None;
+    }
+    let end = if rows == 0 || random.one_in(2) { watch.instant } else { table[random.below(rows) * 5 + 4] };
+    let due = i64::from(end) + i64::from(random.pick(&lengths)) + i64::from(random.between(-1, 2));
+    let is_far = due > i64::from(watch.instant) + 1_000;
+    let due = i32::try_from(due).unwrap_or(GREATEST).min(GREATEST);
+    Some(due).filter(|due| *due > watch.instant && (!is_far || random.one_in(8)))
 }
 
 fn floor(random: &mut Random, watch: &Watch, table: &[i32]) -> i32 {

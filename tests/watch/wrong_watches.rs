@@ -5,8 +5,8 @@
 use common::harness::Named;
 use common::interface::{Answer, Calls, Chart, Entry, Rows, TreeAnswer, Watch};
 use common::plain_watch::closing::{
-    Closing, AND, AT_LEAST, AT_MOST, CLOSED_CLOSED, CLOSED_OPEN, DURING, LASTS, NONE, OPEN_CLOSED, OPEN_OPEN, OR,
-    OVERLAPS, SEQ,
+    Closing, AFTER, AND, AT_LEAST, AT_MOST, CLOSED_CLOSED, CLOSED_OPEN, DURING, LASTS, NONE, OPEN_CLOSED, OPEN_OPEN,
+    OR, OVERLAPS, SEQ,
 };
 use common::plain_watch::storage::{Lower, Own, Part, Row, Span, Storage, END, ENTRY, START, UNUSED};
 use common::plain_watch::{calls, is_instant, Plain, PlainWatch, Renumbered, Taken, INSTANTS};
@@ -48,9 +48,9 @@ fn append_changed<L: Lower>(
     free.into_iter().try_for_each(|[_, left, right, start, end]| own.push(left, right, start, end))
 }
 
-/// Puts the new rows of an instant in another order, rows of one key as they stand, and renumbers what refers to them.
-fn reorder<K: Ord>(chart: &Chart, storage: &mut Storage, key: impl Fn(&Row) -> K) {
-    let new = storage.old..storage.count;
+/// Puts the rows from a place on in another order, rows of one key as they stand, and renumbers what refers to them.
+fn reorder<K: Ord>(chart: &Chart, storage: &mut Storage, first: usize, key: impl Fn(&Row) -> K) {
+    let new = first..storage.count;
     let mut in_order: Vec<usize> = new.clone().collect();
     in_order.sort_by_key(|index| key(&storage.rows[*index]));
     let mut places: Vec<u16> = (0..storage.count).map(|index| index as u16).collect();
@@ -123,6 +123,34 @@ wrong_watches! {
             }
         }
 
+        KnowsNoDelay: "14: operator code 17 refused" {
+            fn is_usable(chart: &Chart) -> bool {
+                Plain::is_usable(chart) && chart.entries[..chart.count].iter().all(|entry| entry.op != AFTER)
+            }
+        }
+        TakesCode18: "14: operator code 18 taken" {
+            fn is_usable(chart: &Chart) -> bool {
+                let mut known = *chart;
+                known.entries.iter_mut().filter(|entry| entry.op == 18).for_each(|entry| entry.op = AFTER);
+                Plain::is_usable(&known)
+            }
+        }
+        TakesLongDelay: "14: a delay above 2,000,000,000 taken" {
+            fn is_usable(chart: &Chart) -> bool {
+                let mut shortened = *chart;
+                let delays = shortened.entries.iter_mut().filter(|entry| entry.op == AFTER);
+                delays.for_each(|entry| entry.b = entry.b.min(2_000_000_000));
+                Plain::is_usable(&shortened)
+            }
+        }
+        TakesDelayForOperand: "14: a delay that is no lower entry refused" {
+            fn is_usable(chart: &Chart) -> bool {
+                let entries = chart.entries.iter().take(chart.count).enumerate();
+                let is_lower = |(index, entry): (usize, &Entry)| entry.op != AFTER || (entry.b as usize) < index;
+                Plain::is_usable(chart) && entries.into_iter().all(is_lower)
+            }
+        }
+
         // Events.
         LeavesOutUnnamedEvents: "an event that no entry names takes no serial" {
             fn event(watch: Watch, chart: Chart, table: &[i32], code: u8) -> Answer {
@@ -187,6 +215,21 @@ wrong_watches! {
                 storage.rows[storage.count..].fill(UNUSED);
             }
         }
+        LeavesRowsOfEarlierEnds: "12: the rows of the ends before the one that is too many stay" {
+            fn take_back(storage: &mut Storage) {
+                storage.rows[storage.old..].fill(UNUSED);
+            }
+        }
+        ClosesWhatFits: "12: the open instant is closed where it alone would fit" {
+            fn clock(watch: Watch, chart: Chart, table: &mut [i32], instant: i32) -> Answer {
+                let answer = Plain::clock(watch, chart, table, instant);
+                let next = watch.instant.saturating_add(1);
+                if answer.refusal == 12 && Plain::clock(watch, chart, &mut table.to_vec(), next).refusal == 0 {
+                    return Answer { refusal: 12, ..Plain::clock(watch, chart, table, next) };
+                }
+                answer
+            }
+        }
         MovesRefusedMark: "12: the instant moves all the same" {
             fn clock_unchecked(watch: &mut Watch, chart: &Chart, storage: &mut Storage, instant: i64) -> Taken {
                 let step = Plain::clock_unchecked(watch, chart, storage, instant);
@@ -198,8 +241,8 @@ wrong_watches! {
         }
         LooksAtRoomFirst: "clock mark: 12 before 8" {
             fn clock(watch: Watch, chart: Chart, table: &mut [i32], instant: i32) -> Answer {
-                let at_last = Plain::clock(watch, chart, &mut table.to_vec(), 1_000_000_000);
-                if at_last.refusal == 12 { at_last } else { Plain::clock(watch, chart, table, instant) }
+                let next = Plain::clock(watch, chart, &mut table.to_vec(), watch.instant.saturating_add(1));
+                if next.refusal == 12 { next } else { Plain::clock(watch, chart, table, instant) }
             }
         }
         TakesOpenInstantAgain: "clock mark: the open instant itself taken" {
@@ -311,13 +354,64 @@ wrong_watches! {
         }
         TakesAnyLength: "13: the condition of length tests not looked at" {
             fn agrees(entry: &Entry, watch: &Watch, row: &Row, lower: &[Row]) -> bool {
-                let unconditional = Entry { op: if entry.op >= LASTS { CLOSED_CLOSED } else { entry.op }, ..*entry };
+                let is_test = matches!(entry.op, LASTS..=AT_LEAST);
+                let unconditional = Entry { op: if is_test { CLOSED_CLOSED } else { entry.op }, ..*entry };
                 Plain::agrees(&unconditional, watch, row, lower)
             }
         }
         TakesAnyInterval: "13: start and end of one part not looked at" {
             fn spans(_: &Row, r: Option<&Row>) -> bool {
                 r.is_some()
+            }
+        }
+        TakesAnyDelayedEnd: "13: the end of a delayed row not looked at" {
+            fn is_delayed(row: &Row, r: Option<&Row>, _: u32) -> bool {
+                r.is_some_and(|r| row[START] == r[START])
+            }
+        }
+        TakesLaterEnd: "13: a delayed row that ends later than it should taken" {
+            fn is_delayed(row: &Row, r: Option<&Row>, delay: u32) -> bool {
+                let end = |r: &Row| i64::from(r[END]) + i64::from(delay);
+                r.is_some_and(|r| row[START] == r[START] && i64::from(row[END]) >= end(r))
+            }
+        }
+        TakesEndWithoutDelay: "13: a delayed row with the end of its part taken too" {
+            fn is_delayed(row: &Row, r: Option<&Row>, delay: u32) -> bool {
+                Plain::is_delayed(row, r, delay) || Plain::spans(row, r)
+            }
+        }
+        WantsEndWithoutDelay: "13: a delayed row taken with the end of its part alone" {
+            fn is_delayed(row: &Row, r: Option<&Row>, _: u32) -> bool {
+                Plain::spans(row, r)
+            }
+        }
+        TakesAnyDelayedStart: "13: the start of a delayed row not looked at" {
+            fn is_delayed(row: &Row, r: Option<&Row>, delay: u32) -> bool {
+                r.is_some_and(|r| i64::from(row[END]) == i64::from(r[END]) + i64::from(delay))
+            }
+        }
+        TakesRightOfDelay: "13: a delayed row with a right reference taken" {
+            fn agrees(entry: &Entry, watch: &Watch, row: &Row, lower: &[Row]) -> bool {
+                let [number, left, right, start, end] = *row;
+                let right = if entry.op == AFTER { NONE } else { right };
+                Plain::agrees(entry, watch, &[number, left, right, start, end], lower)
+            }
+        }
+        TakesDelayOfAnotherEntry: "13: a delayed row of another entry's row taken" {
+            fn agrees(entry: &Entry, watch: &Watch, row: &Row, lower: &[Row]) -> bool {
+                let r = usize::try_from(row[1]).ok().and_then(|left| lower.get(left));
+                let operand = r.map_or(entry.a, |r| r[ENTRY] as u32);
+                let a = if entry.op == AFTER { operand } else { entry.a };
+                Plain::agrees(&Entry { a, ..*entry }, watch, row, lower)
+            }
+        }
+        TakesDelayOfLaterRow: "13: a delayed row of a row behind it taken" {
+            fn is_row_consistent(watch: &Watch, chart: &Chart, rows: &[Row], index: usize) -> bool {
+                let entry = chart.entries.iter().take(chart.count).nth(rows[index][ENTRY] as usize);
+                let delay = entry.filter(|entry| entry.op == AFTER);
+                let is_delay = |entry: &Entry| Plain::agrees(entry, watch, &rows[index], &rows[..watch.rows]);
+                let is_behind = rows[index][1] > index as i32 && delay.is_some_and(is_delay);
+                Plain::is_row_consistent(watch, chart, rows, index) || is_behind
             }
         }
         TakesEarlyStart: "13: a start below the floor taken" {
@@ -455,6 +549,17 @@ wrong_watches! {
                 answer
             }
         }
+        DelayAsTwoParts: "tree: a delay counted as two parts" {
+            fn tree(watch: Watch, chart: Chart, table: &[i32], row: usize, out: &mut [u8]) -> TreeAnswer {
+                let answer = Plain::tree(watch, chart, table, row, out);
+                let is_delay = |row: &Row| chart.entries[row[ENTRY] as usize].op == AFTER;
+                let is_delayed = answer.refusal == 0 && is_delay(&Plain::rows(table)[row]);
+                if is_delayed && answer.length + 2 > out.len() {
+                    return TreeAnswer { refusal: 16, length: 0 };
+                }
+                answer
+            }
+        }
         LeavesOutArm: "tree: an arm of or written as one part" {
             fn write_tree(chart: &Chart, rows: &[Row], reference: i32, out: &mut [u8], at: usize) -> usize {
                 let behind = Plain::write_tree(chart, rows, reference, out, at);
@@ -474,6 +579,133 @@ wrong_watches! {
         WritesNoRow: "takes every mark and writes no row" {
             fn close(_: &Watch, _: &Chart, _: &mut Storage) -> Option<()> {
                 Some(())
+            }
+        }
+        ClosesOpenInstantOnly: "mark: only the open instant closed" {
+            fn close_before(watch: &Watch, chart: &Chart, storage: &mut Storage, _: i32) -> Option<()> {
+                Self::close(watch, chart, storage)
+            }
+        }
+        ClosesFirstDueEnd: "mark: of the later ends only the first closed" {
+            fn close_before(watch: &Watch, chart: &Chart, storage: &mut Storage, mark: i32) -> Option<()> {
+                let end = Plain::next_due(chart, storage, watch.instant.saturating_add(1), mark);
+                Plain::close_before(watch, chart, storage, end.map_or(mark, |end| end + 1))
+            }
+        }
+        ClosesEndAtMark: "mark: an end at the mark closed too" {
+            fn close_before(watch: &Watch, chart: &Chart, storage: &mut Storage, mark: i32) -> Option<()> {
+                Plain::close_before(watch, chart, storage, mark + 1)
+            }
+        }
+        LeavesEndBeforeMark: "mark: an end just before the mark left out" {
+            fn next_due(chart: &Chart, storage: &Storage, from: i32, mark: i32) -> Option<i32> {
+                Plain::next_due(chart, storage, from, mark - 1)
+            }
+        }
+        ClosesLastDueEnd: "mark: of the ends that one delay gives only the last closed" {
+            fn next_delayed<L: Lower>(entry: &Entry, lower: L, from: i32, mark: i32) -> Option<i32> {
+                let first = Plain::next_delayed(entry, lower, from, mark)?;
+                let later = |end: &i32| Plain::next_delayed(entry, lower, *end + 1, mark);
+                std::iter::successors(Some(first), later).last()
+            }
+        }
+        LooksAtFirstDelay: "mark: ends of the first delay of a chart alone" {
+            fn next_due(chart: &Chart, storage: &Storage, from: i32, mark: i32) -> Option<i32> {
+                let first = chart.entries[..chart.count].iter().position(|entry| entry.op == AFTER)?;
+                Plain::next_due(&Chart { count: first + 1, ..*chart }, storage, from, mark)
+            }
+        }
+        MissesDelaysOfDelays: "mark: rows that the mark itself has delayed not delayed again" {
+            fn close_before(watch: &Watch, chart: &Chart, storage: &mut Storage, mark: i32) -> Option<()> {
+                Self::close(watch, chart, storage)?;
+                let (mut closed, looked_at) = (watch.instant, storage.count);
+                loop {
+                    let known = Storage::new(&mut storage.rows[..looked_at], looked_at, None);
+                    let Some(due) = Self::next_due(chart, &known, closed + 1, mark) else {
+                        return Some(());
+                    };
+                    storage.go_on();
+                    Self::close(&Self::at_later_instant(watch, due), chart, storage)?;
+                    closed = due;
+                }
+            }
+        }
+        CountsEventsAgain: "mark: the events of the open instant at later ends too" {
+            fn at_later_instant(watch: &Watch, instant: i32) -> Watch {
+                Watch { instant, ..*watch }
+            }
+        }
+        WaitsForEvents: "mark: a delay that ends at an open instant without events left out" {
+            fn close_before(watch: &Watch, chart: &Chart, storage: &mut Storage, mark: i32) -> Option<()> {
+                let from = watch.instant.saturating_add(1);
+                if watch.pending > 0 || Plain::next_due(chart, storage, from, mark).is_some() {
+                    return Plain::close_before(watch, chart, storage, mark);
+                }
+                Some(())
+            }
+        }
+        EntryBeforeEnd: "order: the rows of a mark by entry before end" {
+            fn close_before(watch: &Watch, chart: &Chart, storage: &mut Storage, mark: i32) -> Option<()> {
+                Plain::close_before(watch, chart, storage, mark)?;
+                let first = storage.before;
+                reorder(chart, storage, first, |row| (row[ENTRY], row[END]));
+                Some(())
+            }
+        }
+        DelaysFirst: "order: delayed rows before those of an earlier end" {
+            fn close_before(watch: &Watch, chart: &Chart, storage: &mut Storage, mark: i32) -> Option<()> {
+                Plain::close_before(watch, chart, storage, mark)?;
+                let first = storage.before;
+                reorder(chart, storage, first, |row| chart.entries[row[ENTRY] as usize].op != AFTER);
+                Some(())
+            }
+        }
+        LaterEndsFirst: "order: of the ends of one mark the later first" {
+            fn close_before(watch: &Watch, chart: &Chart, storage: &mut Storage, mark: i32) -> Option<()> {
+                Plain::close_before(watch, chart, storage, mark)?;
+                let first = storage.before;
+                reorder(chart, storage, first, |row| Reverse(row[END]));
+                Some(())
+            }
+        }
+        EndWithoutDelay: "after: the end without the delay" {
+            fn append_delayed(entry: &Entry, a: impl Part, instant: i32, own: &mut Own) -> Option<()> {
+                let pushed = own.pushed;
+                Plain::append_delayed(entry, a, instant, own)?;
+                own.free[pushed..own.pushed].iter_mut().for_each(|row| row[END] -= entry.b as i32);
+                Some(())
+            }
+        }
+        StartWithDelay: "after: the start moved by the delay too" {
+            fn append_delayed(entry: &Entry, a: impl Part, instant: i32, own: &mut Own) -> Option<()> {
+                let pushed = own.pushed;
+                Plain::append_delayed(entry, a, instant, own)?;
+                own.free[pushed..own.pushed].iter_mut().for_each(|row| row[START] += entry.b as i32);
+                Some(())
+            }
+        }
+        DelaysOldRows: "after: a delay of 0 left out" {
+            fn append_delayed(entry: &Entry, a: impl Part, instant: i32, own: &mut Own) -> Option<()> {
+                if entry.b == 0 { Some(()) } else { Plain::append_delayed(entry, a, instant, own) }
+            }
+        }
+        DelaysOneRow: "after: of rows with one end only the first delayed" {
+            fn append_delayed(entry: &Entry, a: impl Part, instant: i32, own: &mut Own) -> Option<()> {
+                let pushed = own.pushed;
+                Plain::append_delayed(entry, a, instant, own)?;
+                own.pushed = own.pushed.min(pushed + 1);
+                Some(())
+            }
+        }
+        EndComesRound: "after: end and delay added in 32 bits, so that a late end comes round and is due" {
+            fn append_delayed(entry: &Entry, a: impl Part, instant: i32, own: &mut Own) -> Option<()> {
+                for r in a.cut(instant).1.spans() {
+                    let end = r.end.wrapping_add(entry.b as i32);
+                    if end < r.end {
+                        own.push(r.row, NONE, r.start, end)?;
+                    }
+                }
+                Plain::append_delayed(entry, a, instant, own)
             }
         }
         NumbersFromCount: "closing: serials counted from the last event" {
@@ -506,7 +738,8 @@ wrong_watches! {
         StartBeforeEntry: "order: an instant's new rows by start before entry" {
             fn close(watch: &Watch, chart: &Chart, storage: &mut Storage) -> Option<()> {
                 Plain::close(watch, chart, storage)?;
-                reorder(chart, storage, |row| Reverse(row[START]));
+                let first = storage.old;
+                reorder(chart, storage, first, |row| Reverse(row[START]));
                 Some(())
             }
         }
@@ -524,7 +757,8 @@ wrong_watches! {
         TiesByMadeParts: "order: rows of equal start by where their parts were made, not where they stand" {
             fn close(watch: &Watch, chart: &Chart, storage: &mut Storage) -> Option<()> {
                 LeavesRowsAsMade::close(watch, chart, storage)?;
-                reorder(chart, storage, |row| (row[ENTRY], Reverse(row[START])));
+                let first = storage.old;
+                reorder(chart, storage, first, |row| (row[ENTRY], Reverse(row[START])));
                 Some(())
             }
         }

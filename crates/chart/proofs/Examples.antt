@@ -1,6 +1,6 @@
 -- Charts as text: what each operator word means, each refusal, and the order of refusals in a line. One list of cases, one theorem that the
--- checker computes. What must come out was found by hand from document 01. No contract says as much of the words, since the code
--- and its contract share the list of them.
+-- checker computes. What must come out was found by hand from document 01 and request N1. No contract says as much of the words, since
+-- the code and its contract share the list of them.
 use Prim.Native.Nat.{ℕ}
 use Prim.Native.String.{String}
 use mathlib.Core.Path.{_≡_, refl}
@@ -18,9 +18,9 @@ use Rattle.chart.specs.Records.{withCode, eventLine, withOperands, secon
 use Rattle.chart.specs.Charts.{noEntries, withEntry, refusedChart, readLines, orNoLine, readChart}
 use Rattle.chart.specs.declared.Entry.{Entry}
 use Rattle.chart.specs.declared.operator.Kind.{Kind}
-use Rattle.chart.specs.declared.operator.Kind.the-variants.{Event, Or, Pair, Absence, Length}
+use Rattle.chart.specs.declared.operator.Kind.the-variants.{Event, Or, Pair, Absence, Length, After}
 use Rattle.chart.specs.declared.operator.Shape.{Shape}
-use Rattle.chart.specs.declared.operator.Shape.the-variants.{Leaf, Single, Arms, Double}
+use Rattle.chart.specs.declared.operator.Shape.the-variants.{Leaf, Single, Arms, Double, Delayed}
 
 -- what an entry means: its operator, how its rows refer to others, and its operands
 pub record Meaning : Type 0 where
@@ -63,8 +63,8 @@ infix 80 _⇒_
 abbrev _⇒_ : String → Meaning → Written
 l ⇒ m = record { line = l; meaning = m }
 
--- the 17 words, in the order of the operator table. In an absence "the first sign is the early edge and the second the late one": `[` early
--- and `]` late are closed, `]` early and `[` late are open.
+-- the 17 words, in the order of the operator table, and `after` (request N1). In an absence "the first sign is the early edge and the second the
+-- late one": `[` early and `]` late are closed, `]` early and `[` late are open.
 abbrev operatorTable : List Written
 operatorTable =
     "0 event 0" ⇒ means Event Leaf 0 0 ∷
@@ -84,7 +84,9 @@ operatorTable =
     "14 equals 0 1" ⇒ means (Pair Equals) Double 0 1 ∷
     "15 lasts 14 0" ⇒ means (Length Lasts) Single 14 0 ∷
     "16 atmost 15 2000000000" ⇒ means (Length AtMost) Single 15 2000000000 ∷
-    "17 atleast 0 17" ⇒ means (Length AtLeast) Single 0 17 ∷ []
+    "17 atleast 0 17" ⇒ means (Length AtLeast) Single 0 17 ∷
+    "18 after 17 0" ⇒ means After Delayed 17 0 ∷
+    "19 after 18 2000000000" ⇒ means After Delayed 18 2000000000 ∷ []
 
 abbrev tableOfWords : List Case
 tableOfWords = taken (text (map (λ (w : Written). w .line) operatorTable)) (map (λ (w : Written). w .meaning) operatorTable) ∷ []
@@ -119,6 +121,10 @@ notOfTheForm = map (λ (s : List ℕ). refused (text ("0 event 1" ∷ []) ++ s) 
     text ("1 -[ 0 0" ∷ []) ∷
     text ("1 -[]] 0 0" ∷ []) ∷
     text ("1 SEQ 0 0" ∷ []) ∷
+    text ("1 after 0" ∷ []) ∷
+    text ("1 after 0 0 0" ∷ []) ∷
+    text ("1 afte 0 0" ∷ []) ∷
+    text ("1 afters 0 0" ∷ []) ∷
     text ("event 1" ∷ []) ∷
     text ("1 event  1" ∷ []) ∷
     text (" 1 event 1" ∷ []) ∷
@@ -128,6 +134,7 @@ notOfTheForm = map (λ (s : List ℕ). refused (text ("0 event 1" ∷ []) ++ s) 
     text ("1 event 01" ∷ []) ∷
     text ("1 event -1" ∷ []) ∷
     text ("1 lasts 0 -1" ∷ []) ∷
+    text ("1 after 0 -1" ∷ []) ∷
     text ("1 seq 0 x" ∷ []) ∷
     text ("1 lasts 0 10000000000" ∷ []) ∷
     unended "1 event 1" ∷
@@ -143,8 +150,10 @@ notOfTheTable =
     refused (text ("0 event 1" ∷ "1 or 1 0" ∷ [])) 5 2 ∷
     refused (text ("0 event 1" ∷ "1 -[] 0 1" ∷ [])) 5 2 ∷
     refused (text ("0 event 1" ∷ "1 lasts 1 0" ∷ [])) 5 2 ∷
+    refused (text ("0 event 1" ∷ "1 after 1 0" ∷ [])) 5 2 ∷
     refused (text ("0 event 256" ∷ [])) 6 1 ∷
-    refused (text ("0 event 1" ∷ "1 atmost 0 2000000001" ∷ [])) 6 2 ∷ []
+    refused (text ("0 event 1" ∷ "1 atmost 0 2000000001" ∷ [])) 6 2 ∷
+    refused (text ("0 event 1" ∷ "1 after 0 2000000001" ∷ [])) 6 2 ∷ []
 
 -- "in a line 2, 3, 4, 6, 5": each line refused has a fault that comes later in this order, too
 abbrev inALine : List Case
@@ -166,7 +175,9 @@ inALine =
     refused (text ("1 lasts 1 2000000001" ∷ [])) 4 1 ∷
     -- 6 before 5, and 5 alone
     refused (text ("0 lasts 0 2000000001" ∷ [])) 6 1 ∷
-    refused (text ("0 lasts 0 2000000000" ∷ [])) 5 1 ∷ []
+    refused (text ("0 lasts 0 2000000000" ∷ [])) 5 1 ∷
+    refused (text ("0 after 0 2000000001" ∷ [])) 6 1 ∷
+    refused (text ("0 after 0 2000000000" ∷ [])) 5 1 ∷ []
 
 -- "lines from the first": the first fault of a chart is reported, whatever its number. The later line has the fault that comes first in a line.
 abbrev fromTheFirst : List Case

@@ -8,6 +8,7 @@ use mathlib.Core.List.{List, [], _∷_}
 use borrow.Author.Tests.{leb-true, ltb-true, eqb-true}
 use lib.Dec.{eqb, leb, ltb}
 use lib.ListN.{length, take, drop}
+use Rattle.interval.specs.Instants.{isLength}
 use Rattle.interval.proofs.Signed.{never, and-first, and-second}
 use Rattle.interval.proofs.Laws.{length-told}
 use Rattle.decimal.specs.Spelling.{numberOf}
@@ -16,7 +17,7 @@ use Rattle.text.specs.Text.{fields, indexOf}
 use Rattle.text.proofs.Laws.{split-cut, split-none, split-some, index-le}
 use Rattle.chart.specs.Operators.{operatorOf, inRange, areLower}
 use Rattle.chart.specs.declared.operator.Kind.{Kind}
-use Rattle.chart.specs.declared.operator.Kind.the-variants.{Event, Or, Pair, Absence, Length, Unknown}
+use Rattle.chart.specs.declared.operator.Kind.the-variants.{Event, Or, Pair, Absence, Length, After, Unknown}
 use Rattle.chart.specs.Records.{parsedLine, numbered, operatorLine, byOperator, eventLine, withCode, operandsLine, secondOperand, withOperands}
 use Rattle.chart.specs.declared.record.Parsed.{Parsed}
 
@@ -55,7 +56,7 @@ module _ (e : ℕ) (s : List ℕ) where
 
   pub operator-one : indexOf 9 s ≡ length s → operatorLine e (fields s) ≡ Parsed.Malformed
   unfolding operatorLine byOperator eventLine operandsLine
-  operator-one h = rw (one-field s h) (go (eqb (operatorOf s) 17) (eqb (operatorOf s) 0))
+  operator-one h = rw (one-field s h) (go (eqb (operatorOf s) 18) (eqb (operatorOf s) 0))
     where
       go : (t u : Bool) → cond t Parsed.Malformed (cond u Parsed.Malformed Parsed.Malformed) ≡ Parsed.Malformed
       go true u = refl
@@ -96,6 +97,12 @@ both-small n a b h e =
     let q = ltb-true b n (and-second (ltb a n) (ltb b n) e) in
     record { first = omega arith; second = omega arith }
 
+length-small : (n a b : ℕ) → n ≤ 32 → isLength b ≡ true → ltb a n ≡ true → Small a b
+length-small n a b h r l =
+    let p = ltb-true a n l in
+    let q = length-told b r in
+    record { first = omega arith; second = omega arith }
+
 pub small : (k : Kind) (n a b : ℕ) → n ≤ 32 → inRange k a b ≡ true → areLower k n a b ≡ true → Small a b
 unfolding inRange areLower
 small Event n a b h r l =
@@ -105,8 +112,6 @@ small Event n a b h r l =
 small Or n a b h r l = both-small n a b h l
 small (Pair c) n a b h r l = both-small n a b h l
 small (Absence c) n a b h r l = both-small n a b h l
-small (Length t) n a b h r l =
-    let p = ltb-true a n l in
-    let q = length-told b r in
-    record { first = omega arith; second = omega arith }
+small (Length t) n a b h r l = length-small n a b h r l
+small After n a b h r l = length-small n a b h r l
 small Unknown n a b h r l = never r

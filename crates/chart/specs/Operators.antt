@@ -1,4 +1,4 @@
--- The operators of a chart. Document 01, "Operators of a chart".
+-- The operators of a chart. Document 01, "Operators of a chart"; `after` by request N1.
 -- `paddedWords` and `wordLengths` alone serve the proofs.
 use Prim.Native.Nat.{ℕ, suc}
 use mathlib.Core.Bool.{Bool, true, false, cond, _&&_}
@@ -12,9 +12,9 @@ use Rattle.interval.specs.declared.Edges.the-variants.{ClosedClosed, OpenOpen, 
 use Rattle.interval.specs.declared.LengthTest.{LengthTest}
 use Rattle.interval.specs.declared.LengthTest.the-variants.{Lasts, AtMost, AtLeast}
 use Rattle.chart.specs.declared.operator.Kind.{Kind}
-use Rattle.chart.specs.declared.operator.Kind.the-variants.{Event, Or, Pair, Absence, Length, Unknown}
+use Rattle.chart.specs.declared.operator.Kind.the-variants.{Event, Or, Pair, Absence, Length, After, Unknown}
 use Rattle.chart.specs.declared.operator.Shape.{Shape}
-use Rattle.chart.specs.declared.operator.Shape.the-variants.{Leaf, Single, Arms, Double}
+use Rattle.chart.specs.declared.operator.Shape.the-variants.{Leaf, Single, Arms, Double, Delayed}
 
 unfoldable pub words : List (List ℕ)
 words =
@@ -35,6 +35,7 @@ words =
     (108 ∷ 97 ∷ 115 ∷ 116 ∷ 115 ∷ []) ∷  -- 14 lasts
     (97 ∷ 116 ∷ 109 ∷ 111 ∷ 115 ∷ 116 ∷ []) ∷  -- 15 atmost
     (97 ∷ 116 ∷ 108 ∷ 101 ∷ 97 ∷ 115 ∷ 116 ∷ []) ∷  -- 16 atleast
+    (97 ∷ 102 ∷ 116 ∷ 101 ∷ 114 ∷ []) ∷  -- 17 after
     []
 
 -- the same as the code has them: each word padded to 8 bytes, and its length
@@ -56,10 +57,11 @@ paddedWords =
     101 ∷ 113 ∷ 117 ∷ 97 ∷ 108 ∷ 115 ∷ 32 ∷ 32 ∷
     108 ∷ 97 ∷ 115 ∷ 116 ∷ 115 ∷ 32 ∷ 32 ∷ 32 ∷
     97 ∷ 116 ∷ 109 ∷ 111 ∷ 115 ∷ 116 ∷ 32 ∷ 32 ∷
-    97 ∷ 116 ∷ 108 ∷ 101 ∷ 97 ∷ 115 ∷ 116 ∷ 32 ∷ []
+    97 ∷ 116 ∷ 108 ∷ 101 ∷ 97 ∷ 115 ∷ 116 ∷ 32 ∷
+    97 ∷ 102 ∷ 116 ∷ 101 ∷ 114 ∷ 32 ∷ 32 ∷ 32 ∷ []
 
 abbrev pub wordLengths : List ℕ
-wordLengths = 5 ∷ 3 ∷ 2 ∷ 3 ∷ 3 ∷ 3 ∷ 3 ∷ 3 ∷ 5 ∷ 8 ∷ 6 ∷ 6 ∷ 8 ∷ 6 ∷ 5 ∷ 6 ∷ 7 ∷ []
+wordLengths = 5 ∷ 3 ∷ 2 ∷ 3 ∷ 3 ∷ 3 ∷ 3 ∷ 3 ∷ 5 ∷ 8 ∷ 6 ∷ 6 ∷ 8 ∷ 6 ∷ 5 ∷ 6 ∷ 7 ∷ 5 ∷ []
 
 unfoldable pub sameBytes : List ℕ → List ℕ → Bool
 sameBytes [] [] = true
@@ -72,7 +74,7 @@ unfoldable pub placeOf : List ℕ → List (List ℕ) → ℕ
 placeOf s [] = 0
 placeOf s (w ∷ ws) = cond (sameBytes s w) 0 (suc (placeOf s ws))
 
--- the code of the operator with this word; 17 is none
+-- the code of the operator with this word; 18 is none
 unfoldable pub operatorOf : List ℕ → ℕ
 operatorOf s = placeOf s words
 
@@ -92,7 +94,7 @@ unfoldable pub lengthTestOf : ℕ → LengthTest
 lengthTestOf op = cond (eqb op 14) Lasts (cond (eqb op 15) AtMost AtLeast)
 
 -- what a code stands for, in the order of the operator table: event, seq, or, and; 4 to 7 absences; 8 to 13 interval relations;
--- 14 to 16 length tests
+-- 14 to 16 length tests; behind it, 17 after (request N1)
 unfoldable pub kindOf : ℕ → Kind
 kindOf op =
     cond (eqb op 0) Event
@@ -101,25 +103,29 @@ kindOf op =
     (cond (eqb op 3) (Pair And)
     (cond (ltb op 8) (Absence (edgesOf op))
     (cond (ltb op 14) (Pair (relationOf op))
-    (cond (ltb op 17) (Length (lengthTestOf op)) Unknown))))))
+    (cond (ltb op 17) (Length (lengthTestOf op))
+    (cond (eqb op 17) After Unknown)))))))
 
 -- The column "left, right" of the operator table: "serial, -1" of an event; "r, -1; or -1, s" of or; "r, s" of seq, and, meets to equals;
--- "r, -1" of the absences and the length tests. An unknown code stands in no chart that a watch may use; it has a shape only to have one
+-- "r, -1" of the absences and the length tests; "left r, right -1" of after, whose row ends later than r (request N1). An unknown code stands in
+-- no chart that a watch may use; it has a shape only to have one, and that of after, since all codes above 16 are then decided at once
 abbrev pub shapeOf : Kind → Shape
 shapeOf Event = Leaf
 shapeOf Or = Arms
 shapeOf (Pair c) = Double
 shapeOf (Absence e) = Single
 shapeOf (Length t) = Single
-shapeOf Unknown = Leaf
+shapeOf After = Delayed
+shapeOf Unknown = Delayed
 
--- "An event has a code 0 to 255"; "d is a length". An event's second operand is none, written 0
+-- "An event has a code 0 to 255"; "d is a length", also of after (request N1). An event's second operand is none, written 0
 unfoldable pub inRange : Kind → ℕ → ℕ → Bool
 inRange Event a b = leb a 255 && eqb b 0
 inRange Or a b = true
 inRange (Pair c) a b = true
 inRange (Absence e) a b = true
 inRange (Length t) a b = isLength b
+inRange After a b = isLength b
 inRange Unknown a b = false
 
 -- "operands a and b are lower entry numbers and may be equal"
@@ -129,4 +135,5 @@ areLower Or n a b = ltb a n && ltb b n
 areLower (Pair c) n a b = ltb a n && ltb b n
 areLower (Absence e) n a b = ltb a n && ltb b n
 areLower (Length t) n a b = ltb a n
+areLower After n a b = ltb a n
 areLower Unknown n a b = false

@@ -6,7 +6,8 @@ ghost use Rattle.chart.specs.Charts.{noEntries, withEntry, readChart, ad
 pub mod operator;
 pub mod record;
 
-// An entry of a chart: its operator's code and its operands a and b. An event's a is its code and its b is 0; a length test's b is its length.
+// An entry of a chart: its operator's code and its operands a and b. An event's a is its code and its b is 0; the b of a length test or of
+// `after` is a length.
 #[repr(C)]
 pub struct Entry {
     pub op: u8,

@@ -15,6 +15,7 @@ pub enum Kind {
     Pair(Relation),
     Absence(Edges),
     Length(LengthTest),
+    After,
     Unknown,
 }
 
@@ -24,22 +25,23 @@ pub enum Shape {
     Single, // one reference, on the left
     Arms, // one reference, on the left or on the right
     Double, // two references
+    Delayed, // one reference, on the left, to a row that ended a wait earlier
 }
 
 // The operator words in the order of their codes, each padded to 8 bytes, and their lengths.
-const WORDS: [u8; 136] =
-    *b"event   seq     or      and     -[]     -][     -[[     -]]     meets   overlapsstarts  during  finishesequals  lasts   atmost  atleast ";
+const WORDS: [u8; 144] =
+    *b"event   seq     or      and     -[]     -][     -[[     -]]     meets   overlapsstarts  during  finishesequals  lasts   atmost  atleast after   ";
 
-const LENGTHS: [usize; 17] = [5, 3, 2, 3, 3, 3, 3, 3, 5, 8, 6, 6, 8, 6, 5, 6, 7];
+const LENGTHS: [usize; 18] = [5, 3, 2, 3, 3, 3, 3, 3, 5, 8, 6, 6, 8, 6, 5, 6, 7, 5];
 
-// The code of the operator with this word, or 17 where no operator has it. At most 17 comparisons of lengths, and the bytes of those that agree.
+// The code of the operator with this word, or 18 where no operator has it. At most 18 comparisons of lengths, and the bytes of those that agree.
 pub fn operator_of(s: &[u8]) -> u8
     ensures { λ r. ⌜ r ≡ operatorOf (now (s .entry)) ⌝ }
 {
     let letters = WORDS;
     let sizes = LENGTHS;
     let mut i: u8 = 0;
-    while i < 17 {
+    while i < 18 {
         if is_word(s, i as usize, &letters, &sizes) {
             return i;
         }
@@ -49,8 +51,8 @@ pub fn operator_of(s: &[u8]) -> u8
 }
 
 // Whether s is the word of code i. The tables are lent, since a constant is laid out anew wherever it is indexed.
-fn is_word(s: &[u8], i: usize, letters: &[u8; 136], sizes: &[usize; 17]) -> bool
-    requires { ⌜ (i < 17) × (now letters ≡ paddedWords) × (now sizes ≡ wordLengths) ⌝ }
+fn is_word(s: &[u8], i: usize, letters: &[u8; 144], sizes: &[usize; 18]) -> bool
+    requires { ⌜ (i < 18) × (now letters ≡ paddedWords) × (now sizes ≡ wordLengths) ⌝ }
     ensures { λ r. ⌜ r ≡ sameBytes (now (s .entry)) (getD words i []) ⌝ }
 {
     let n = sizes[i];
@@ -79,6 +81,7 @@ pub fn kind_of(op: u8) -> Kind
         4..=7 => Kind::Absence(edges_of(op)),
         8..=13 => Kind::Pair(relation_of(op)),
         14..=16 => Kind::Length(length_test_of(op)),
+        17 => Kind::After,
         _ => Kind::Unknown,
     }
 }
@@ -127,7 +130,8 @@ pub fn shape_of(k: Kind) -> Shape
         Kind::Pair(_) => Shape::Double,
         Kind::Absence(_) => Shape::Single,
         Kind::Length(_) => Shape::Single,
-        Kind::Unknown => Shape::Leaf,
+        Kind::After => Shape::Delayed,
+        Kind::Unknown => Shape::Delayed,
     }
 }
 
@@ -141,6 +145,7 @@ pub fn in_range(k: Kind, a: u64, b: u64) -> bool
         Kind::Pair(_) => true,
         Kind::Absence(_) => true,
         Kind::Length(_) => interval::is_length(b),
+        Kind::After => interval::is_length(b),
         Kind::Unknown => false,
     }
 }
@@ -156,6 +161,7 @@ pub fn are_lower(k: Kind, n: u64, a: u64, b: u64) -> bool
         Kind::Pair(_) => both,
         Kind::Absence(_) => both,
         Kind::Length(_) => a < n,
+        Kind::After => a < n,
         Kind::Unknown => false,
     }
 }

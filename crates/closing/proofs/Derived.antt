@@ -9,7 +9,7 @@ use mathlib.Core.Bool.{Bool, true, false, cond, not, _&&_, _||_}
 use mathlib.Core.List.{List, [], _++_, map, map-append}
 use borrow.Author.Tests.{leb-true, leb-false, ltb-false}
 use lib.Dec.{eqb, leb, ltb}
-use lib.IntN.{ℤ, pos, negsuc, natAbs}
+use lib.IntN.{ℤ, pos, negsuc, natAbs, _+ℤ_, _-ℤ_}
 use lib.ListN.{length, getD, take}
 use lib.Seq.{length-take-le, getD-take}
 use lib.Signed.{leZ}
@@ -20,22 +20,22 @@ use Rattle.interval.specs.declared.Ending.{Ending}
 use Rattle.interval.specs.declared.Ending.the-variants.{Before, Within, Together, Either}
 use Rattle.interval.specs.declared.Edges.{Edges}
 use Rattle.interval.specs.declared.LengthTest.{LengthTest}
-use Rattle.interval.proofs.Signed.{_≤ᶻ_, _<ᶻ_, never, and-first, and-second, eq-true, eq-same, eq-fact, eq-told, lt-true, is-le, le-false, greatest-is, greatest-most, antisym}
+use Rattle.interval.proofs.Signed.{_≤ᶻ_, _<ᶻ_, never, and-first, and-second, eq-true, eq-same, eq-fact, not-eq, lt-true, lt-false, le-true, is-le, le-false, greatest-is, greatest-most, antisym, add-fact, sub-fact}
 use Rattle.interval.proofs.Laws.{Ends, related-ends, forbidding-inside}
 use Rattle.model.specs.Lists.{keep, some, each, numbers}
-use Rattle.model.specs.Recognitions.{Event, Operator, event, related, or, absence, lasting, Arm, only, left, right}
+use Rattle.model.specs.Recognitions.{Event, Operator, event, related, or, absence, lasting, after, Arm, only, left, right, delayed, endBy}
 use Rattle.model.specs.Order.{Row, row, none}
 use Rattle.model.specs.RowSteps.{Node, leaves, leaf, part, pair, of, fits, forbidden, make, rowAt, places, nodeRow, madeRows, endsAt, numbered}
 use Rattle.model.proofs.Sorted.{keep-append}
 use Rattle.table.specs.Table.{cell, rowsIn}
-use Rattle.table.specs.Ends.{endingBefore}
+use Rattle.table.specs.Ends.{Ordered, endingBefore}
 use Rattle.table.proofs.Rows.{length-rows, row-at}
-use Rattle.table.proofs.Ends.{counted-passes}
+use Rattle.table.proofs.Ends.{counted-passes, counted-fails}
 use Rattle.table.proofs.EndParts.{ends-low, ends-few}
 use Rattle.closing.specs.declared.Taken.{Taken}
 use Rattle.closing.specs.declared.Taken.the-variants.{All, Lasting}
-use Rattle.closing.specs.Added.{pendingAt, span, when, eventRow, eventRows, partRow, isLong, takenRow, takenRows, orRows, forbids, isWithin, isForbidden, absenceRow, absenceRows, topOf, pairRow, rightBy, rightFrom, pairsOf, pairsWith, nextRow, leastStart, leftBy, leftFrom, pairRows, addedRows}
-use Rattle.closing.proofs.Spans.{each-same, some-same, each-numbered, some-snoc, some-none, each-from, each-nothing, span-same, keep-keep, keep-all, some-keep, kept-ones, kept-each, some-front}
+use Rattle.closing.specs.Added.{pendingFrom, span, when, eventRow, eventRows, partRow, isLong, takenRow, takenRows, orRows, waitedFrom, waitedTo, delayedRows, forbids, isWithin, isForbidden, absenceRow, absenceRows, topOf, pairRow, rightBy, rightFrom, pairsOf, pairsWith, nextRow, leastStart, leftBy, leftFrom, pairRows, addedRows}
+use Rattle.closing.proofs.Spans.{each-same, some-same, each-numbered, some-snoc, some-none, each-from, each-upto, each-nothing, span-same, keep-keep, keep-all, some-keep, kept-ones, kept-each, some-front}
 use Rattle.closing.proofs.Searches.{next-none, least-start}
 use Rattle.closing.proofs.Laws.{top-le, top-rest}
 
@@ -49,49 +49,72 @@ pub record Grown (o : ℤ) (m n : ℕ) (t : List ℤ) : Type 0 where
   pub above : (i : ℕ) → i < n → leZ (pos 0) (cell t i 0) ≡ true
 
 -- an entry's number, read as it stands
-eq-entry : (z : ℤ) (a : ℕ) → leZ (pos 0) z ≡ true → eqb (natAbs z) a ≡ eqZ z (pos a)
+pub eq-entry : (z : ℤ) (a : ℕ) → leZ (pos 0) z ≡ true → eqb (natAbs z) a ≡ eqZ z (pos a)
 eq-entry (pos z) a h = refl
 eq-entry (negsuc z) a h = never h
 
-not-at : (a o : ℤ) → a <ᶻ o → eqZ a o ≡ false
-not-at a o h = go (eqZ a o) refl
-  where
-    go : (b : Bool) → eqZ a o ≡ b → b ≡ false
-    go true e = absurd (omega (arith, eq-told a o e))
-    go false e = refl
-
-module _ (o : ℤ) (m n : ℕ) (t : List ℤ) (g : Grown o m n t) (entry : ℕ) where
+module _ {o : ℤ} {m n : ℕ} {t : List ℤ} (g : Grown o m n t) where
   -- no row ends later than the instant
-  ends : (i : ℕ) → i < n → cell t i 4 ≤ᶻ o
+  pub ends : (i : ℕ) → i < n → cell t i 4 ≤ᶻ o
   ends i h = go (leb m i) refl
     where
       go : (b : Bool) → leb m i ≡ b → cell t i 4 ≤ᶻ o
       go true e = omega (arith, eq-fact (g .new i (leb-true m i e) h))
       go false e = omega (arith, g .old i (leb-false m i e))
 
+  -- the ends of all rows do not fall
+  pub ends-ordered : (i j : ℕ) → i ≤ j → j < n → cell t i 4 ≤ᶻ cell t j 4
+  ends-ordered i j h k = go (leb m j) refl
+    where
+      go : (d : Bool) → leb m j ≡ d → cell t i 4 ≤ᶻ cell t j 4
+      go true p = omega (arith, eq-fact (g .new j (leb-true m j p) k), ends i (omega arith))
+      go false p = g .ordered i j h (leb-false m j p)
+
+  pub all-ordered : Ordered n t
+  all-ordered i j h k = is-le (cell t i 4) (cell t j 4) (ends-ordered i j h k)
+
+module _ (o : ℤ) (m n : ℕ) (t : List ℤ) (g : Grown o m n t) (entry : ℕ) where
+  -- the rows from k to before l, and no others, make a row that refers to them alone and ends at the instant
+  record Spanned (side : Arm) (k l : ℕ) : Type 0 where
+    apart : k ≤ l
+    within : l ≤ n
+    before : (i : ℕ) → i < k → endBy side (cell t i 4) ≡ o → ⊥
+    at : (i : ℕ) → k ≤ i → i < l → endBy side (cell t i 4) ≡ o
+    behind : (i : ℕ) → l ≤ i → i < n → endBy side (cell t i 4) ≡ o → ⊥
+
+  -- the new ones, where the row ends as its part does
+  new-ones : (side : Arm) → ((e : ℤ) → endBy side e ≡ e) → Spanned side m n
+  new-ones side same = record {
+    apart = g .few;
+    within = omega arith;
+    before = λ i h e. omega (arith, g .old i h, eq-fact (sym (same (cell t i 4)) ∙ e));
+    at = λ i h k. same (cell t i 4) ∙ g .new i h k;
+    behind = λ i h k. absurd (omega arith);
+  }
+
   -- the rows that refer to one row alone, as far as it passes a test
-  module _ (side : Arm) (q q' : ℕ → Bool) (same : (i : ℕ) → i < n → q i ≡ q' i) where
+  module _ (side : Arm) (q q' : ℕ → Bool) (same : (i : ℕ) → i < n → q i ≡ q' i) (k l : ℕ) (s : Spanned side k l) where
     abbrev one : ℕ → List Row
     one i = cond (q i) (when (eqZ ((nodeRow (rowsIn n t) entry (part side i)) .end) o) (nodeRow (rowsIn n t) entry (part side i))) []
 
-    one-is : (i : ℕ) → i < n → one i ≡ cond (q' i) (when (eqZ (cell t i 4) o) (partRow side entry t i)) []
+    one-is : (i : ℕ) → i < n → endBy side (cell t i 4) ≡ o → one i ≡ when (q' i) (partRow side entry o t i)
     unfolding partRow
-    one-is i h = rw (same i h, row-at n i t h)
+    one-is i h e = rw (same i h, row-at n i t h, e, eq-same o)
 
-    none-old : (i : ℕ) → i < m → one i ≡ []
-    none-old i h =
-        one-is i (omega (arith, g .few)) ∙ rw (not-at (cell t i 4) o (g .old i h)) (go (q' i))
+    none-else : (i : ℕ) → i < n → (endBy side (cell t i 4) ≡ o → ⊥) → one i ≡ []
+    none-else i h e = rw (row-at n i t h, not-eq (endBy side (cell t i 4)) o e) (go (q i))
       where
         go : (b : Bool) → _≡_ {A = List Row} (cond b [] []) []
         go true = refl
         go false = refl
 
-    parts : keep (λ r. endsAt o (r .start) (r .end)) (map (nodeRow (rowsIn n t) entry) (map (part side) (keep q (numbers 0 (length (rowsIn n t)))))) ≡ each (λ i. when (q' i) (partRow side entry t i)) (span m n)
+    parts : keep (λ r. endsAt o (r .start) (r .end)) (map (nodeRow (rowsIn n t) entry) (map (part side) (keep q (numbers 0 (length (rowsIn n t)))))) ≡ each (λ i. when (q' i) (partRow side entry o t i)) (span k l)
     parts =
-        ap (λ k. keep (λ r. endsAt o (r .start) (r .end)) (map (nodeRow (rowsIn n t) entry) (map (part side) (keep q (numbers 0 k))))) (length-rows n t)
+        ap (λ x. keep (λ r. endsAt o (r .start) (r .end)) (map (nodeRow (rowsIn n t) entry) (map (part side) (keep q (numbers 0 x))))) (length-rows n t)
         ∙ kept-ones (λ r. endsAt o (r .start) (r .end)) (nodeRow (rowsIn n t) entry) (part side) q (numbers 0 n)
-        ∙ each-from one m n (g .few) none-old
-        ∙ span-same one (λ i. when (q' i) (partRow side entry t i)) m n (λ i p h. one-is i h ∙ rw (g .new i p h, eq-same o))
+        ∙ each-from one k n (omega (arith, s .apart, s .within)) (λ i h. none-else i (omega (arith, s .apart, s .within)) (s .before i h))
+        ∙ each-upto one k l n (s .apart) (s .within) (λ i h j. none-else i j (s .behind i h j))
+        ∙ span-same one (λ i. when (q' i) (partRow side entry o t i)) k l (λ i p h. one-is i (omega (arith, s .within)) (s .at i p h))
 
   -- whether row i is one of entry a
   of-entry : (a i : ℕ) → i < n → eqb ((rowAt (rowsIn n t) i) .entry) a ≡ eqZ (cell t i 0) (pos a)
@@ -100,29 +123,47 @@ module _ (o : ℤ) (m n : ℕ) (t : List ℤ) (g : Grown o m n t) (entry : ℕ) 
   abbrev derived : List (Node ℕ) → List Row
   derived xs = keep (λ r. endsAt o (r .start) (r .end)) (map (nodeRow (rowsIn n t) entry) xs)
 
-  taken-derived : (side : Arm) (a : ℕ) (k : Taken) → derived (map (part side) (keep (λ i. isLong k ((rowAt (rowsIn n t) i) .start) ((rowAt (rowsIn n t) i) .end)) (of (places (rowsIn n t)) a (numbers 0 (length (rowsIn n t)))))) ≡ takenRows side entry (pos a) k m n t
+  taken-derived : (side : Arm) (a : ℕ) (k : Taken) (i j : ℕ) → Spanned side i j → derived (map (part side) (keep (λ i. isLong k ((rowAt (rowsIn n t) i) .start) ((rowAt (rowsIn n t) i) .end)) (of (places (rowsIn n t)) a (numbers 0 (length (rowsIn n t)))))) ≡ takenRows side entry o (pos a) k i j t
   unfolding takenRows takenRow
-  taken-derived side a k =
+  taken-derived side a k i j s =
       let q : ℕ → Bool = λ i. eqb ((rowAt (rowsIn n t) i) .entry) a in
       let p : ℕ → Bool = λ i. isLong k ((rowAt (rowsIn n t) i) .start) ((rowAt (rowsIn n t) i) .end) in
       ap (λ l. derived (map (part side) l)) (keep-keep p q (numbers 0 (length (rowsIn n t))))
-      ∙ parts side (λ i. q i && p i) (λ i. eqZ (cell t i 0) (pos a) && isLong k (cell t i 3) (cell t i 4)) (λ i h. ap₂ _&&_ (of-entry a i h) (rw (row-at n i t h)))
+      ∙ parts side (λ i. q i && p i) (λ i. eqZ (cell t i 0) (pos a) && isLong k (cell t i 3) (cell t i 4)) (λ i h. ap₂ _&&_ (of-entry a i h) (rw (row-at n i t h))) i j s
 
-  arm-derived : (side : Arm) (a : ℕ) → derived (map (part side) (of (places (rowsIn n t)) a (numbers 0 (length (rowsIn n t))))) ≡ takenRows side entry (pos a) All m n t
-  arm-derived side a = ap (λ l. derived (map (part side) l)) (sym (keep-all (of (places (rowsIn n t)) a (numbers 0 (length (rowsIn n t)))))) ∙ taken-derived side a All
+  all-derived : (side : Arm) (a i j : ℕ) → Spanned side i j → derived (map (part side) (of (places (rowsIn n t)) a (numbers 0 (length (rowsIn n t))))) ≡ takenRows side entry o (pos a) All i j t
+  all-derived side a i j s = ap (λ l. derived (map (part side) l)) (sym (keep-all (of (places (rowsIn n t)) a (numbers 0 (length (rowsIn n t)))))) ∙ taken-derived side a All i j s
 
-  or-derived : (a b : ℕ) → derived (map (part left) (of (places (rowsIn n t)) a (numbers 0 (length (rowsIn n t)))) ++ map (part right) (of (places (rowsIn n t)) b (numbers 0 (length (rowsIn n t))))) ≡ orRows entry (pos a) (pos b) m n t
+  or-derived : (a b : ℕ) → derived (map (part left) (of (places (rowsIn n t)) a (numbers 0 (length (rowsIn n t)))) ++ map (part right) (of (places (rowsIn n t)) b (numbers 0 (length (rowsIn n t))))) ≡ orRows entry o (pos a) (pos b) m n t
   unfolding orRows
   or-derived a b =
       let xs = map (part left) (of (places (rowsIn n t)) a (numbers 0 (length (rowsIn n t)))) in
       let ys = map (part right) (of (places (rowsIn n t)) b (numbers 0 (length (rowsIn n t)))) in
       ap (keep (λ r. endsAt o (r .start) (r .end))) (map-append (nodeRow (rowsIn n t) entry) xs ys)
       ∙ keep-append (λ r. endsAt o (r .start) (r .end)) (map (nodeRow (rowsIn n t) entry) xs) (map (nodeRow (rowsIn n t) entry) ys)
-      ∙ ap₂ _++_ (arm-derived left a) (arm-derived right b)
+      ∙ ap₂ _++_ (all-derived left a m n (new-ones left (λ e. refl))) (all-derived right b m n (new-ones right (λ e. refl)))
 
-  length-derived : (c : LengthTest) (a d : ℕ) → derived (make (places (rowsIn n t)) (lasting c a d) [] (numbers 0 (length (rowsIn n t)))) ≡ takenRows left entry (pos a) (Lasting c d) m n t
+  length-derived : (c : LengthTest) (a d : ℕ) → derived (make (places (rowsIn n t)) (lasting c a d) [] (numbers 0 (length (rowsIn n t)))) ≡ takenRows left entry o (pos a) (Lasting c d) m n t
   unfolding takenRows takenRow partRow
-  length-derived c a d = taken-derived only a (Lasting c d)
+  length-derived c a d = taken-derived only a (Lasting c d) m n (new-ones only (λ e. refl))
+
+  -- a delay: the rows that ended d before, found by two searches
+  waited : (d : ℕ) → Spanned (delayed d) (waitedFrom o d n t) (waitedTo o d n t)
+  waited d =
+      let e = o -ℤ pos d in
+      let w = sub-fact o (pos d) in
+      let f : (i : ℕ) → _ = λ i. add-fact (cell t i 4) (pos d) in
+      record {
+        apart = ends-low e n t;
+        within = ends-few e n t;
+        before = λ i h z. omega (arith, lt-true (cell t i 4) e (counted-passes false n e t (all-ordered g) i h), eq-fact z, w, f i);
+        at = λ i h k. antisym (cell t i 4 +ℤ pos d) o (omega (arith, le-true (cell t i 4) e (counted-passes true n e t (all-ordered g) i k), w, f i)) (omega (arith, lt-false (cell t i 4) e (counted-fails false n e t (all-ordered g) i h (omega (arith, ends-few e n t))), w, f i));
+        behind = λ i h k z. omega (arith, le-false (cell t i 4) e (counted-fails true n e t (all-ordered g) i h k), eq-fact z, w, f i);
+      }
+
+  delay-derived : (a d : ℕ) → derived (make (places (rowsIn n t)) (after a d) [] (numbers 0 (length (rowsIn n t)))) ≡ delayedRows entry o (pos a) d n t
+  unfolding delayedRows takenRows takenRow partRow
+  delay-derived a d = all-derived (delayed d) a (waitedFrom o d n t) (waitedTo o d n t) (waited d)
 
   -- the backward search: the rows that it does not look at forbid nothing
   module _ (e : Edges) (b r : ℕ) (hr : r < n) where
@@ -135,18 +176,11 @@ module _ (o : ℤ) (m n : ℕ) (t : List ℤ) (g : Grown o m n t) (entry : ℕ) 
         let w = forbidding-inside e (cell t r 3) (cell t r 4) (cell t j 3) (cell t j 4) (and-second (eqZ (cell t j 0) (pos b)) _ p) in
         omega (arith, w .start, g .proper j h)
 
-    ends-ordered : (i j : ℕ) → i ≤ j → j < n → cell t i 4 ≤ᶻ cell t j 4
-    ends-ordered i j h k = go (leb m j) refl
-      where
-        go : (d : Bool) → leb m j ≡ d → cell t i 4 ≤ᶻ cell t j 4
-        go true p = omega (arith, eq-fact (g .new j (leb-true m j p) k), ends i (omega arith))
-        go false p = g .ordered i j h (leb-false m j p)
-
     not-forbidding : (i k : ℕ) → i ≤ k → k < n → leZ (cell t r 3) (cell t k 4) ≡ false → forbids-at i ≡ false
     not-forbidding i k h q w = go (forbids-at i) refl
       where
         go : (d : Bool) → forbids-at i ≡ d → d ≡ false
-        go true p = absurd (omega (arith, forbids-late i (omega arith) p, ends-ordered i k h q, le-false (cell t r 3) (cell t k 4) w))
+        go true p = absurd (omega (arith, forbids-late i (omega arith) p, ends-ordered g i k h q, le-false (cell t r 3) (cell t k 4) w))
         go false p = refl
 
     search-whole : (k : ℕ) → k ≤ n → isForbidden e (pos b) (cell t r 3) (cell t r 4) t k ≡ some forbids-at (numbers 0 k)
@@ -170,7 +204,7 @@ module _ (o : ℤ) (m n : ℕ) (t : List ℤ) (g : Grown o m n t) (entry : ℕ) 
         ∙ some-front forbids-at (topOf (pos b) n t) n (top-le (pos b) t n) (λ i h g. rw (top-rest (pos b) t n i h g))
         ∙ sym (search-whole (topOf (pos b) n t) (top-le (pos b) t n))
 
-  absence-derived : (e : Edges) (a b : ℕ) → derived (make (places (rowsIn n t)) (absence e a b) [] (numbers 0 (length (rowsIn n t)))) ≡ absenceRows e entry (pos a) (pos b) m n t
+  absence-derived : (e : Edges) (a b : ℕ) → derived (make (places (rowsIn n t)) (absence e a b) [] (numbers 0 (length (rowsIn n t)))) ≡ absenceRows e entry o (pos a) (pos b) m n t
   unfolding absenceRows absenceRow partRow
   absence-derived e a b =
       let v = places (rowsIn n t) in
@@ -178,10 +212,10 @@ module _ (o : ℤ) (m n : ℕ) (t : List ℤ) (g : Grown o m n t) (entry : ℕ) 
       let q : ℕ → Bool = λ i. eqb (v .entry i) a in
       let p : ℕ → Bool = λ i. not (forbidden v e (of v b xs) i) in
       ap (λ l. derived (map (part only) l)) (keep-keep p q xs)
-      ∙ parts only (λ i. q i && p i) (λ i. eqZ (cell t i 0) (pos a) && not (isForbidden e (pos b) (cell t i 3) (cell t i 4) t (topOf (pos b) n t))) (λ i h. ap₂ _&&_ (of-entry a i h) (ap not (forbidden-is e b i h)))
+      ∙ parts only (λ i. q i && p i) (λ i. eqZ (cell t i 0) (pos a) && not (isForbidden e (pos b) (cell t i 3) (cell t i 4) t (topOf (pos b) n t))) (λ i h. ap₂ _&&_ (of-entry a i h) (ap not (forbidden-is e b i h))) m n (new-ones only (λ e. refl))
 
   -- the events
-  event-derived : (k first pending : ℕ) (codes : List ℕ) → pending ≤ length codes → derived (leaves k (numbered o first (take pending codes))) ≡ eventRows entry k (pendingAt o first pending) codes
+  event-derived : (k first pending : ℕ) (codes : List ℕ) → pending ≤ length codes → derived (leaves k (numbered o first (take pending codes))) ≡ eventRows entry o k (pendingFrom first pending) codes
   unfolding eventRows eventRow
   event-derived k first pending codes h =
       rw (sub-zero pending)
@@ -227,7 +261,7 @@ module _ (o : ℤ) (m n : ℕ) (t : List ℤ) (g : Grown o m n t) (entry : ℕ) 
 
     -- a pair with a new row ends at the instant
     pair-ends : (r s : ℕ) → r < n → s < n → (m ≤ r) ⊎ (m ≤ s) → eqZ (greatest (cell t r 4) (cell t s 4)) o ≡ true
-    pair-ends r s h k w = rw (antisym (greatest (cell t r 4) (cell t s 4)) o (greatest-most (λ z. z ≤ᶻ o) (cell t r 4) (cell t s 4) (ends r h) (ends s k)) (go w)) (eq-same o)
+    pair-ends r s h k w = rw (antisym (greatest (cell t r 4) (cell t s 4)) o (greatest-most (λ z. z ≤ᶻ o) (cell t r 4) (cell t s 4) (ends g r h) (ends g s k)) (go w)) (eq-same o)
       where
         go : (m ≤ r) ⊎ (m ≤ s) → o ≤ᶻ greatest (cell t r 4) (cell t s 4)
         go (inl z) = let v = greatest-is (cell t r 4) (cell t s 4) in omega (arith, v .left, eq-fact (g .new r z h))
@@ -357,10 +391,11 @@ module _ (o : ℤ) (m n : ℕ) (t : List ℤ) (g : Grown o m n t) (entry : ℕ) 
         ∙ span-same madeWith (pairsWith c entry (pos a) (pos b) m n t) (leftFrom (endingOf c) (pos b) m n t) n (λ r k h. pairs-new r h)
 
   -- what an entry makes, before it is put in order
-  pub made-is : (op : Operator) (first pending : ℕ) (codes : List ℕ) → pending ≤ length codes → madeRows (record { entry = entry; operator = op; test = endsAt o }) (numbered o first (take pending codes)) (rowsIn n t) ≡ addedRows op entry (pendingAt o first pending) codes m n t
+  pub made-is : (op : Operator) (first pending : ℕ) (codes : List ℕ) → pending ≤ length codes → madeRows (record { entry = entry; operator = op; test = endsAt o }) (numbered o first (take pending codes)) (rowsIn n t) ≡ addedRows op entry o (pendingFrom first pending) codes m n t
   unfolding addedRows
   made-is (event k) first pending codes h = event-derived k first pending codes h
   made-is (related c a b) first pending codes h = pair-derived c a b
   made-is (or a b) first pending codes h = or-derived a b
   made-is (absence e a b) first pending codes h = absence-derived e a b
   made-is (lasting c a d) first pending codes h = length-derived c a d
+  made-is (after a d) first pending codes h = delay-derived a d

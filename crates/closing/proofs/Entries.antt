@@ -12,7 +12,7 @@ use borrow.Author.Tests.{leb-true, leb-false, le-leb, lt-leb}
 use lib.Dec.{leb}
 use lib.IntN.{ℤ, pos}
 use lib.ListN.{length, take, drop, length-append, drop-of-length-le}
-use lib.Seq.{drop-at, length-take-le}
+use lib.Seq.{drop-at, take-take, length-take-le}
 use Rattle.chart.specs.Charts.{entryAt}
 use Rattle.chart.specs.declared.Chart.{Chart}
 use mir.Syntax.{w32}
@@ -22,8 +22,9 @@ use Rattle.model.specs.Recognitions.{Event}
 use Rattle.model.specs.Order.{Row}
 use Rattle.model.proofs.Capacity.{capacity-fits}
 use Rattle.model.proofs.Sorted.{stably-mem}
-use Rattle.model.proofs.Steps.{extend-none, extend-on, extend-more, close-rules, close-more}
-use Rattle.model.specs.RowSteps.{Rule, rules, startsLater, extendRows, closeRows, endsAt, numbered}
+use Rattle.model.proofs.Steps.{extend-none, extend-on, extend-more, close-rules}
+use Rattle.model.proofs.Due.{instants-more}
+use Rattle.model.specs.RowSteps.{Rule, rules, startsLater, extendRows, closeRows, closeInstants, instantsTo, endsAt, numbered}
 use Rattle.state.specs.declared.WatchState.{WatchState}
 use Rattle.table.specs.Table.{rowsIn, putRows, zeroed, roomIn}
 use Rattle.table.specs.Operators.{operatorsOf, entryOperator}
@@ -35,7 +36,7 @@ use Rattle.table.proofs.Fill.{fill-fits, fill-full}
 use Rattle.ordering.specs.Ordered.{ordered, Alike}
 use Rattle.ordering.proofs.Sorting.{length-sorted}
 use Rattle.ordering.proofs.Appended.{rows-alike, rows-ordered}
-use Rattle.closing.specs.Added.{pendingAt, FilledBy, Tried, addedRows}
+use Rattle.closing.specs.Added.{pendingFrom, FilledBy, Tried, addedRows}
 use Rattle.closing.specs.Closed.{closedRows, closedNumber, closedTable}
 use Rattle.closing.proofs.Derived.{Grown, made-is}
 use Rattle.closing.proofs.Growth.{Ending, grown-more, added-entry, added-ending}
@@ -72,7 +73,7 @@ full-told room n rs t k u d l h = go (leb (n + length rs) room) refl
         let f = fill-full room n rs t l p in
         (p, d .0 ∙ ap (λ x. x .count) f, d .1 ∙ ap (λ x. x .table) f)
 
--- all entries so far found room: `done` was appended to the n₀ rows of t₀, and `rest` is left of `all`
+-- all so far found room: `done` was appended to the n₀ rows of t₀, and `rest` is left of `all`
 pub record Closing (room n₀ : ℕ) (all : List Row) (t₀ : List ℤ) (n : ℕ) (rest : List Row) (t : List ℤ) : Type 0 where
   pub done : List Row
   pub is : all ≡ done ++ rest
@@ -94,8 +95,8 @@ module _ {room n₀ : ℕ} {all : List Row} {t₀ : List ℤ} {n : ℕ} {rest : 
   put-more : (rs : List Row) → putRows n rs t ≡ putRows n₀ (f .done ++ rs) t₀
   put-more rs = ap (λ k. putRows k rs t) (f .count) ∙ ap (putRows (n₀ + length (f .done)) rs) (f .table) ∙ sym (puts-append n₀ (f .done) rs t₀)
 
-  -- an entry's rows found room, and were put in order
-  closing-next : (rs qs : List Row) (k : ℕ) (u : List ℤ) → rest ≡ rs ++ qs → k ≡ n + length rs → k ≤ room → u ≡ putRows n rs t → Closing room n₀ all t₀ k qs u
+  -- some found room
+  pub closing-next : (rs qs : List Row) (k : ℕ) (u : List ℤ) → rest ≡ rs ++ qs → k ≡ n + length rs → k ≤ room → u ≡ putRows n rs t → Closing room n₀ all t₀ k qs u
   closing-next rs qs k u e c l d = record {
     done = f .done ++ rs;
     is = f .is ∙ ap (λ x. f .done ++ x) e ∙ sym (append-assoc (f .done) rs qs);
@@ -104,14 +105,18 @@ module _ {room n₀ : ℕ} {all : List Row} {t₀ : List ℤ} {n : ℕ} {rest : 
     most = l;
   }
 
-  -- they found none; the rows that did are behind the old ones
-  closing-full : (rs qs ps : List Row) (k : ℕ) (u : List ℤ) → rest ≡ rs ++ qs → room * 5 ≤ length t → room < n + length rs → k ≡ suc room → n + length ps ≤ room → u ≡ putRows n ps t → Tried room n₀ all t₀ k u
-  closing-full rs qs ps k u e h l c m d =
+  -- they found none, and nothing but the rows behind was altered
+  pub closing-full : (rs qs : List Row) (k : ℕ) (u : List ℤ) → rest ≡ rs ++ qs → room * 5 ≤ length t → room < n + length rs → k ≡ suc room → take (n * 5) u ≡ take (n * 5) t → drop (room * 5) u ≡ drop (room * 5) t → Tried room n₀ all t₀ k u
+  closing-full rs qs k u e h l c p q =
       let size : length all ≡ length (f .done) + (length rs + length qs) = ap length (f .is ∙ ap (λ x. f .done ++ x) e) ∙ length-append (f .done) (rs ++ qs) ∙ ap (λ x. length (f .done) + x) (length-append rs qs) in
-      let q : u ≡ putRows n₀ (f .done ++ ps) t₀ = d ∙ put-more ps in
-      let fit : n₀ + length (f .done ++ ps) ≤ room = omega (arith, length-append (f .done) ps, f .count) in
-      let held : (n₀ + length (f .done ++ ps)) * 5 ≤ length t₀ = omega (arith, same-size) in
-      inr (omega (arith, f .count), c, ap (take (n₀ * 5)) q ∙ take-puts n₀ (f .done ++ ps) t₀ held, ap (drop (room * 5)) q ∙ drop-puts n₀ (room * 5) (f .done ++ ps) t₀ (omega arith))
+      let old : n₀ * 5 ≤ n * 5 = omega (arith, least) in
+      let first : take (n₀ * 5) u ≡ take (n₀ * 5) t = sym (take-take (n₀ * 5) (n * 5) u old) ∙ ap (take (n₀ * 5)) p ∙ take-take (n₀ * 5) (n * 5) t old in
+      inr (
+        omega (arith, f .count),
+        c,
+        first ∙ ap (take (n₀ * 5)) (f .table) ∙ take-puts n₀ (f .done) t₀ (omega (arith, f .count, f .most, same-size)),
+        q ∙ ap (drop (room * 5)) (f .table) ∙ drop-puts n₀ (room * 5) (f .done) t₀ (omega (arith, f .count, f .most)),
+      )
 
   -- nothing is left
   pub closing-ended : rest ≡ [] → Tried room n₀ all t₀ n t
@@ -127,13 +132,9 @@ rulesFrom chart o i = rules (endsAt o) i (operatorsFrom chart i (chart .count - 
 unfoldable pub leftRows : Chart → ℤ → List Event → ℕ → ℕ → List ℤ → List Row
 leftRows chart o es i n t = drop n (extendRows es (rulesFrom chart o i) (rowsIn n t))
 
--- the events of the open instant
-abbrev pub eventsIn : WatchState → List Event
-eventsIn w = numbered (w .instant) (suc (w .events - w .pending)) (take (w .pending) (w .codes))
-
-pub left-first : (chart : Chart) (w : WatchState) (t : List ℤ) → leftRows chart (w .instant) (eventsIn w) 0 (w .rows) t ≡ drop (w .rows) (closedRows chart w t)
-unfolding leftRows closedRows
-left-first chart w t = rw (sub-zero (chart .count), close-rules, operators-all chart)
+pub left-first : (chart : Chart) (o : ℤ) (es : List Event) (n : ℕ) (t : List ℤ) → leftRows chart o es 0 n t ≡ drop n (closeRows o es (operatorsOf chart) (rowsIn n t))
+unfolding leftRows
+left-first chart o es n t = rw (sub-zero (chart .count), close-rules, operators-all chart)
 
 pub left-last : (chart : Chart) (o : ℤ) (es : List Event) (i n : ℕ) (t : List ℤ) → chart .count ≤ i → leftRows chart o es i n t ≡ []
 unfolding leftRows
@@ -146,7 +147,7 @@ module _ (chart : Chart) (o : ℤ) (first pending : ℕ) (codes : List ℕ) (few
   events = numbered o first (take pending codes)
 
   abbrev added : List Row
-  added = addedRows (entryOperator (entryAt chart i)) i (pendingAt o first pending) codes m n t
+  added = addedRows (entryOperator (entryAt chart i)) i o (pendingFrom first pending) codes m n t
 
   -- the same, the later start first
   abbrev sorted : List Row
@@ -168,6 +169,9 @@ module _ (chart : Chart) (o : ℤ) (first pending : ℕ) (codes : List ℕ) (few
       let rest : drop (n + length sorted) later ≡ p .0 = ap (drop (n + length sorted)) (p .1) ∙ drop-at (rowsIn n t ++ sorted) (p .0) (n + length sorted) size in
       ap (drop n) (first-rule ∙ p .1 ∙ append-assoc (rowsIn n t) sorted (p .0)) ∙ drop-at (rowsIn n t) (sorted ++ p .0) n (length-rows n t) ∙ ap (λ l. sorted ++ l) (sym rest)
 
+  entry-of : (r : Row) → List·Memᴰ r added → r .entry ≡ i
+  entry-of = added-entry o m n t g i (entryOperator (entryAt chart i)) first pending codes few
+
   ending : (r : Row) → List·Memᴰ r added → Ending o r
   ending = added-ending o m n t g i (entryOperator (entryAt chart i)) first pending codes few
 
@@ -177,12 +181,15 @@ module _ (chart : Chart) (o : ℤ) (first pending : ℕ) (codes : List ℕ) (few
       pub full : room < k → Tried room n₀ all t₀ k u
       pub grows : k ≤ room → n ≤ k
       pub alike : k ≤ room → Alike n k u
+      pub more : k ≤ room → (v : List ℤ) → v ≡ ordered n (k - n) u → (rowsIn k v ≡ rowsIn n t ++ sorted) × ((r : Row) → List·Memᴰ r sorted → r .entry ≡ i)
       pub next : k ≤ room → (v : List ℤ) → v ≡ ordered n (k - n) u → Closing room n₀ all t₀ k (leftRows chart o events (i + 1) k v) v × Grown o m k v
 
     entry-full : room < k → Tried room n₀ all t₀ k u
     entry-full h =
         let w = full-told room n added t k u d (f .most) h in
-        closing-full f sorted (drop (n + length sorted) later) (take (room - n) added) k u left-cut held (omega (arith, w .0, length-sorted added)) (w .1) (omega (arith, f .most, length-take-le (room - n) added (omega (arith, w .0)))) (w .2)
+        let ps : List Row = take (room - n) added in
+        let size : n + length ps ≤ room = omega (arith, f .most, length-take-le (room - n) added (omega (arith, w .0))) in
+        closing-full f sorted (drop (n + length sorted) later) k u left-cut held (omega (arith, w .0, length-sorted added)) (w .1) (ap (take (n * 5)) (w .2) ∙ take-puts n ps t (omega arith)) (ap (drop (room * 5)) (w .2) ∙ drop-puts n (room * 5) ps t (omega arith))
 
     module _ (l : k ≤ room) where
       fits : (n + length added ≤ room) × (k ≡ n + length added) × (u ≡ putRows n added t)
@@ -191,45 +198,57 @@ module _ (chart : Chart) (o : ℤ) (first pending : ℕ) (codes : List ℕ) (few
       entry-alike : Alike n k u
       entry-alike =
           let w = fits in
-          rw (w .1, w .2) (rows-alike i o n added t (λ r h. (added-entry o m n t g i (entryOperator (entryAt chart i)) first pending codes few r h, ending r h .at)) (omega (arith, w .0)))
+          rw (w .1, w .2) (rows-alike i o n added t (λ r h. (entry-of r h, ending r h .at)) (omega (arith, w .0)))
 
-      entry-next : (v : List ℤ) → v ≡ ordered n (k - n) u → Closing room n₀ all t₀ k (leftRows chart o events (i + 1) k v) v × Grown o m k v
-      unfolding leftRows
-      entry-next v z =
+      entry-more : (v : List ℤ) → v ≡ ordered n (k - n) u → (k ≡ n + length sorted) × (v ≡ putRows n sorted t) × (rowsIn k v ≡ rowsIn n t ++ sorted)
+      entry-more v z =
           let w = fits in
           let c : k ≡ n + length sorted = w .1 ∙ ap (λ x. n + x) (sym (length-sorted added)) in
           let many : k - n ≡ length added = omega (arith, w .1) in
           let size : (n + length sorted) * 5 ≤ length t = omega (arith, w .0, length-sorted added) in
           let q : v ≡ putRows n sorted t = z ∙ ap (λ x. ordered n x u) many ∙ ap (ordered n (length added)) (w .2) ∙ rows-ordered n added t (omega (arith, w .0)) in
-          let rows : rowsIn k v ≡ rowsIn n t ++ sorted = rw (c, q) (rows-puts n sorted t size) in
+          (c, q, rw (c, q) (rows-puts n sorted t size))
+
+      entry-next : (v : List ℤ) → v ≡ ordered n (k - n) u → Closing room n₀ all t₀ k (leftRows chart o events (i + 1) k v) v × Grown o m k v
+      unfolding leftRows
+      entry-next v z =
+          let w = entry-more v z in
+          let c : k ≡ n + length sorted = w .0 in
+          let q : v ≡ putRows n sorted t = w .1 in
+          let rows : rowsIn k v ≡ rowsIn n t ++ sorted = w .2 in
+          let size : (n + length sorted) * 5 ≤ length t = omega (arith, fits .0, length-sorted added) in
           let rest : leftRows chart o events (i + 1) k v ≡ drop (n + length sorted) later = rw (rows, c) in (
             subst (λ x. Closing room n₀ all t₀ k x v) (sym rest) (closing-next f sorted (drop (n + length sorted) later) k v left-cut c l q),
             rw (c, q) (grown-more o m n t sorted g (λ r h. ending r (stably-mem startsLater added h)) size),
           )
 
     pub entered : Entered
-    entered = record { full = entry-full; grows = λ l. omega (arith, fits l .1); alike = entry-alike; next = entry-next }
+    entered = record { full = entry-full; grows = λ l. omega (arith, fits l .1); alike = entry-alike; more = λ l v z. (entry-more l v z .2, λ r h. entry-of r (stably-mem startsLater added h)); next = entry-next }
+
+-- the events of the open instant
+abbrev pub eventsIn : WatchState → List Event
+eventsIn w = numbered (w .instant) (suc (w .events - w .pending)) (take (w .pending) (w .codes))
 
 -- the rows after the closing: those before it, and those that were to be appended
-module _ (chart : Chart) (w : WatchState) (t : List ℤ) where
+module _ (chart : Chart) (w : WatchState) (x : ℤ) (t : List ℤ) where
   abbrev n : ℕ
   n = w .rows
 
   abbrev closed : List Row
-  closed = closedRows chart w t
+  closed = closedRows chart w x t
 
   closed-length : length closed ≡ n + length (drop n closed)
   unfolding closedRows
   closed-length =
-      let p = close-more (w .instant) (eventsIn w) (operatorsOf chart) (rowsIn n t) in
+      let p = instants-more (operatorsOf chart) (eventsIn w) (instantsTo (w .instant) x) (w .instant) (rowsIn n t) in
       rw (p .1, drop-at (rowsIn n t) (p .0) n (length-rows n t), length-append, length-rows)
 
   module _ (ready : Ready chart n t) (k : ℕ) (u : List ℤ) where
     abbrev Closed : Type 0
-    Closed = (k ≡ closedNumber chart w t) × (u ≡ closedTable chart w t)
+    Closed = (k ≡ closedNumber chart w x t) × (u ≡ closedTable chart w x t)
 
     abbrev Restored : Type 0
-    Restored = (k ≡ closedNumber chart w t) × (zeroed (n * 5) (roomIn t * 5) u ≡ closedTable chart w t)
+    Restored = (k ≡ closedNumber chart w x t) × (zeroed (n * 5) (roomIn t * 5) u ≡ closedTable chart w x t)
 
     -- all fit
     pub closed-fits : Tried (roomIn t) n (drop n closed) t k u → k ≤ roomIn t → Closed
@@ -249,15 +268,15 @@ module _ (chart : Chart) (w : WatchState) (t : List ℤ) where
         rw l (f .1 ∙ sym (add-one room), zeroed-same (n * 5) (room * 5) u t (f .2) (f .3) ∙ zeroed-again (n * 5) (room * 5) t (omega (arith, ready .fit)) (capacity-fits (length t)) (ready .zeros))
 
 -- For callers: the rows after the closing, and the number and the table by whether they fit
-module _ (chart : Chart) (w : WatchState) (t : List ℤ) where
-  pub closed-is : closedRows chart w t ≡ closeRows (w .instant) (eventsIn w) (operatorsOf chart) (rowsIn (w .rows) t)
+module _ (chart : Chart) (w : WatchState) (x : ℤ) (t : List ℤ) where
+  pub closed-is : closedRows chart w x t ≡ closeInstants (instantsTo (w .instant) x) (w .instant) (eventsIn w) (operatorsOf chart) (rowsIn (w .rows) t)
   unfolding closedRows
   closed-is = refl
 
-  pub number-fits : length (closedRows chart w t) ≤ roomIn t → (closedNumber chart w t ≡ length (closedRows chart w t)) × (closedTable chart w t ≡ putRows (w .rows) (drop (w .rows) (closedRows chart w t)) t)
+  pub number-fits : length (closedRows chart w x t) ≤ roomIn t → (closedNumber chart w x t ≡ length (closedRows chart w x t)) × (closedTable chart w x t ≡ putRows (w .rows) (drop (w .rows) (closedRows chart w x t)) t)
   unfolding closedNumber closedTable
-  number-fits h = rw (le-leb (length (closedRows chart w t)) (roomIn t) h) (refl, refl)
+  number-fits h = rw (le-leb (length (closedRows chart w x t)) (roomIn t) h) (refl, refl)
 
-  pub number-over : roomIn t < length (closedRows chart w t) → (closedNumber chart w t ≡ roomIn t + 1) × (closedTable chart w t ≡ t)
+  pub number-over : roomIn t < length (closedRows chart w x t) → (closedNumber chart w x t ≡ roomIn t + 1) × (closedTable chart w x t ≡ t)
   unfolding closedNumber closedTable
-  number-over h = rw (lt-leb (length (closedRows chart w t)) (roomIn t) h) (refl, refl)
+  number-over h = rw (lt-leb (length (closedRows chart w x t)) (roomIn t) h) (refl, refl)

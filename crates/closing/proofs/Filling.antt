@@ -100,7 +100,7 @@ module _ {room n₀ : ℕ} {all : List Row} {t₀ : List ℤ} {n : ℕ} {t : Lis
 -- what a function that appends asks, in the middle of a loop
 pub appendable : {f : Frame} {n₀ : ℕ} {all : List Row} {t₀ : List ℤ} {n : ℕ} {rest : List Row} {t : List ℤ} → Appendable f n₀ t₀ → Filling (f .room) n₀ all t₀ n rest t → Appendable f n t
 appendable {f} {n₀} {all} {t₀} {n} {rest} {t} a w =
-    let old : (i : ℕ) → i < f .first → cell t i 4 ≡ cell t₀ i 4 = λ i h. w .kept i 4 (omega (arith, a .few, a .inside)) (omega arith) in
+    let old : (i : ℕ) → i < f .end → cell t i 4 ≡ cell t₀ i 4 = λ i h. w .kept i 4 (omega (arith, a .inside)) (omega arith) in
     record {
       fit = w .most;
       most = a .most;

@@ -9,36 +9,53 @@ use mathlib.Core.Logic.{inl, inr}
 use mathlib.Core.Bool.{Bool, true, false, cond, not, _&&_}
 use mathlib.Core.List.{List, [], _∷_, map, List·Memᴰ, List·Memᴰ·head, List·Memᴰ·tail, List·Memᴰ·not-nil, List·Memᴰ·eq-of-singleton, List·Memᴰ·append-cases, Memᴰ·of-map}
 use lib.Dec.{eqb}
-use lib.IntN.{ℤ, pos}
+use lib.IntN.{ℤ, pos, _+ℤ_, _-ℤ_}
 use lib.ListN.{length, getD, take}
 use Rattle.interval.specs.Instants.{eqZ, least, greatest}
 use Rattle.interval.specs.Conditions.{isRelated, endingOf, hasLength}
 use Rattle.interval.specs.declared.Relation.{Relation}
-use Rattle.interval.proofs.Signed.{_≤ᶻ_, lt-true, le-true, is-le, eqZ→}
+use Rattle.interval.proofs.Signed.{_≤ᶻ_, lt-true, is-lt, le-true, is-le, eqZ→, add-fact}
 use Rattle.interval.proofs.Laws.{start-le-end}
-use Rattle.chart.specs.declared.Chart.{Chart}
 use Rattle.model.specs.Lists.{each, numbers}
-use Rattle.model.specs.Recognitions.{Operator, event, related, or, absence, lasting, Arm, left, right}
+use Rattle.model.specs.Recognitions.{Operator, event, related, or, absence, lasting, after, Arm, left, right}
 use Rattle.model.specs.Order.{Row, row, none}
 use Rattle.model.specs.RowSteps.{Node, leaf, part, pair, endsAt, numbered, make, places, nodeRow}
 use Rattle.model.proofs.Sorted.{keep-mem, each-mem}
 use Rattle.model.proofs.Rows.{numbers-mem}
 use Rattle.table.specs.Table.{cell, rowsIn, putRow, putRows}
-use Rattle.table.specs.Ready.{Ready, EndBefore}
+use Rattle.table.proofs.EndParts.{ends-low, ends-few}
 use Rattle.table.proofs.Rows.{length-put, cell-other, cell-put, row-put, puts-none, puts-on}
-use Rattle.closing.specs.Added.{pendingAt, span, when, eventRow, eventRows, partRow, takenRow, takenRows, orRows, isForbidden, absenceRow, absenceRows, topOf, pairRow, rightFrom, pairsOf, pairsWith, leftFrom, pairRows, addedRows}
+use Rattle.closing.specs.Added.{Settled, pendingFrom, span, when, eventRow, eventRows, partRow, takenRow, takenRows, orRows, waitedFrom, waitedTo, delayedRows, isForbidden, absenceRow, absenceRows, topOf, pairRow, rightFrom, pairsOf, pairsWith, leftFrom, pairRows, addedRows}
 use Rattle.closing.proofs.Laws.{left-le, right-le}
-use Rattle.closing.proofs.Derived.{Grown, made-is}
+use Rattle.closing.proofs.Derived.{Grown, ends, all-ordered, made-is}
 
 -- before the first entry
-pub grown-none : (chart : Chart) (o : ℤ) (n : ℕ) (t : List ℤ) → Ready chart n t → EndBefore o n t → Grown o n n t
-grown-none chart o n t r b = record {
+pub grown-none : (o : ℤ) (n : ℕ) (t : List ℤ) → Settled o n t → Grown o n n t
+grown-none o n t r = record {
   few = omega arith;
-  old = λ i h. lt-true (cell t i 4) o (b i h);
+  old = λ i h. lt-true (cell t i 4) o (r .ended i h);
   new = λ i h k. absurd (omega arith);
   proper = λ i h. le-true (cell t i 3) (cell t i 4) (r .proper i h);
   ordered = λ i j h k. le-true (cell t i 4) (cell t j 4) (r .ordered i j h k);
-  above = r .entryAbove;
+  above = r .above;
+}
+
+-- after the last
+pub grown-settled : (o : ℤ) (m n : ℕ) (t : List ℤ) → Grown o m n t → Settled (o +ℤ pos 1) n t
+grown-settled o m n t g = record {
+  above = g .above;
+  proper = λ i h. is-le (cell t i 3) (cell t i 4) (g .proper i h);
+  ordered = all-ordered g;
+  ended = λ i h. is-lt (cell t i 4) (o +ℤ pos 1) (omega (arith, ends g i h, add-fact o (pos 1)));
+}
+
+-- rows that end before an instant end before every later one
+pub settled-later : (o e : ℤ) (n : ℕ) (t : List ℤ) → Settled o n t → o ≤ᶻ e → Settled e n t
+settled-later o e n t s h = record {
+  above = s .above;
+  proper = s .proper;
+  ordered = s .ordered;
+  ended = λ i k. is-lt (cell t i 4) e (omega (arith, lt-true (cell t i 4) o (s .ended i k)));
 }
 
 -- a row that ends at the instant and starts no later
@@ -93,17 +110,20 @@ module _ (o : ℤ) (m n : ℕ) (t : List ℤ) (g : Grown o m n t) (entry : ℕ) 
   abbrev Proper : Row → Type 0
   Proper r = r .start ≤ᶻ r .end
 
-  part-proper : (side : Arm) (i : ℕ) → i < n → Proper (partRow side entry t i)
+  part-proper : (side : Arm) (i : ℕ) → i < n → Proper (partRow side entry o t i)
   unfolding partRow
-  part-proper side i h = g .proper i h
+  part-proper side i h = omega (arith, g .proper i h, ends g i h)
 
   -- each operator whose rows refer to one row
-  parts-proper : (side : Arm) (q : ℕ → Bool) (r : Row) → List·Memᴰ r (each (λ i. when (q i) (partRow side entry t i)) (span m n)) → Proper r
-  parts-proper side q r k =
-      let p = span-mem (λ i. when (q i) (partRow side entry t i)) m n r k (g .few) in
-      subst Proper (sym (when-mem (q (p .0)) (partRow side entry t (p .0)) r (p .2))) (part-proper side (p .0) (p .1))
+  parts-proper : (side : Arm) (q : ℕ → Bool) (a e : ℕ) → a ≤ e → e ≤ n → (r : Row) → List·Memᴰ r (each (λ i. when (q i) (partRow side entry o t i)) (span a e)) → Proper r
+  parts-proper side q a e h l r k =
+      let p = span-mem (λ i. when (q i) (partRow side entry o t i)) a e r k h in
+      subst Proper (sym (when-mem (q (p .0)) (partRow side entry o t (p .0)) r (p .2))) (part-proper side (p .0) (omega (arith, p .1)))
 
-  event-proper : (k first pending : ℕ) (codes : List ℕ) (r : Row) → List·Memᴰ r (eventRows entry k (pendingAt o first pending) codes) → Proper r
+  news-proper : (side : Arm) (q : ℕ → Bool) (r : Row) → List·Memᴰ r (each (λ i. when (q i) (partRow side entry o t i)) (span m n)) → Proper r
+  news-proper side q = parts-proper side q m n (g .few) (omega arith)
+
+  event-proper : (k first pending : ℕ) (codes : List ℕ) (r : Row) → List·Memᴰ r (eventRows entry o k (pendingFrom first pending) codes) → Proper r
   unfolding eventRows eventRow
   event-proper k first pending codes r w =
       let p = each-mem (λ j. when (eqb (getD codes j 0) k) (row entry (pos (first + j)) none o o)) (span 0 pending) w in
@@ -134,24 +154,25 @@ module _ (o : ℤ) (m n : ℕ) (t : List ℤ) (g : Grown o m n t) (entry : ℕ) 
   abbrev isOf : ℕ → ℕ → Bool
   isOf a i = eqZ (cell t i 0) (pos a)
 
-  added-proper : (op : Operator) (first pending : ℕ) (codes : List ℕ) (r : Row) → List·Memᴰ r (addedRows op entry (pendingAt o first pending) codes m n t) → Proper r
-  unfolding addedRows orRows takenRows takenRow absenceRows absenceRow
+  added-proper : (op : Operator) (first pending : ℕ) (codes : List ℕ) (r : Row) → List·Memᴰ r (addedRows op entry o (pendingFrom first pending) codes m n t) → Proper r
+  unfolding addedRows orRows delayedRows takenRows takenRow absenceRows absenceRow
   added-proper (event k) first pending codes r w = event-proper k first pending codes r w
   added-proper (related c a b) first pending codes r w = pairs-proper c (pos a) (pos b) r w
-  added-proper (or a b) first pending codes r w = elim (List·Memᴰ·append-cases (each (λ i. when (isOf a i && true) (partRow left entry t i)) (span m n)) w) [ inl k ↦ parts-proper left (λ i. isOf a i && true) r k | inr k ↦ parts-proper right (λ i. isOf b i && true) r k ]
-  added-proper (absence e a b) first pending codes r w = parts-proper left (λ i. isOf a i && not (isForbidden e (pos b) (cell t i 3) (cell t i 4) t (topOf (pos b) n t))) r w
-  added-proper (lasting c a d) first pending codes r w = parts-proper left (λ i. isOf a i && hasLength c d (cell t i 3) (cell t i 4)) r w
+  added-proper (or a b) first pending codes r w = elim (List·Memᴰ·append-cases (each (λ i. when (isOf a i && true) (partRow left entry o t i)) (span m n)) w) [ inl k ↦ news-proper left (λ i. isOf a i && true) r k | inr k ↦ news-proper right (λ i. isOf b i && true) r k ]
+  added-proper (absence e a b) first pending codes r w = news-proper left (λ i. isOf a i && not (isForbidden e (pos b) (cell t i 3) (cell t i 4) t (topOf (pos b) n t))) r w
+  added-proper (lasting c a d) first pending codes r w = news-proper left (λ i. isOf a i && hasLength c d (cell t i 3) (cell t i 4)) r w
+  added-proper (after a d) first pending codes r w = parts-proper left (λ i. isOf a i && true) (waitedFrom o d n t) (waitedTo o d n t) (ends-low (o -ℤ pos d) n t) (ends-few (o -ℤ pos d) n t) r w
 
   -- what an entry adds is what it makes of the rows there are
-  added-made : (op : Operator) (first pending : ℕ) (codes : List ℕ) → pending ≤ length codes → (r : Row) → List·Memᴰ r (addedRows op entry (pendingAt o first pending) codes m n t) → List·Memᴰ r (map (nodeRow (rowsIn n t) entry) (nodes op first pending codes)) × (r .end ≡ o)
+  added-made : (op : Operator) (first pending : ℕ) (codes : List ℕ) → pending ≤ length codes → (r : Row) → List·Memᴰ r (addedRows op entry o (pendingFrom first pending) codes m n t) → List·Memᴰ r (map (nodeRow (rowsIn n t) entry) (nodes op first pending codes)) × (r .end ≡ o)
   added-made op first pending codes h r w =
       let k = keep-mem (λ x. endsAt o (x .start) (x .end)) (map (nodeRow (rowsIn n t) entry) (nodes op first pending codes)) (subst (List·Memᴰ r) (sym (made-is o m n t g entry op first pending codes h)) w) in
       (k .0, eqZ→ (r .end) o (k .1))
 
-  pub added-entry : (op : Operator) (first pending : ℕ) (codes : List ℕ) → pending ≤ length codes → (r : Row) → List·Memᴰ r (addedRows op entry (pendingAt o first pending) codes m n t) → r .entry ≡ entry
+  pub added-entry : (op : Operator) (first pending : ℕ) (codes : List ℕ) → pending ≤ length codes → (r : Row) → List·Memᴰ r (addedRows op entry o (pendingFrom first pending) codes m n t) → r .entry ≡ entry
   added-entry op first pending codes h r w =
       let q = Memᴰ·of-map (nodeRow (rowsIn n t) entry) (nodes op first pending codes) (added-made op first pending codes h r w .0) in
       sym (ap (λ x. x .entry) (q .2)) ∙ node-entry (rowsIn n t) entry (q .0)
 
-  pub added-ending : (op : Operator) (first pending : ℕ) (codes : List ℕ) → pending ≤ length codes → (r : Row) → List·Memᴰ r (addedRows op entry (pendingAt o first pending) codes m n t) → Ending o r
+  pub added-ending : (op : Operator) (first pending : ℕ) (codes : List ℕ) → pending ≤ length codes → (r : Row) → List·Memᴰ r (addedRows op entry o (pendingFrom first pending) codes m n t) → Ending o r
   added-ending op first pending codes h r w = record { at = added-made op first pending codes h r w .1; proper = added-proper op first pending codes r w }

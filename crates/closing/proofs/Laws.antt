@@ -32,13 +32,13 @@ within-at start t (suc j) h = let e : suc j - 1 ≡ j = omega arith in rw e
 
 -- tables whose first n rows agree: each of them makes the same
 module _ (n : ℕ) (t u : List ℤ) (k : Kept n t u) (entry : ℕ) where
-  pub taken-same : (side : Arm) (a : ℤ) (c : Taken) (i : ℕ) → i < n → takenRow side entry a c t i ≡ takenRow side entry a c u i
+  pub taken-same : (o : ℤ) (side : Arm) (a : ℤ) (c : Taken) (i : ℕ) → i < n → takenRow side entry o a c t i ≡ takenRow side entry o a c u i
   unfolding takenRow partRow
-  taken-same side a c i h = rw (k i 0 h (omega arith), k i 3 h (omega arith), k i 4 h (omega arith))
+  taken-same o side a c i h = rw (k i 0 h (omega arith), k i 3 h (omega arith), k i 4 h (omega arith))
 
-  pub takens-same : (side : Arm) (a : ℤ) (c : Taken) (m e : ℕ) → e ≤ n → takenRows side entry a c m e t ≡ takenRows side entry a c m e u
+  pub takens-same : (o : ℤ) (side : Arm) (a : ℤ) (c : Taken) (m e : ℕ) → e ≤ n → takenRows side entry o a c m e t ≡ takenRows side entry o a c m e u
   unfolding takenRows
-  takens-same side a c m e h = span-same (takenRow side entry a c t) (takenRow side entry a c u) m e (λ i p q. taken-same side a c i (omega arith))
+  takens-same o side a c m e h = span-same (takenRow side entry o a c t) (takenRow side entry o a c u) m e (λ i p q. taken-same o side a c i (omega arith))
 
   pub forbids-same : (e : Edges) (b start end : ℤ) (j : ℕ) → j < n → forbids e b start end t j ≡ forbids e b start end u j
   unfolding forbids
@@ -49,9 +49,9 @@ module _ (n : ℕ) (t u : List ℤ) (k : Kept n t u) (entry : ℕ) where
   forbidden-same e b start end zero h = refl
   forbidden-same e b start end (suc j) h = rw (k j 4 (omega arith) (omega arith), forbids-same e b start end j (omega arith), forbidden-same e b start end j (omega arith))
 
-  pub absence-same : (e : Edges) (a b : ℤ) (top i : ℕ) → top ≤ n → i < n → absenceRow e entry a b top t i ≡ absenceRow e entry a b top u i
+  pub absence-same : (o : ℤ) (e : Edges) (a b : ℤ) (top i : ℕ) → top ≤ n → i < n → absenceRow e entry o a b top t i ≡ absenceRow e entry o a b top u i
   unfolding absenceRow partRow
-  absence-same e a b top i g h = rw (k i 0 h (omega arith), k i 3 h (omega arith), k i 4 h (omega arith), forbidden-same e b (cell u i 3) (cell u i 4) top g)
+  absence-same o e a b top i g h = rw (k i 0 h (omega arith), k i 3 h (omega arith), k i 4 h (omega arith), forbidden-same e b (cell u i 3) (cell u i 4) top g)
 
   pub pair-same : (c : Relation) (b : ℤ) (r : ℕ) (start end : ℤ) (s : ℕ) → s < n → pairRow c entry b r start end t s ≡ pairRow c entry b r start end u s
   unfolding pairRow
@@ -167,16 +167,16 @@ module _ (e : Edges) (b start end : ℤ) (t : List ℤ) where
   forbidden-end (suc j) h = rw h
 
 -- a candidate i that is none of a, is forbidden, or stands
-module _ (e : Edges) (entry : ℕ) (a b : ℤ) (n : ℕ) (t : List ℤ) (i : ℕ) where
-  pub absence-other : eqZ (cell t i 0) a ≡ false → absenceRow e entry a b n t i ≡ []
+module _ (e : Edges) (entry : ℕ) (o a b : ℤ) (n : ℕ) (t : List ℤ) (i : ℕ) where
+  pub absence-other : eqZ (cell t i 0) a ≡ false → absenceRow e entry o a b n t i ≡ []
   unfolding absenceRow
   absence-other h = rw h
 
   module _ (start end : ℤ) (s : start ≡ cell t i 3) (z : end ≡ cell t i 4) (h : eqZ (cell t i 0) a ≡ true) where
-    pub absence-forbidden : isForbidden e b start end t n ≡ true → absenceRow e entry a b n t i ≡ []
+    pub absence-forbidden : isForbidden e b start end t n ≡ true → absenceRow e entry o a b n t i ≡ []
     unfolding absenceRow
     absence-forbidden g = rw (h, rw (s, z) at g)
 
-    pub absence-stands : isForbidden e b start end t n ≡ false → partRow left entry t i ∷ [] ≡ absenceRow e entry a b n t i
+    pub absence-stands : isForbidden e b start end t n ≡ false → partRow left entry o t i ∷ [] ≡ absenceRow e entry o a b n t i
     unfolding absenceRow
     absence-stands g = rw (h, rw (s, z) at g)

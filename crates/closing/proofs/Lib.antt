@@ -5,3 +5,5 @@ pub mod Derived
 pub mod Laws
 pub mod Growth
 pub mod Entries
+pub mod Instants
+pub mod Waits

@@ -6,7 +6,7 @@ use native.Mathlib.Nat.{zero-add, add-zero}
 use native.Mathlib.Numerals.{add-one}
 use mathlib.Core.Path.{_≡_, refl, sym, ap, ap₂, _∙_}
 use mathlib.Core.Bool.{Bool, true, false, cond, _&&_, _||_}
-use mathlib.Core.List.{List, [], _∷_, _++_, map, map-append, append-assoc}
+use mathlib.Core.List.{List, [], _∷_, _++_, map, map-append, append-assoc, append-nil}
 use native.Mathlib.Decide.{ℕ-discrete}
 use lib.IntN.{ℤ}
 use lib.ListN.{length, getD}
@@ -33,6 +33,9 @@ module _ {B : Type 0} where
       let d : suc a + k ≡ a + suc k = omega arith in
       rw e (ap (λ x. f a ++ x) (each-cut f (suc a) k l ∙ rw d) ∙ sym (append-assoc (f a) (each f (numbers (suc a) k)) (each f (numbers (a + suc k) l))))
 
+  pub each-last : (f : ℕ → List B) (k : ℕ) → each f (numbers 0 (k + 1)) ≡ each f (numbers 0 k) ++ f k
+  each-last f k = each-cut f 0 k 1 ∙ rw (zero-add k) (ap (λ x. each f (numbers 0 k) ++ x) (append-nil (f k)))
+
   -- a span with nothing in it; its first number taken off
   pub each-none : (f : ℕ → List B) (i e : ℕ) → e ≤ i → each f (span i e) ≡ []
   each-none f i e h = let z : e - i ≡ 0 = omega arith in rw z
@@ -57,6 +60,12 @@ module _ {B : Type 0} where
       let e : n - i ≡ (k - i) + (n - k) = omega arith in
       let d : i + (k - i) ≡ k = omega arith in
       rw e (each-cut f i (k - i) (n - k) ∙ rw (each-empty f i (k - i) (λ j p q. z j p (omega arith)), d))
+
+  pub each-upto : (f : ℕ → List B) (i k n : ℕ) → i ≤ k → k ≤ n → ((j : ℕ) → k ≤ j → j < n → f j ≡ []) → each f (span i n) ≡ each f (span i k)
+  each-upto f i k n h g z =
+      let e : n - i ≡ (k - i) + (n - k) = omega arith in
+      let d : i + (k - i) ≡ k = omega arith in
+      rw e (each-cut f i (k - i) (n - k) ∙ rw (d, each-none-of f k n z) (append-nil (each f (span i k))))
 
   pub each-nothing : (f : ℕ → List B) (n : ℕ) → ((i : ℕ) → i < n → f i ≡ []) → each f (numbers 0 n) ≡ []
   each-nothing f n z = each-empty f 0 n (λ i p q. z i (omega arith))

@@ -7,7 +7,7 @@ use mathlib.Core.Logic.{_⊎_}
 use mathlib.Core.Bool.{Bool, true, false, cond, not, _&&_, _||_}
 use mathlib.Core.List.{List, [], _∷_, _++_}
 use lib.Dec.{eqb, leb, ltb}
-use lib.IntN.{ℤ, pos, natAbs}
+use lib.IntN.{ℤ, pos, natAbs, _-ℤ_}
 use lib.ListN.{length, getD, take, drop}
 use lib.Signed.{leZ}
 use Rattle.interval.specs.Instants.{eqZ, least, greatest}
@@ -17,10 +17,12 @@ use Rattle.interval.specs.declared.Ending.{Ending}
 use Rattle.interval.specs.declared.Ending.the-variants.{Before, Within, Together, Either}
 use Rattle.interval.specs.declared.Edges.{Edges}
 use Rattle.model.specs.Lists.{each, numbers}
-use Rattle.model.specs.Recognitions.{Operator, event, related, or, absence, lasting, Arm, left, right}
+use Rattle.model.specs.Recognitions.{Event, Operator, event, related, or, absence, lasting, after, Arm, left, right}
 use Rattle.model.specs.Order.{Row, row, none, leftOf, rightOf}
 use Rattle.table.specs.Table.{cell, storedRow, fill, putRows}
-use Rattle.table.specs.Ends.{Ordered, endingBefore}
+use Rattle.model.specs.RowSteps.{numbered}
+use Rattle.table.specs.Ends.{Ordered, endingBefore, countEnding}
+use Rattle.table.specs.Ready.{EndBefore}
 use Rattle.table.specs.declared.Row as stored
 use Rattle.closing.specs.declared.Frame.{Frame}
 use Rattle.closing.specs.declared.Pending.{Pending}
@@ -37,7 +39,14 @@ pub record Appendable (f : Frame) (n : ℕ) (t : List ℤ) : Type 0 where
   pub low : natAbs (f .entry) < 32
   pub few : f .first ≤ f .end
   pub inside : f .end ≤ n
-  pub ordered : Ordered (f .first) t
+  pub ordered : Ordered (f .end) t
+
+-- n rows that end before o, in the order of their ends: what closing o asks of them
+pub record Settled (o : ℤ) (n : ℕ) (t : List ℤ) : Type 0 where
+  pub above : (i : ℕ) → i < n → leZ (pos 0) (cell t i 0) ≡ true
+  pub proper : (i : ℕ) → i < n → leZ (cell t i 3) (cell t i 4) ≡ true
+  pub ordered : Ordered n t
+  pub ended : EndBefore o n t
 
 -- the rows rs were appended to the n rows of the table t, as far as there was room: the count k and the table u after it
 abbrev pub FilledBy : ℕ → ℕ → List Row → List ℤ → ℕ → List ℤ → Type 0
@@ -65,8 +74,11 @@ pub record SerialsFit (p : Pending) : Type 0 where
   pub few : p .count ≤ 64
   pub most : p .first + p .count ≤ 1000001
 
-abbrev pub pendingAt : ℤ → ℕ → ℕ → Pending
-pendingAt o first count = record { instant = o; first = first; count = count }
+abbrev pub pendingFrom : ℕ → ℕ → Pending
+pendingFrom first count = record { first = first; count = count }
+
+abbrev pub eventsAt : ℤ → Pending → List ℕ → List Event
+eventsAt o p codes = numbered o (p .first) (take (p .count) codes)
 
 abbrev pub serialRow : ℕ → ℤ → ℕ → Row
 serialRow entry o serial = row entry (pos serial) none o o
@@ -74,21 +86,21 @@ serialRow entry o serial = row entry (pos serial) none o o
 unfoldable pub eventRow : ℕ → ℕ → ℤ → ℕ → ℕ → List Row
 eventRow entry k o code serial = when (eqb code k) (serialRow entry o serial)
 
-unfoldable pub eventRows : ℕ → ℕ → Pending → List ℕ → List Row
-eventRows entry k p codes = each (λ j. eventRow entry k (p .instant) (getD codes j 0) (p .first + j)) (span 0 (p .count))
+unfoldable pub eventRows : ℕ → ℤ → ℕ → Pending → List ℕ → List Row
+eventRows entry o k p codes = each (λ j. eventRow entry k o (getD codes j 0) (p .first + j)) (span 0 (p .count))
 
--- a row that refers to row i alone
+-- a row that refers to row i alone; it ends at the instant o
 abbrev pub armOf : Bool → Arm
 armOf true = right
 armOf false = left
 
 abbrev pub partOf : Arm → Frame → stored.Row → ℕ → stored.Row
-partOf m f r i = record { entry = f .entry; left = leftOf m i; right = rightOf m i; start = r .start; end = r .end }
+partOf m f r i = record { entry = f .entry; left = leftOf m i; right = rightOf m i; start = r .start; end = f .instant }
 
-unfoldable pub partRow : Arm → ℕ → List ℤ → ℕ → Row
-partRow m entry t i = row entry (leftOf m i) (rightOf m i) (cell t i 3) (cell t i 4)
+unfoldable pub partRow : Arm → ℕ → ℤ → List ℤ → ℕ → Row
+partRow m entry o t i = row entry (leftOf m i) (rightOf m i) (cell t i 3) o
 
--- an arm of or, and a length test: the new rows that are taken
+-- an arm of or, a length test, a delay: the rows from m to before n that are taken
 abbrev pub isLong : Taken → ℤ → ℤ → Bool
 isLong All s e = true
 isLong (Lasting c d) s e = hasLength c d s e
@@ -96,14 +108,24 @@ isLong (Lasting c d) s e = hasLength c d s e
 abbrev pub isTaken : ℤ → Taken → stored.Row → Bool
 isTaken a k r = eqZ (r .entry) a && isLong k (r .start) (r .end)
 
-unfoldable pub takenRow : Arm → ℕ → ℤ → Taken → List ℤ → ℕ → List Row
-takenRow side entry a k t i = when (isTaken a k (storedRow t i)) (partRow side entry t i)
+unfoldable pub takenRow : Arm → ℕ → ℤ → ℤ → Taken → List ℤ → ℕ → List Row
+takenRow side entry o a k t i = when (isTaken a k (storedRow t i)) (partRow side entry o t i)
 
-unfoldable pub takenRows : Arm → ℕ → ℤ → Taken → ℕ → ℕ → List ℤ → List Row
-takenRows side entry a k m n t = each (takenRow side entry a k t) (span m n)
+unfoldable pub takenRows : Arm → ℕ → ℤ → ℤ → Taken → ℕ → ℕ → List ℤ → List Row
+takenRows side entry o a k m n t = each (takenRow side entry o a k t) (span m n)
 
-unfoldable pub orRows : ℕ → ℤ → ℤ → ℕ → ℕ → List ℤ → List Row
-orRows entry a b m n t = takenRows left entry a All m n t ++ takenRows right entry b All m n t
+unfoldable pub orRows : ℕ → ℤ → ℤ → ℤ → ℕ → ℕ → List ℤ → List Row
+orRows entry o a b m n t = takenRows left entry o a All m n t ++ takenRows right entry o b All m n t
+
+-- a delay: of all n rows those of a that end d before the instant
+abbrev pub waitedFrom : ℤ → ℕ → ℕ → List ℤ → ℕ
+waitedFrom o d n t = countEnding false n (o -ℤ pos d) t
+
+abbrev pub waitedTo : ℤ → ℕ → ℕ → List ℤ → ℕ
+waitedTo o d n t = countEnding true n (o -ℤ pos d) t
+
+unfoldable pub delayedRows : ℕ → ℤ → ℤ → ℕ → ℕ → List ℤ → List Row
+delayedRows entry o a d n t = takenRows left entry o a All (waitedFrom o d n t) (waitedTo o d n t) t
 
 -- an absence: whether row j forbids an interval; whether the row before place j is there and ends at `start` or later; and whether one of
 -- the rows before place j forbids the interval, searched backwards as long as they end at its start or later
@@ -128,11 +150,11 @@ pub record SameTop (b : ℤ) (n : ℕ) (t : List ℤ) (k : ℕ) : Type 0 where
   pub most : k ≤ n
   pub same : topOf b k t ≡ topOf b n t
 
-unfoldable pub absenceRow : Edges → ℕ → ℤ → ℤ → ℕ → List ℤ → ℕ → List Row
-absenceRow e entry a b top t i = when (eqZ (cell t i 0) a && not (isForbidden e b (cell t i 3) (cell t i 4) t top)) (partRow left entry t i)
+unfoldable pub absenceRow : Edges → ℕ → ℤ → ℤ → ℤ → ℕ → List ℤ → ℕ → List Row
+absenceRow e entry o a b top t i = when (eqZ (cell t i 0) a && not (isForbidden e b (cell t i 3) (cell t i 4) t top)) (partRow left entry o t i)
 
-unfoldable pub absenceRows : Edges → ℕ → ℤ → ℤ → ℕ → ℕ → List ℤ → List Row
-absenceRows e entry a b m n t = each (absenceRow e entry a b (topOf b n t) t) (span m n)
+unfoldable pub absenceRows : Edges → ℕ → ℤ → ℤ → ℤ → ℕ → ℕ → List ℤ → List Row
+absenceRows e entry o a b m n t = each (absenceRow e entry o a b (topOf b n t) t) (span m n)
 
 -- two operands: the pairs in which one row or both end at the instant
 abbrev pub isWanted : Wanted → stored.Row → Bool
@@ -197,10 +219,11 @@ leftFrom e b m n t = leftBy e (ltb (nextRow b m n t) n) b m n t
 unfoldable pub pairRows : Relation → ℕ → ℤ → ℤ → ℕ → ℕ → List ℤ → List Row
 pairRows c entry a b m n t = each (pairsWith c entry a b m n t) (span (leftFrom (endingOf c) b m n t) n)
 
--- by the operator
-unfoldable pub addedRows : Operator → ℕ → Pending → List ℕ → ℕ → ℕ → List ℤ → List Row
-addedRows (event k) entry p codes m n t = eventRows entry k p codes
-addedRows (related c a b) entry p codes m n t = pairRows c entry (pos a) (pos b) m n t
-addedRows (or a b) entry p codes m n t = orRows entry (pos a) (pos b) m n t
-addedRows (absence e a b) entry p codes m n t = absenceRows e entry (pos a) (pos b) m n t
-addedRows (lasting c a d) entry p codes m n t = takenRows left entry (pos a) (Lasting c d) m n t
+-- by the operator, o being the instant that is closed
+unfoldable pub addedRows : Operator → ℕ → ℤ → Pending → List ℕ → ℕ → ℕ → List ℤ → List Row
+addedRows (event k) entry o p codes m n t = eventRows entry o k p codes
+addedRows (related c a b) entry o p codes m n t = pairRows c entry (pos a) (pos b) m n t
+addedRows (or a b) entry o p codes m n t = orRows entry o (pos a) (pos b) m n t
+addedRows (absence e a b) entry o p codes m n t = absenceRows e entry o (pos a) (pos b) m n t
+addedRows (lasting c a d) entry o p codes m n t = takenRows left entry o (pos a) (Lasting c d) m n t
+addedRows (after a d) entry o p codes m n t = delayedRows entry o (pos a) d n t

@@ -1,21 +1,26 @@
-// Closing one instant of the watch: entry by entry, the rows that end at it are appended to the table. A row that is made refers to a row
-// that ends at the instant, so the searches begin at the first of those wherever the operator lets them. What reads or appends one row takes
-// constant time; each other function says what it looks at.
+// Closing instants of the watch, the open one and then each later one at which a delayed row is due: entry by entry, the rows that end at the
+// instant are appended to the table. A row that is made refers to a row that ends at the instant, or, being delayed, to one that ended so long
+// before: the searches begin there wherever the operator lets them. What reads or appends one row takes constant time; each other
+// function says what it looks at.
 ghost use mathlib.Core.Path.{_≡_};
 ghost use mathlib.Core.List.{[], _∷_};
 ghost use Prim.Native.Nat.{_+_, _*_, _≤_, _<_};
 ghost use lib.Dec.{eqb};
-ghost use lib.IntN.{natAbs};
+ghost use lib.IntN.{pos, natAbs, _+ℤ_};
 ghost use lib.ListN.{length, drop};
+ghost use lib.Signed.{leZ, ltZ};
 ghost use mathlib.Core.Bool.{true};
 ghost use Rattle.interval.specs.Instants.{eqZ};
 ghost use Rattle.interval.specs.Conditions.{endingOf};
-ghost use Rattle.chart.specs.Charts.{entryFits};
+ghost use Rattle.chart.specs.Charts.{isUsable, entryFits};
 ghost use Rattle.model.specs.Capacity.{capacity};
-ghost use Rattle.table.specs.Table.{cell, storedRow};
+ghost use Rattle.model.specs.Recognitions.{after};
+ghost use Rattle.model.specs.RowSteps.{closeRows, delayedEnds, dueEnds};
+ghost use Rattle.model.specs.Statements.{NextDue};
+ghost use Rattle.table.specs.Table.{cell, storedRow, rowsIn};
 ghost use Rattle.table.specs.Ends.{Ordered, endingBefore};
-ghost use Rattle.table.specs.Operators.{entryOperator};
-ghost use Rattle.closing.specs.Added.{Appendable, Appended, Tried, SerialsFit, serialRow, eventRows, armOf, partOf, partRow, isTaken, takenRow, takenRows, orRows, forbids, isWithin, absenceRows, topOf, SameTop, nextRow, Passed, leastStart, isWanted, pairOf, pairRow, rightFrom, pairsOf, leftFrom, pairRows, addedRows};
+ghost use Rattle.table.specs.Operators.{operatorsOf, entryOperator};
+ghost use Rattle.closing.specs.Added.{Appendable, Settled, Appended, Tried, SerialsFit, serialRow, eventsAt, eventRows, armOf, partOf, partRow, isTaken, takenRow, takenRows, orRows, delayedRows, forbids, isWithin, absenceRows, topOf, SameTop, nextRow, Passed, leastStart, isWanted, pairOf, pairRow, rightFrom, pairsOf, leftFrom, pairRows, addedRows};
 ghost use Rattle.closing.specs.Closed.{Closable, closedRows, closedNumber, closedTable};
 use chart::Chart;
 use chart::Entry;
@@ -28,20 +33,33 @@ use state::WatchState;
 use table::Row;
 
 // Where rows of an entry are appended: the rows before `first` end before the instant that is closed; those from there to before `end` end
-// at it and are of lower entries; `room` rows fit in all.
+// at it and are of lower entries; `room` rows fit in all. For a delay the rows from `first` to before `end` are those that ended so long before.
 struct Frame {
     first: usize,
     end: usize,
     room: usize,
     entry: i32,
+    instant: i32,
+}
+
+// The instant that is closed, and the clock mark before which all are.
+struct Jump {
+    instant: i32,
+    mark: i32,
 }
 
 // The events of the instant that is closed: the serial of the first and how many there are. Their codes are lent beside, since an array in
 // a struct would be copied at each call.
 struct Pending {
-    instant: i32,
     first: usize,
     count: usize,
+}
+
+// What the entries so far have made: how many rows there are, and the first end behind the instant that a delay among them makes, or the mark if none
+// is before it.
+struct Made {
+    rows: usize,
+    next: i32,
 }
 
 // Which rows of one operand make a row: all of them, or those that last so long.
@@ -66,16 +84,16 @@ fn has_code(code: u8, k: u32) -> bool
     code as u32 == k
 }
 
-fn push_event(t: &mut [i32], n: usize, f: Frame, instant: i32, serial: usize) -> usize
+fn push_event(t: &mut [i32], n: usize, f: Frame, serial: usize) -> usize
     requires { ⌜ (Appendable f n (now t)) × (serial ≤ 1000000) ⌝ }
-    ensures { λ r. ⌜ Appended f n (serialRow (natAbs (f .entry)) instant serial ∷ []) (now (t .entry)) r (now (t .exit)) ⌝ }
+    ensures { λ r. ⌜ Appended f n (serialRow (natAbs (f .entry)) (f .instant) serial ∷ []) (now (t .entry)) r (now (t .exit)) ⌝ }
 {
     let row = Row {
         entry: f.entry,
         left: serial as i32,
         right: -1,
-        start: instant,
-        end: instant,
+        start: f.instant,
+        end: f.instant,
     };
     table::push_row(t, n, f.room, row)
 }
@@ -83,7 +101,7 @@ fn push_event(t: &mut [i32], n: usize, f: Frame, instant: i32, serial: usize) ->
 // event: a row for each pending event of code k. One look at each event.
 fn event_rows(t: &mut [i32], n: usize, f: Frame, k: u32, p: Pending, codes: &[u8; 64]) -> usize
     requires { ⌜ (Appendable f n (now t)) × SerialsFit p ⌝ }
-    ensures { λ r. ⌜ Appended f n (eventRows (natAbs (f .entry)) k p (now (codes .entry))) (now (t .entry)) r (now (t .exit)) ⌝ }
+    ensures { λ r. ⌜ Appended f n (eventRows (natAbs (f .entry)) (f .instant) k p (now (codes .entry))) (now (t .entry)) r (now (t .exit)) ⌝ }
 {
     let room = f.room;
     let pending = p.count;
@@ -94,7 +112,7 @@ fn event_rows(t: &mut [i32], n: usize, f: Frame, k: u32, p: Pending, codes: &[u8
         j += 1;
         let code = codes[at];
         if has_code(code, k) {
-            count = push_event(t, count, f, p.instant, p.first + at);
+            count = push_event(t, count, f, p.first + at);
             if room < count {
                 return count;
             }
@@ -103,13 +121,15 @@ fn event_rows(t: &mut [i32], n: usize, f: Frame, k: u32, p: Pending, codes: &[u8
     count
 }
 
-// The row that refers to row i alone, as its second operand or as its first; `part` is that row.
+// The row that refers to row i alone, as its second operand or as its first; `part` is that row. It ends at the instant, as the part does
+// or, if it is delayed, later.
 fn part_of(f: Frame, part: Row, i: usize, second: bool) -> Row
     requires { ⌜ i < 65535 ⌝ }
     ensures { λ r. ⌜ r ≡ partOf (armOf second) f part i ⌝ }
 {
     let mut row = part;
     row.entry = f.entry;
+    row.end = f.instant;
     if second {
         row.left = -1;
         row.right = i as i32;
@@ -122,7 +142,7 @@ fn part_of(f: Frame, part: Row, i: usize, second: bool) -> Row
 
 fn push_part(t: &mut [i32], n: usize, f: Frame, i: usize, second: bool) -> usize
     requires { ⌜ (Appendable f n (now t)) × (i < n) ⌝ }
-    ensures { λ r. ⌜ Appended f n (partRow (armOf second) (natAbs (f .entry)) (now (t .entry)) i ∷ []) (now (t .entry)) r (now (t .exit)) ⌝ }
+    ensures { λ r. ⌜ Appended f n (partRow (armOf second) (natAbs (f .entry)) (f .instant) (now (t .entry)) i ∷ []) (now (t .entry)) r (now (t .exit)) ⌝ }
 {
     let part = table::row_at(t, i);
     let row = part_of(f, part, i, second);
@@ -153,7 +173,7 @@ fn push_taken(
     i: usize,
 ) -> usize
     requires { ⌜ (Appendable f n (now t)) × (i < n) ⌝ }
-    ensures { λ r. ⌜ Appended f n (takenRow (armOf second) (natAbs (f .entry)) a taken (now (t .entry)) i) (now (t .entry)) r (now (t .exit)) ⌝ }
+    ensures { λ r. ⌜ Appended f n (takenRow (armOf second) (natAbs (f .entry)) (f .instant) a taken (now (t .entry)) i) (now (t .entry)) r (now (t .exit)) ⌝ }
 {
     let row = table::row_at(t, i);
     if is_taken(a, taken, row) {
@@ -162,10 +182,10 @@ fn push_taken(
     n
 }
 
-// One arm of `or`, or a length test: a row for each new row of the operand that is taken. One look at each new row.
+// One arm of `or`, a length test, or a delay: a row for each of the frame's rows that is one of the operand and taken. One look at each of them.
 fn taken_rows(t: &mut [i32], n: usize, f: Frame, a: i32, taken: Taken, second: bool) -> usize
     requires { ⌜ Appendable f n (now t) ⌝ }
-    ensures { λ r. ⌜ Appended f n (takenRows (armOf second) (natAbs (f .entry)) a taken (f .first) (f .end) (now (t .entry))) (now (t .entry)) r (now (t .exit)) ⌝ }
+    ensures { λ r. ⌜ Appended f n (takenRows (armOf second) (natAbs (f .entry)) (f .instant) a taken (f .first) (f .end) (now (t .entry))) (now (t .entry)) r (now (t .exit)) ⌝ }
 {
     let end = f.end;
     let room = f.room;
@@ -184,13 +204,45 @@ fn taken_rows(t: &mut [i32], n: usize, f: Frame, a: i32, taken: Taken, second: b
 // or: the left arm first. Two looks at each new row.
 fn or_rows(t: &mut [i32], n: usize, f: Frame, a: i32, b: i32) -> usize
     requires { ⌜ Appendable f n (now t) ⌝ }
-    ensures { λ r. ⌜ Appended f n (orRows (natAbs (f .entry)) a b (f .first) (f .end) (now (t .entry))) (now (t .entry)) r (now (t .exit)) ⌝ }
+    ensures { λ r. ⌜ Appended f n (orRows (natAbs (f .entry)) (f .instant) a b (f .first) (f .end) (now (t .entry))) (now (t .entry)) r (now (t .exit)) ⌝ }
 {
     let count = taken_rows(t, n, f, a, Taken::All, false);
     if f.room < count {
         return count;
     }
     taken_rows(t, count, f, b, Taken::All, true)
+}
+
+// after: a row for each row of a that ended d before the instant, also an old one. Two binary searches, and one look at each row that ended then.
+fn delayed_rows(t: &mut [i32], n: usize, f: Frame, a: i32, d: u32) -> usize
+    requires { ⌜ Appendable f n (now t) ⌝ }
+    ensures { λ r. ⌜ Appended f n (delayedRows (natAbs (f .entry)) (f .instant) a d (f .end) (now (t .entry))) (now (t .entry)) r (now (t .exit)) ⌝ }
+{
+    let from = interval::earlier_by(f.instant, d);
+    let waited = Frame {
+        first: table::count_ending(t, f.end, from, false),
+        end: table::count_ending(t, f.end, from, true),
+        room: f.room,
+        entry: f.entry,
+        instant: f.instant,
+    };
+    taken_rows(t, n, waited, a, Taken::All, false)
+}
+
+// The first end behind `last` of a wait of d that a row of a began, or the limit if none is before it. A binary search, and one look at each row
+// from there to the next one of a.
+fn next_end(t: &[i32], n: usize, a: i32, d: u32, last: i32, limit: i32) -> i32
+    requires { ⌜ Settled (last +ℤ pos 1) n (now t) × (n * 5 ≤ length (now t)) × (ltZ last limit ≡ true) × (leZ (pos 0) a ≡ true) ⌝ }
+    ensures { λ r. ⌜ NextDue (delayedEnds (rowsIn n (now (t .entry))) (after (natAbs a) d)) (last +ℤ pos 1) limit r ⌝ }
+{
+    let from = interval::earlier_by(last, d);
+    let first = table::count_ending(t, n, from, true);
+    let i = next_of(t, first, n, a);
+    if i < n {
+        let row = table::row_at(t, i);
+        return interval::least_delayed(row.end, d, limit);
+    }
+    limit
 }
 
 // Whether row j is one of entry b and forbids the interval of row r.
@@ -260,7 +312,7 @@ fn top_in_fours(t: &[i32], n: usize, b: i32) -> usize
 // Each candidate then looks back at the rows that end at its start or later, up to the first forbidding one.
 fn absence_rows(t: &mut [i32], n: usize, f: Frame, edges: Edges, a: i32, b: i32) -> usize
     requires { ⌜ Appendable f n (now t) ⌝ }
-    ensures { λ r. ⌜ Appended f n (absenceRows edges (natAbs (f .entry)) a b (f .first) (f .end) (now (t .entry))) (now (t .entry)) r (now (t .exit)) ⌝ }
+    ensures { λ r. ⌜ Appended f n (absenceRows edges (natAbs (f .entry)) (f .instant) a b (f .first) (f .end) (now (t .entry))) (now (t .entry)) r (now (t .exit)) ⌝ }
 {
     let end = f.end;
     let room = f.room;
@@ -503,38 +555,66 @@ fn pair_rows(t: &mut [i32], n: usize, f: Frame, c: Relation, a: i32, b: i32) -> 
     count
 }
 
-// The rows of one entry, by its operator. Costs what that operator's function costs.
-fn entry_rows(t: &mut [i32], n: usize, f: Frame, e: Entry, p: Pending, codes: &[u8; 64]) -> usize
-    requires { ⌜ (Appendable f n (now t)) × SerialsFit p × (entryFits (natAbs (f .entry)) e ≡ true) ⌝ }
-    ensures { λ r. ⌜ Appended f n (addedRows (entryOperator e) (natAbs (f .entry)) p (now (codes .entry)) (f .first) (f .end) (now (t .entry))) (now (t .entry)) r (now (t .exit)) ⌝ }
+// The rows of one entry, by its operator; only a delay makes an end behind the instant. Costs what that operator's function costs. The structs are written
+// out in the arms: made by a function, they take a mark some instructions more at each entry.
+fn entry_rows(t: &mut [i32], f: Frame, e: Entry, p: Pending, codes: &[u8; 64], limit: i32) -> Made
+    requires { ⌜ Appendable f (f .end) (now t) × SerialsFit p × (entryFits (natAbs (f .entry)) e ≡ true) × Settled (f .instant +ℤ pos 1) (f .end) (now t) × (ltZ (f .instant) limit ≡ true) ⌝ }
+    ensures { λ r. ⌜ Appended f (f .end) (addedRows (entryOperator e) (natAbs (f .entry)) (f .instant) p (now (codes .entry)) (f .first) (f .end) (now (t .entry))) (now (t .entry)) (r .rows) (now (t .exit)) × NextDue (delayedEnds (rowsIn (f .end) (now (t .entry))) (entryOperator e)) (f .instant +ℤ pos 1) limit (r .next) ⌝ }
 {
+    let n = f.end;
     let a = e.a;
     let b = e.b;
     let kind = chart::operator::kind_of(e.op);
     match kind {
-        Kind::Event => event_rows(t, n, f, a, p, codes),
-        Kind::Or => or_rows(t, n, f, a as i32, b as i32),
-        Kind::Pair(c) => pair_rows(t, n, f, c, a as i32, b as i32),
-        Kind::Absence(edges) => absence_rows(t, n, f, edges, a as i32, b as i32),
-        Kind::Length(test) => taken_rows(t, n, f, a as i32, Taken::Lasting(test, b), false),
-        Kind::Unknown => n,
+        Kind::Event => Made {
+            rows: event_rows(t, n, f, a, p, codes),
+            next: limit,
+        },
+        Kind::Or => Made {
+            rows: or_rows(t, n, f, a as i32, b as i32),
+            next: limit,
+        },
+        Kind::Pair(c) => Made {
+            rows: pair_rows(t, n, f, c, a as i32, b as i32),
+            next: limit,
+        },
+        Kind::Absence(edges) => Made {
+            rows: absence_rows(t, n, f, edges, a as i32, b as i32),
+            next: limit,
+        },
+        Kind::Length(test) => Made {
+            rows: taken_rows(t, n, f, a as i32, Taken::Lasting(test, b), false),
+            next: limit,
+        },
+        Kind::After => Made {
+            next: next_end(t, n, a as i32, b, f.instant, limit),
+            rows: delayed_rows(t, n, f, a as i32, b),
+        },
+        Kind::Unknown => Made {
+            rows: n,
+            next: limit,
+        },
     }
 }
 
-// The rows of all entries, in their order, each entry's put in order before the next one refers to them; `codes` are the state's, taken out of it to be
-// lent. Costs what the entries' functions cost, and what `ordering::later_start_first` costs for each entry's rows.
-fn all_rows(chart: Chart, state: WatchState, codes: [u8; 64], t: &mut [i32], room: usize) -> usize
-    requires { ⌜ Closable chart state (now t) × (codes ≡ state .codes) × (room ≡ capacity (length (now t))) ⌝ }
-    ensures { λ r. ⌜ Tried room (state .rows) (drop (state .rows) (closedRows chart state (now (t .entry)))) (now (t .entry)) r (now (t .exit)) ⌝ }
+// The rows of all entries that end at the instant, in the entries' order, each entry's put in order before the next one refers to them; and when the next
+// delayed row is due, behind the instant and before the mark. Costs what the entries' functions cost, and what `ordering::later_start_first` costs
+// for each entry's rows.
+fn all_rows(
+    chart: Chart,
+    t: &mut [i32],
+    rows: usize,
+    room: usize,
+    jump: Jump,
+    p: Pending,
+    codes: &[u8; 64],
+) -> Made
+    requires { ⌜ (isUsable chart ≡ true) × Settled (jump .instant) rows (now t) × (rows ≤ room) × (room ≡ capacity (length (now t))) × SerialsFit p × (p .count ≤ length (now codes)) × (ltZ (jump .instant) (jump .mark) ≡ true) ⌝ }
+    ensures { λ r. ⌜ Tried room rows (drop rows (closeRows (jump .instant) (eventsAt (jump .instant) p (now (codes .entry))) (operatorsOf chart) (rowsIn rows (now (t .entry))))) (now (t .entry)) (r .rows) (now (t .exit)) × (r .rows ≤ room → Settled (jump .instant +ℤ pos 1) (r .rows) (now (t .exit)) × NextDue (dueEnds [] (operatorsOf chart) (rowsIn (r .rows) (now (t .exit)))) (jump .instant +ℤ pos 1) (jump .mark) (r .next)) ⌝ }
 {
-    let rows = state.rows;
-    let p = Pending {
-        instant: state.instant,
-        first: state.events - state.pending + 1,
-        count: state.pending,
-    };
     let count = chart.count;
     let mut n = rows;
+    let mut next = jump.mark;
     let mut i: usize = 0;
     while i < count {
         let e = chart.entries[i];
@@ -544,27 +624,66 @@ fn all_rows(chart: Chart, state: WatchState, codes: [u8; 64], t: &mut [i32], roo
             end: first,
             room,
             entry: i as i32,
+            instant: jump.instant,
         };
-        n = entry_rows(t, first, f, e, p, &codes);
+        let made = entry_rows(t, f, e, p, codes, next);
+        n = made.rows;
+        next = made.next;
         if room < n {
-            return n;
+            return Made { rows: n, next };
         }
         ordering::later_start_first(t, first, n);
         i += 1;
     }
+    Made { rows: n, next }
+}
+
+// The rows that end before the mark: those of the open instant, to which the pending events belong, and then those of each later instant at which
+// one is due; `codes` are the state's, taken out of it to be lent. Each costs what `all_rows` costs, and each later one brings a row at least; the
+// instants between cost nothing.
+fn due_rows(
+    chart: Chart,
+    state: WatchState,
+    codes: [u8; 64],
+    mark: i32,
+    t: &mut [i32],
+    room: usize,
+) -> usize
+    requires { ⌜ Closable chart state mark (now t) × (codes ≡ state .codes) × (room ≡ capacity (length (now t))) ⌝ }
+    ensures { λ r. ⌜ Tried room (state .rows) (drop (state .rows) (closedRows chart state mark (now (t .entry)))) (now (t .entry)) r (now (t .exit)) ⌝ }
+{
+    let first = state.events - state.pending + 1;
+    let mut pending = state.pending;
+    let mut instant = state.instant;
+    let mut n = state.rows;
+    while interval::is_before(instant, mark) {
+        let p = Pending {
+            first,
+            count: pending,
+        };
+        let jump = Jump { instant, mark };
+        let closed = all_rows(chart, t, n, room, jump, p, &codes);
+        n = closed.rows;
+        if room < n {
+            return n;
+        }
+        instant = closed.next;
+        pending = 0;
+    }
     n
 }
 
-// Appends, entry by entry, the rows that end at the open instant; hands back how many rows there are then, or one more than the table holds
-// where they do not fit, and then the table is as it was. Costs what `all_rows` costs, and where the rows do not fit, one store for
-// each number behind the old rows. Where no event is pending, no row is looked at.
-pub fn close(chart: Chart, state: WatchState, table: &mut [i32]) -> usize
-    requires { ⌜ Closable chart state (now table) ⌝ }
-    ensures { λ r. ⌜ (r ≡ closedNumber chart state (now (table .entry))) × (now (table .exit) ≡ closedTable chart state (now (table .entry))) ⌝ }
+// Closes every instant from the open one to before the mark: appends, end by end and in each entry by entry, the rows that end there; hands back how
+// many rows there are then, or one more than the table holds where they do not fit, and then the table is as it was. Costs what
+// `due_rows` costs, and where the rows do not fit, one store for each number behind the old rows. Where no event is pending and no delayed
+// row is due, no row is looked at, but those that `next_end` looks at for a delay.
+pub fn close(chart: Chart, state: WatchState, mark: i32, table: &mut [i32]) -> usize
+    requires { ⌜ Closable chart state mark (now table) ⌝ }
+    ensures { λ r. ⌜ (r ≡ closedNumber chart state mark (now (table .entry))) × (now (table .exit) ≡ closedTable chart state mark (now (table .entry))) ⌝ }
 {
     let room = table::rows_that_fit(table.len());
     let codes = state.codes;
-    let n = all_rows(chart, state, codes, table, room);
+    let n = due_rows(chart, state, codes, mark, table, room);
     if n <= room {
         return n;
     }

@@ -1,6 +1,6 @@
 -- Watches and tables, each cause of document 01's paragraph "Out of joint" beside its nearest neighbour that is none. One list of cases, one
--- theorem that the checker computes. What must come out was found by hand from document 01. No contract says as much, since the code and its
--- contract share the definitions. Crate `watch` has the same list answered with 13 and 0.
+-- theorem that the checker computes. What must come out was found by hand from document 01 and request N1. No contract says as much, since the
+-- code and its contract share the definitions. Crate `watch` has the same list answered with 13 and 0.
 use Prim.Native.Nat.{ℕ}
 use Prim.Native.String.{String}
 use mathlib.Core.Path.{_≡_, refl}
@@ -93,15 +93,18 @@ sizes =
 
 -- Rows. There are four events, of codes 1 and 2 at 0 and again at 5; the floor is -1 and the open instant 7. Five rows stand in front of the one that is
 -- looked at: four of events, and one of `seq`, from 0 to 5. Behind it is an unused one.
-abbrev chart7 : Chart
-chart7 = chartOf (
+abbrev chart10 : Chart
+chart10 = chartOf (
     "0 event 1" ∷
     "1 event 2" ∷
     "2 seq 0 1" ∷
     "3 or 0 1" ∷
     "4 -[] 2 1" ∷
     "5 atmost 2 5" ∷
-    "6 atmost 2 4" ∷ [])
+    "6 atmost 2 4" ∷
+    "7 after 2 0" ∷
+    "8 after 2 1" ∷
+    "9 after 0 5" ∷ [])
 
 abbrev rows5 : List String
 rows5 =
@@ -112,7 +115,7 @@ rows5 =
     "2 0 3 0 5" ∷ []
 
 abbrev tableOf : List String → Bool → Case
-tableOf rs b = record { chart = chart7; state = stateOf (pos 7) (minus 1) 4 (length rs) 0; table = table (rs ++ "0 0 0 0 0" ∷ []); consistent = b }
+tableOf rs b = record { chart = chart10; state = stateOf (pos 7) (minus 1) 4 (length rs) 0; table = table (rs ++ "0 0 0 0 0" ∷ []); consistent = b }
 
 abbrev good : String → Case
 good r = tableOf (rows5 ++ r ∷ []) true
@@ -123,7 +126,7 @@ bad r = tableOf (rows5 ++ r ∷ []) false
 abbrev rows : List Case
 rows =
     -- "a row whose entry is not in the chart"; 5 without the minus would do
-    good "5 4 -1 0 5" ∷ bad "7 4 -1 0 5" ∷ bad "-5 4 -1 0 5" ∷
+    good "5 4 -1 0 5" ∷ bad "10 4 -1 0 5" ∷ bad "-5 4 -1 0 5" ∷
     -- "start is below the floor": the first row of a table
     tableOf ("0 1 -1 -1 -1" ∷ []) true ∷ tableOf ("0 1 -1 -2 -2" ∷ []) false ∷
     -- "end is not before the open instant or is before its predecessor's end"
@@ -152,7 +155,14 @@ rows =
     -- "or non-absence condition disagrees with them": of a relation, 5 < 5; of a length test, 5 <= 4. In "4 4 -1 0 5", taken above, rows 1 and 3 forbid row 4.
     bad "2 2 3 5 5" ∷ bad "6 4 -1 0 5" ∷
     -- "An event row's serial is 1 to the count, start and end equal."
-    good "0 1 -1 5 5" ∷ bad "0 0 -1 5 5" ∷ bad "0 -1 -1 5 5" ∷ good "0 4 -1 5 5" ∷ bad "0 5 -1 5 5" ∷ bad "0 4 -1 4 5" ∷ bad "0 4 -1 5 6" ∷ []
+    good "0 1 -1 5 5" ∷ bad "0 0 -1 5 5" ∷ bad "0 -1 -1 5 5" ∷ good "0 4 -1 5 5" ∷ bad "0 5 -1 5 5" ∷ bad "0 4 -1 4 5" ∷ bad "0 4 -1 5 6" ∷
+    -- "left r, right -1, the same start and end = end r + d" (request N1): d is 0 and 1 with row 4, from 0 to 5, for r, and 5 with row 0, from 0 to 0.
+    -- Each end is beside one that is off by one; where d is 1, that is the end of r
+    good "7 4 -1 0 5" ∷ bad "7 4 -1 0 6" ∷ good "8 4 -1 0 6" ∷ bad "8 4 -1 0 5" ∷ good "9 0 -1 0 5" ∷ bad "9 0 -1 0 6" ∷
+    -- another start, then another right; on the left none, a row of another entry, and row 6 behind it, which is of the right entry
+    bad "8 4 -1 1 6" ∷ bad "8 4 -1 -1 6" ∷ bad "8 4 3 0 6" ∷ bad "8 4 -2 0 6" ∷
+    bad "8 -1 -1 0 6" ∷ bad "8 -1 4 0 6" ∷ bad "9 1 -1 0 5" ∷
+    tableOf (rows5 ++ "7 4 -1 0 5" ∷ "2 0 3 0 5" ∷ []) true ∷ tableOf (rows5 ++ "7 6 -1 0 5" ∷ "2 0 3 0 5" ∷ []) false ∷ []
 
 unfoldable pub cases : List Case
 cases = watches ++ sizes ++ rows

@@ -14,9 +14,10 @@ use Rattle.interval.specs.Conditions.{isRelated, hasLength}
 use Rattle.interval.proofs.Signed.{_≤ᶻ_, signed, never, and-first, and-second, eq-true, eq-told}
 use Rattle.interval.proofs.Laws.{start-le-end}
 use Rattle.model.specs.Order.{Row, none}
-use Rattle.model.specs.Recognitions.{Operator, event, related, or, absence, lasting}
+use Rattle.model.specs.Recognitions.{Operator, event, related, or, absence, lasting, after, Arm, only, left, right, delayed, endBy}
 use Rattle.model.specs.RowSteps.{rowAt, isEvent, isEventAt}
 use Rattle.model.specs.Consistency.{isNone, refers, spansOne, spansTwo, isSerial, agrees, agreesAt}
+use Rattle.model.proofs.Trees.{end-by}
 use Rattle.table.specs.Ready.{Refers}
 
 or-cases : (a b : Bool) → (a || b) ≡ true → (a ≡ true) ⊎ (b ≡ true)
@@ -36,7 +37,7 @@ pub record Shape (rs : List Row) (i : ℕ) (r : Row) (b : Bool) : Type 0 where
   pub proper : ((j : ℕ) → j < i → (rowAt rs j) .start ≤ᶻ (rowAt rs j) .end) → r .start ≤ᶻ r .end
 
 module _ (count : ℕ) (rs : List Row) (i : ℕ) (r : Row) where
-  abbrev alike : Row → Bool
+  abbrev alike : Arm → Row → Bool
   alike = spansOne count rs i r
 
   referred : (z : ℤ) (a : ℕ) (p : Row → Bool) → refers count rs i r z a p ≡ true → Referred rs i z p
@@ -63,18 +64,27 @@ module _ (count : ℕ) (rs : List Row) (i : ℕ) (r : Row) where
       record { left = λ d. never (sym d); right = no-row (r .right) (and-first n s h); proper = λ before. omega (arith, eq-told (r .start) (r .end) (and-second n s h)) }
 
   -- one part, on either side
-  single-shape : (z : ℤ) → Referred rs i z alike → Refers i (r .left) → Refers i (r .right) → Shape rs i r false
-  single-shape z h l m =
+  single-shape : (m : Arm) (z : ℤ) → Referred rs i z (alike m) → Refers i (r .left) → Refers i (r .right) → Shape rs i r false
+  single-shape m z h x y =
       let q = rowAt rs (natAbs z) in
       let s = eqZ (r .start) (q .start) in
-      let e = eqZ (r .end) (q .end) in
-      record { left = λ d. l; right = m; proper = λ before. omega (arith, eq-told (r .start) (q .start) (and-first s e (h .holds)), eq-told (r .end) (q .end) (and-second s e (h .holds)), before (natAbs z) (h .lower)) }
+      let e = eqZ (r .end) (endBy m (q .end)) in
+      record { left = λ d. x; right = y; proper = λ before. omega (arith, eq-told (r .start) (q .start) (and-first s e (h .holds)), eq-told (r .end) (endBy m (q .end)) (and-second s e (h .holds)), end-by m (q .end), before (natAbs z) (h .lower)) }
 
-  left-shape : Referred rs i (r .left) alike → isNone (r .right) ≡ true → Shape rs i r false
-  left-shape h n = single-shape (r .left) h (lower-row (r .left) alike h) (no-row (r .right) n)
+  left-shape : (m : Arm) → Referred rs i (r .left) (alike m) → isNone (r .right) ≡ true → Shape rs i r false
+  left-shape m h n = single-shape m (r .left) h (lower-row (r .left) (alike m) h) (no-row (r .right) n)
 
-  right-shape : isNone (r .left) ≡ true → Referred rs i (r .right) alike → Shape rs i r false
-  right-shape n h = single-shape (r .right) h (no-row (r .left) n) (lower-row (r .right) alike h)
+  -- of entry a, with nothing asked of it but start and end
+  plain-shape : (m : Arm) (a : ℕ) → (refers count rs i r (r .left) a (alike m) && isNone (r .right)) ≡ true → Shape rs i r false
+  plain-shape m a e =
+      let x = refers count rs i r (r .left) a (alike m) in
+      left-shape m (referred (r .left) a (alike m) (and-first x (isNone (r .right)) e)) (and-second x (isNone (r .right)) e)
+
+  right-shape : (a : ℕ) → (isNone (r .left) && refers count rs i r (r .right) a (alike right)) ≡ true → Shape rs i r false
+  right-shape a e =
+      let x = refers count rs i r (r .right) a (alike right) in
+      let h = referred (r .right) a (alike right) (and-second (isNone (r .left)) x e) in
+      single-shape right (r .right) h (no-row (r .left) (and-first (isNone (r .left)) x e)) (lower-row (r .right) (alike right) h)
 
   shape : (op : Operator) → agrees count rs i r op ≡ true → Shape rs i r (isEvent op)
   shape (event k) e = event-shape e
@@ -93,21 +103,17 @@ module _ (count : ℕ) (rs : List Row) (i : ℕ) (r : Row) where
         proper = λ before. omega (arith, eq-told (r .start) (least (p .start) (q .start)) (and-first s (d && c) (y .holds)), eq-told (r .end) (greatest (p .end) (q .end)) (and-first d c (and-second s (d && c) (y .holds))), start-le-end (p .start) (p .end) (q .start) (q .end) (before (natAbs (r .left)) (x .lower)) (before (natAbs (r .right)) (y .lower)));
       }
   shape (or a b) e =
-      let x = refers count rs i r (r .left) a alike in
-      let y = refers count rs i r (r .right) b alike in
-      elim (or-cases (x && isNone (r .right)) (isNone (r .left) && y) e) [
-        | inl h ↦ left-shape (referred (r .left) a alike (and-first x (isNone (r .right)) h)) (and-second x (isNone (r .right)) h)
-        | inr h ↦ right-shape (and-first (isNone (r .left)) y h) (referred (r .right) b alike (and-second (isNone (r .left)) y h))
-      ]
-  shape (absence c a b) e =
-      let x = refers count rs i r (r .left) a alike in
-      left-shape (referred (r .left) a alike (and-first x (isNone (r .right)) e)) (and-second x (isNone (r .right)) e)
+      let x = refers count rs i r (r .left) a (alike left) in
+      let y = refers count rs i r (r .right) b (alike right) in
+      elim (or-cases (x && isNone (r .right)) (isNone (r .left) && y) e) [ inl h ↦ plain-shape left a h | inr h ↦ right-shape b h ]
+  shape (absence c a b) e = plain-shape only a e
   shape (lasting c a d) e =
-      let p : Row → Bool = λ q. alike q && hasLength c d (q .start) (q .end) in
+      let p : Row → Bool = λ q. alike only q && hasLength c d (q .start) (q .end) in
       let x = refers count rs i r (r .left) a p in
       let h = referred (r .left) a p (and-first x (isNone (r .right)) e) in
       let q = rowAt rs (natAbs (r .left)) in
-      left-shape (record { number = h .number; lower = h .lower; holds = and-first (alike q) (hasLength c d (q .start) (q .end)) (h .holds) }) (and-second x (isNone (r .right)) e)
+      left-shape only (record { number = h .number; lower = h .lower; holds = and-first (alike only q) (hasLength c d (q .start) (q .end)) (h .holds) }) (and-second x (isNone (r .right)) e)
+  shape (after a d) e = plain-shape (delayed d) a e
 
   -- by the operator of the row's entry
   pub shape-at : (ops : List Operator) (n : ℕ) → agreesAt count rs i r ops n ≡ true → Shape rs i r (isEventAt ops n)

@@ -10,18 +10,19 @@ use lib.IntN.{ℤ, pos, negsuc, natAbs}
 use lib.Signed.{ltZ, leZ}
 use mir.Syntax.{w32}
 use mir.Val.{SFits}
-use Rattle.interval.specs.Instants.{eqZ, least, greatest}
+use Rattle.interval.specs.Instants.{eqZ}
 use Rattle.interval.specs.Conditions.{hasLength}
 use Rattle.interval.specs.declared.LengthTest.{LengthTest}
-use Rattle.interval.proofs.Signed.{never, and-first, eq-true, least-most, greatest-most}
+use Rattle.interval.proofs.Signed.{never, and-first, eq-true}
 use Rattle.chart.specs.Operators.{kindOf, shapeOf, inRange}
 use Rattle.chart.specs.Charts.{isUsable, entryAt}
 use Rattle.chart.specs.declared.Chart.{Chart}
 use Rattle.chart.specs.declared.operator.Kind.{Kind}
-use Rattle.chart.specs.declared.operator.Kind.the-variants.{Event, Or, Pair, Absence, Length, Unknown}
+use Rattle.chart.specs.declared.operator.Kind.the-variants.{Event, Or, Pair, Absence, Length, After, Unknown}
 use Rattle.chart.proofs.Usable.{usable-fits, fits-range, range-unknown}
 use Rattle.state.specs.declared.WatchState.{WatchState}
 use Rattle.model.specs.Order.{Row, none}
+use Rattle.model.specs.Recognitions.{Arm, only, left, right, delayed}
 use Rattle.model.specs.RowSteps.{rowAt}
 use Rattle.model.specs.Consistency.{isNone, refers, spansOne, spansTwo, isSerial, agrees, agreesAt, isOrdered, isRowConsistent}
 use Rattle.table.specs.Table.{cell, storedRow, modelRow, tableRow, rowsIn}
@@ -30,7 +31,7 @@ use Rattle.table.specs.declared.Row as stored
 use Rattle.table.proofs.Rows.{row-at}
 use Rattle.table.proofs.Operators.{operator-is, Lookup, operator-at, operator-past}
 use Rattle.consistency.specs.Consistency.{isTableRowConsistent}
-use Rattle.consistency.specs.Rows.{limitsOf, exchanged, partAt, lastEnd, isWithin, isEventRow, meetsCondition, spansParts, isSingleRow, isArmRow, isPairRow, agreesBy, isRowOf}
+use Rattle.consistency.specs.Rows.{limitsOf, exchanged, partAt, lastEnd, isWithin, isEventRow, meetsCondition, spansPart, waitsFor, spansParts, isSingleRow, isDelayedRow, isArmRow, isPairRow, agreesBy, isRowOf}
 use Rattle.consistency.proofs.Tests.{isAfterLast, after-last, not-least}
 
 -- Booleans
@@ -98,40 +99,37 @@ module _ (count : ℕ) (rs : List Row) (t : List ℤ) (i : ℕ) (same : (j : ℕ
   event-is (pos k) x = and-group (leb 1 k) (leb k count) x
   event-is (negsuc k) x = refl
 
-  -- the least and the greatest of one number is that number
-  one-part : (q : stored.Row) → spansParts r q q ≡ spansOne count rs i (modelRow r) (modelRow q)
-  unfolding spansParts
-  one-part q =
-      let s : least (q .start) (q .start) ≡ q .start = least-most (λ m. m ≡ q .start) (q .start) (q .start) refl refl in
-      let e : greatest (q .end) (q .end) ≡ q .end = greatest-most (λ m. m ≡ q .end) (q .end) (q .end) refl refl in
-      rw (s, e)
-
-  single-is : (k : Kind) (a b : ℕ) (p : Row → Bool) → ((q : stored.Row) → p (modelRow q) ≡ (spansOne count rs i (modelRow r) (modelRow q) && meetsCondition k b r r)) → (refers count rs i (modelRow r) (r .left) a p && isNone (r .right)) ≡ isSingleRow k a b t i r
-  unfolding isSingleRow
-  single-is k a b p h =
+  -- one part, of which f is asked, and c of the row itself
+  part-is : (f : stored.Row → Bool) (c : Bool) (a : ℕ) (p : Row → Bool) → ((q : stored.Row) → p (modelRow q) ≡ (f q && c)) → let n = partAt t i (r .left) a in (refers count rs i (modelRow r) (r .left) a p && isNone (r .right)) ≡ (c && (isNone (r .right) && (ltb n i && f (storedRow t n))))
+  part-is f c a p h =
       let n = partAt t i (r .left) a in
-      simp (refers-is (r .left) a p, h (storedRow t n), one-part (storedRow t n)) (and-turn (ltb n i) (spansOne count rs i (modelRow r) (tableRow t n)) (meetsCondition k b r r) (isNone (r .right)))
+      simp (refers-is (r .left) a p, h (storedRow t n)) (and-turn (ltb n i) (f (storedRow t n)) c (isNone (r .right)))
+
+  single-is : (k : Kind) (a b : ℕ) (p : Row → Bool) → ((q : stored.Row) → p (modelRow q) ≡ (spansPart r q && meetsCondition k b r r)) → (refers count rs i (modelRow r) (r .left) a p && isNone (r .right)) ≡ isSingleRow k a b t i r
+  unfolding isSingleRow
+  single-is k a b p h = part-is (spansPart r) (meetsCondition k b r r) a p h
 
 module _ (count : ℕ) (rs : List Row) (t : List ℤ) (i : ℕ) (same : (j : ℕ) → j < i → rowAt rs j ≡ tableRow t j) (r : stored.Row) where
   -- a part of which nothing but start and end is asked
-  abbrev alike : Row → Bool
+  abbrev alike : Arm → Row → Bool
   alike = spansOne count rs i (modelRow r)
 
   agrees-is : (k : Kind) (a b : ℕ) → inRange k a b ≡ true → agrees count rs i (modelRow r) (operatorBy k a b) ≡ agreesBy (shapeOf k) k a b count t i r
-  unfolding agreesBy isEventRow isArmRow isPairRow spansParts meetsCondition
+  unfolding agreesBy isEventRow isDelayedRow isArmRow isPairRow spansPart waitsFor spansParts meetsCondition
   agrees-is Event a b h = ap (agrees count rs i (modelRow r)) (operator-is Event a b) ∙ event-is count rs t i same r (r .left) (isNone (r .right) && eqZ (r .start) (r .end))
   agrees-is Or a b h =
       ap (agrees count rs i (modelRow r)) (operator-is Or a b)
       ∙ ap₂ _||_
-      (single-is count rs t i same r Or a b alike (λ q. and-same (alike (modelRow q))))
-      (and-swap (isNone (r .left)) (refers count rs i (modelRow r) (r .right) b alike) ∙ single-is count rs t i same (exchanged r) Or b b alike (λ q. and-same (alike (modelRow q))))
+      (single-is count rs t i same r Or a b (alike left) (λ q. and-same (alike left (modelRow q))))
+      (and-swap (isNone (r .left)) (refers count rs i (modelRow r) (r .right) b (alike right)) ∙ single-is count rs t i same (exchanged r) Or b b (alike right) (λ q. and-same (alike right (modelRow q))))
   agrees-is (Pair c) a b h =
       let n = partAt t i (r .left) a in
       ap (agrees count rs i (modelRow r)) (operator-is (Pair c) a b)
       ∙ refers-is count rs t i same r (r .left) a (λ p. refers count rs i (modelRow r) (r .right) b (spansTwo count rs i (modelRow r) c p))
       ∙ ap (λ x. ltb n i && x) (refers-is count rs t i same r (r .right) b (spansTwo count rs i (modelRow r) c (tableRow t n)) ∙ simp and-group)
-  agrees-is (Absence c) a b h = ap (agrees count rs i (modelRow r)) (operator-is (Absence c) a b) ∙ single-is count rs t i same r (Absence c) a b alike (λ q. and-same (alike (modelRow q)))
-  agrees-is (Length c) a b h = ap (agrees count rs i (modelRow r)) (operator-is (Length c) a b) ∙ single-is count rs t i same r (Length c) a b (λ q. alike q && hasLength c b (q .start) (q .end)) (λ q. same-length c b (r .start) (r .end) (q .start) (q .end))
+  agrees-is (Absence c) a b h = ap (agrees count rs i (modelRow r)) (operator-is (Absence c) a b) ∙ single-is count rs t i same r (Absence c) a b (alike only) (λ q. and-same (alike only (modelRow q)))
+  agrees-is (Length c) a b h = ap (agrees count rs i (modelRow r)) (operator-is (Length c) a b) ∙ single-is count rs t i same r (Length c) a b (λ q. alike only q && hasLength c b (q .start) (q .end)) (λ q. same-length c b (r .start) (r .end) (q .start) (q .end))
+  agrees-is After a b h = ap (agrees count rs i (modelRow r)) (operator-is After a b) ∙ part-is count rs t i same r (waitsFor b r) true a (alike (delayed b)) (λ q. and-same (alike (delayed b) (modelRow q)))
   agrees-is Unknown a b h = never (sym (range-unknown a b) ∙ h)
 
 -- the operator of an entry, in a list of as many as there are entries

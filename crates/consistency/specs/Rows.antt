@@ -6,7 +6,7 @@ use mathlib.Core.Path.{_≡_}
 use mathlib.Core.Bool.{Bool, true, cond, _&&_, _||_}
 use mathlib.Core.List.{List}
 use lib.Dec.{eqb, ltb, leb}
-use lib.IntN.{ℤ, pos, negsuc, natAbs}
+use lib.IntN.{ℤ, pos, negsuc, natAbs, _+ℤ_}
 use lib.ListN.{length}
 use lib.Signed.{leZ, ltZ}
 use Rattle.interval.specs.Instants.{eqZ, least, greatest}
@@ -14,9 +14,9 @@ use Rattle.interval.specs.Conditions.{isRelated, hasLength}
 use Rattle.chart.specs.Operators.{kindOf, shapeOf}
 use Rattle.chart.specs.declared.Entry.{Entry}
 use Rattle.chart.specs.declared.operator.Kind.{Kind}
-use Rattle.chart.specs.declared.operator.Kind.the-variants.{Event, Or, Pair, Absence, Length, Unknown}
+use Rattle.chart.specs.declared.operator.Kind.the-variants.{Event, Or, Pair, Absence, Length, After, Unknown}
 use Rattle.chart.specs.declared.operator.Shape.{Shape}
-use Rattle.chart.specs.declared.operator.Shape.the-variants.{Leaf, Single, Arms, Double}
+use Rattle.chart.specs.declared.operator.Shape.the-variants.{Leaf, Single, Arms, Double, Delayed}
 use Rattle.state.specs.declared.WatchState.{WatchState}
 use Rattle.model.specs.Order.{none}
 use Rattle.table.specs.Table.{cell, storedRow}
@@ -59,7 +59,15 @@ meetsCondition Or b p q = true
 meetsCondition (Pair c) b p q = isRelated c (p .start) (p .end) (q .start) (q .end)
 meetsCondition (Absence e) b p q = true
 meetsCondition (Length c) b p q = hasLength c b (p .start) (p .end)
+meetsCondition After b p q = true
 meetsCondition Unknown b p q = true
+
+-- start and end are those of the one part p; or the end is d later
+unfoldable pub spansPart : Row → Row → Bool
+spansPart r p = eqZ (r .start) (p .start) && eqZ (r .end) (p .end)
+
+unfoldable pub waitsFor : ℕ → Row → Row → Bool
+waitsFor d r p = eqZ (r .start) (p .start) && eqZ (r .end) (p .end +ℤ pos d)
 
 -- start and end are those of p and q together
 unfoldable pub spansParts : Row → Row → Row → Bool
@@ -68,7 +76,12 @@ spansParts r p q = eqZ (r .start) (least (p .start) (q .start)) && eqZ (r .end) 
 unfoldable pub isSingleRow : Kind → ℕ → ℕ → List ℤ → ℕ → Row → Bool
 isSingleRow k a b t i r =
     let p = partAt t i (r .left) a in
-    meetsCondition k b r r && (eqZ (r .right) none && (ltb p i && spansParts r (storedRow t p) (storedRow t p)))
+    meetsCondition k b r r && (eqZ (r .right) none && (ltb p i && spansPart r (storedRow t p)))
+
+unfoldable pub isDelayedRow : ℕ → ℕ → List ℤ → ℕ → Row → Bool
+isDelayedRow a d t i r =
+    let p = partAt t i (r .left) a in
+    eqZ (r .right) none && (ltb p i && waitsFor d r (storedRow t p))
 
 unfoldable pub isArmRow : Kind → ℕ → ℕ → List ℤ → ℕ → Row → Bool
 isArmRow k a b t i r = isSingleRow k a b t i r || isSingleRow k b b t i (exchanged r)
@@ -84,6 +97,7 @@ agreesBy Leaf k a b events t i r = isEventRow events r
 agreesBy Single k a b events t i r = isSingleRow k a b t i r
 agreesBy Arms k a b events t i r = isArmRow k a b t i r
 agreesBy Double k a b events t i r = isPairRow k a b t i r
+agreesBy Delayed k a b events t i r = isDelayedRow a b t i r
 
 unfoldable pub isRowOf : Entry → Limits → List ℤ → ℕ → Row → Bool
 isRowOf e l t i r = isWithin l r && agreesBy (shapeOf (kindOf (e .op))) (kindOf (e .op)) (e .a) (e .b) (l .events) t i r

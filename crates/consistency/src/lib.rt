@@ -11,7 +11,7 @@ ghost use Rattle.chart.specs.Operators.{kindOf, shapeOf};
 ghost use Rattle.model.specs.Capacity.{capacity};
 ghost use Rattle.model.specs.Order.{none};
 ghost use Rattle.consistency.specs.Consistency.{areInstantsInRange, areCountsInRange, isWatchInRange, isTableRowConsistent, areConsistent};
-ghost use Rattle.consistency.specs.Rows.{leastNumber, limitsOf, Reached, exchanged, partAt, isWithin, isEventRow, meetsCondition, spansParts, isSingleRow, isArmRow, isPairRow, agreesBy, isRowOf};
+ghost use Rattle.consistency.specs.Rows.{leastNumber, limitsOf, Reached, exchanged, partAt, isWithin, isEventRow, meetsCondition, spansPart, waitsFor, spansParts, isSingleRow, isDelayedRow, isArmRow, isPairRow, agreesBy, isRowOf};
 use chart::Chart;
 use chart::Entry;
 use chart::operator::Kind;
@@ -146,6 +146,7 @@ fn agrees(e: Entry, events: usize, t: &[i32], i: usize, row: Row) -> bool
         Shape::Single => is_single_row(kind, e.a, e.b, t, i, row),
         Shape::Arms => is_arm_row(kind, e.a, e.b, t, i, row),
         Shape::Double => is_pair_row(kind, e.a, e.b, t, i, row),
+        Shape::Delayed => is_delayed_row(e.a, e.b, t, i, row),
     }
 }
 
@@ -180,7 +181,24 @@ fn is_single_row(kind: Kind, a: u32, b: u32, t: &[i32], i: usize, row: Row) -> b
         return false;
     }
     let p = table::row_at(t, at);
-    spans_parts(row, p, p)
+    spans_part(row, p)
+}
+
+// A row of `after`: its operand on the left and of entry a, which ended d before it. A function of its own: a case in the one above makes the check of all
+// rows a quarter slower.
+fn is_delayed_row(a: u32, d: u32, t: &[i32], i: usize, row: Row) -> bool
+    requires { ⌜ Reached i (now t) ⌝ }
+    ensures { λ r. ⌜ r ≡ isDelayedRow a d (now (t .entry)) i row ⌝ }
+{
+    if !has_no_right(row) {
+        return false;
+    }
+    let at = part_at(t, i, row, a);
+    if i <= at {
+        return false;
+    }
+    let p = table::row_at(t, at);
+    waits_for(d, row, p)
 }
 
 // A row of one operand, which is the right one where the row has a right.
@@ -212,7 +230,21 @@ fn is_pair_row(kind: Kind, a: u32, b: u32, t: &[i32], i: usize, row: Row) -> boo
     spans_parts(row, p, q) && meets_condition(kind, b, p, q)
 }
 
-// Whether a row's start and end are those of the rows p and q together; a single part is both.
+// Whether a row's start and end are those of its one part p.
+fn spans_part(row: Row, p: Row) -> bool
+    ensures { λ r. ⌜ r ≡ spansPart row p ⌝ }
+{
+    interval::is_same(row.start, p.start) && interval::is_same(row.end, p.end)
+}
+
+// Whether a row starts as its one part p does, and ends d later.
+fn waits_for(d: u32, row: Row, p: Row) -> bool
+    ensures { λ r. ⌜ r ≡ waitsFor d row p ⌝ }
+{
+    interval::is_same(row.start, p.start) && interval::is_delayed(p.end, d, row.end)
+}
+
+// Whether a row's start and end are those of the rows p and q together.
 fn spans_parts(row: Row, p: Row, q: Row) -> bool
     ensures { λ r. ⌜ r ≡ spansParts row p q ⌝ }
 {
@@ -231,6 +263,7 @@ fn meets_condition(kind: Kind, b: u32, p: Row, q: Row) -> bool
         Kind::Pair(c) => interval::is_related(c, p.start, p.end, q.start, q.end),
         Kind::Absence(_) => true,
         Kind::Length(c) => interval::has_length(c, b, p.start, p.end),
+        Kind::After => true,
         Kind::Unknown => true,
     }
 }

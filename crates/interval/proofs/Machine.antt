@@ -1,17 +1,17 @@
 -- Signed machine numbers: what a signed variable holds is read back as it is, `==` tests equality, a cast keeps the number.
-use Prim.Native.Nat.{_+_, _<_, _≤_, _^_}
+use Prim.Native.Nat.{ℕ, _+_, _<_, _≤_, _^_}
 use native.Mathlib.Omega.{arith}
 use mathlib.Core.Path.{_≡_, refl, sym, ap, _∙_}
 use mathlib.Core.Bool.{Bool, true, false}
 use borrow.Author.Tests.{eqb-true, eqb-false, eq-eqb, ne-eqb}
 use lib.Dec.{T, eqb}
-use lib.IntN.{ℤ, pos, negsuc, natAbs, _-ℤ_}
+use lib.IntN.{ℤ, pos, negsuc, natAbs, _+ℤ_, _-ℤ_}
 use lib.Signed.{leZ, mag, nonNeg}
 use mir.Syntax.{Width, w32, w64}
 use mir.Val.{SFits, Fits, toZ, ofZ}
 use mir.ValLaws.{toZ-ofZ}
 use Rattle.interval.specs.Instants.{isInstant, eqZ}
-use Rattle.interval.proofs.Signed.{posPart, negPart, never, instant-told, eq-true, eq-false, sub-fact}
+use Rattle.interval.proofs.Signed.{posPart, negPart, never, instant-told, eq-true, eq-false, add-fact, sub-fact}
 
 -- a bound on the sum is one on both, since one of the two is 0
 fits32′ : (z : ℤ) → mag z < 2 ^ 31 → posPart z + negPart z ≤ 2 ^ 31
@@ -20,6 +20,11 @@ fits32′ (negsuc n) h = omega arith
 
 pub fits32 : (z : ℤ) → SFits w32 z → posPart z + negPart z ≤ 2 ^ 31
 fits32 z f = fits32′ z (f .sfits)
+
+-- nothing above is one
+pub most32 : (z : ℤ) → SFits w32 z → posPart z < negPart z + 2 ^ 31
+most32 (pos n) f = omega (arith, f .sfits)
+most32 (negsuc n) f = omega arith
 
 pub is-fit32 : (z : ℤ) → (posPart z < negPart z + 2 ^ 31) × (negPart z ≤ posPart z + 2 ^ 31) → SFits w32 z
 is-fit32 (pos n) h = record { sfits = omega arith }
@@ -74,3 +79,10 @@ cast-up (negsuc n) f e = never e
 pub pos-of : (z : ℤ) → leZ (pos 0) z ≡ true → pos (natAbs z) ≡ z
 pos-of (pos n) e = refl
 pos-of (negsuc n) e = never e
+
+-- the sum of an i32 and a u32 is an i64, and so is their difference
+pub delayed-fits : (a : ℤ) (d : ℕ) → SFits w32 a → d < 2 ^ 32 → SFits w64 (a +ℤ pos d)
+delayed-fits a d f g = is-fit64 _ (omega (arith, add-fact a (pos d), fits32 a f))
+
+pub earlier-fits : (a : ℤ) (d : ℕ) → SFits w32 a → d < 2 ^ 32 → SFits w64 (a -ℤ pos d)
+earlier-fits a d f g = is-fit64 _ (omega (arith, sub-fact a (pos d), fits32 a f))

@@ -124,6 +124,13 @@ eq-same (negsuc a) = eq-eqb a a refl
 pub eq-false : (a b : ℤ) → eqZ a b ≡ false → a ≡ b → ⊥
 eq-false a b e p = never (sym e ∙ (rw p (eq-same b)))
 
+pub not-eq : (a b : ℤ) → (a ≡ b → ⊥) → eqZ a b ≡ false
+not-eq a b d = go (eqZ a b) refl
+  where
+    go : (c : Bool) → eqZ a b ≡ c → c ≡ false
+    go true p = absurd (d (eq-true a b p))
+    go false p = refl
+
 pub eq-told : (a b : ℤ) → eqZ a b ≡ true → posPart a + negPart b ≡ posPart b + negPart a
 eq-told a b e = eq-fact (eq-true a b e)
 
@@ -258,3 +265,17 @@ neg-eq a b = go (eqZ (negℤ a) (negℤ b)) (eqZ b a) refl refl
     go true false p q = absurd (eq-false b a q (at (eq-told (negℤ a) (negℤ b) p)))
     go false true p q = absurd (eq-false (negℤ a) (negℤ b) p (ap negℤ (sym (eq-true b a q))))
     go false false p q = refl
+
+-- a sum with a natural number is no less
+pub add-most : (a : ℤ) (d : ℕ) → a ≤ᶻ (a +ℤ pos d)
+add-most a d = omega (arith, add-fact a (pos d))
+
+pub add-none : (a : ℤ) → a +ℤ pos 0 ≡ a
+add-none a = antisym (a +ℤ pos 0) a (omega (arith, add-fact a (pos 0))) (omega (arith, add-fact a (pos 0)))
+
+pub add-one-more : (a : ℤ) (n : ℕ) → a +ℤ pos 1 +ℤ pos n ≡ a +ℤ pos (suc n)
+add-one-more a n =
+    let p = add-fact a (pos 1) in
+    let q = add-fact (a +ℤ pos 1) (pos n) in
+    let r = add-fact a (pos (suc n)) in
+    antisym (a +ℤ pos 1 +ℤ pos n) (a +ℤ pos (suc n)) (omega arith) (omega arith)

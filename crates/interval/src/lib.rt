@@ -2,7 +2,7 @@
 // goes by these contracts and by the laws of `proofs/Laws.antt`, and looks at no inequality itself. Every function takes constant time and
 // accepts every input. Comparisons are joined by `&` and `|`: each is as cheap as the branch that would spare it.
 ghost use mathlib.Core.Path.{_≡_};
-ghost use lib.IntN.{_-ℤ_};
+ghost use lib.IntN.{pos, _+ℤ_, _-ℤ_};
 ghost use lib.Signed.{ltZ, leZ};
 ghost use Rattle.interval.specs.Instants.{isInstant, isLength, firstFloor, isMarkRefused, isForgetRefused, eqZ, least, greatest};
 ghost use Rattle.interval.specs.Conditions.{isRelated, endingOf, isForbidding, hasLength};
@@ -86,6 +86,19 @@ pub fn is_no_later(a: i32, b: i32) -> bool
     a <= b
 }
 
+// Both comparisons of numbers that are not known to fit an i32.
+pub fn is_wide_before(x: i64, y: i64) -> bool
+    ensures { λ r. ⌜ r ≡ ltZ x y ⌝ }
+{
+    x < y
+}
+
+pub fn is_wide_no_later(x: i64, y: i64) -> bool
+    ensures { λ r. ⌜ r ≡ leZ x y ⌝ }
+{
+    x <= y
+}
+
 // Whether a and b are one instant.
 pub fn is_same(a: i32, b: i32) -> bool
     ensures { λ r. ⌜ r ≡ eqZ a b ⌝ }
@@ -126,6 +139,40 @@ pub fn length_of(start: i32, end: i32) -> i64
     ensures { λ r. ⌜ r ≡ end -ℤ start ⌝ }
 {
     (end as i64) - (start as i64)
+}
+
+// The end of a wait of d that begins at `end`; wider than an instant, so that no sum overflows.
+pub fn delayed(end: i32, d: u32) -> i64
+    ensures { λ r. ⌜ r ≡ end +ℤ pos d ⌝ }
+{
+    (end as i64) + (d as i64)
+}
+
+// Where a wait of d begins that ends at x; as wide.
+pub fn earlier_by(x: i32, d: u32) -> i64
+    ensures { λ r. ⌜ r ≡ x -ℤ pos d ⌝ }
+{
+    (x as i64) - (d as i64)
+}
+
+// Whether a wait of d that begins at `part` ends at `end`. Compared in 32 bits, once the sum is known to fit: an end that is widened takes the check of rows
+// a register more, and on some tables half as long again.
+pub fn is_delayed(part: i32, d: u32, end: i32) -> bool
+    ensures { λ r. ⌜ r ≡ eqZ end (part +ℤ pos d) ⌝ }
+{
+    let z = delayed(part, d);
+    if 2147483647 < z {
+        return false;
+    }
+    end == z as i32
+}
+
+// The end of a wait of d that begins at `end`, or the limit where that is no later.
+pub fn least_delayed(end: i32, d: u32, limit: i32) -> i32
+    ensures { λ r. ⌜ r ≡ least (end +ℤ pos d) limit ⌝ }
+{
+    let z = delayed(end, d);
+    if z <= limit as i64 { z as i32 } else { limit }
 }
 
 // Whether the interval r, from rs to re, and the interval s, from ss to se, meet the condition of the operator c.

@@ -14,7 +14,7 @@ use Rattle.interval.specs.Conditions.{isRelated, hasLength}
 use Rattle.interval.specs.declared.Relation.{Relation}
 use Rattle.interval.proofs.Signed.{_≤ᶻ_, eq-fact, is-lt, is-le, eq-same, holds→}
 use Rattle.model.specs.Lists.{every, keep, numbers}
-use Rattle.model.specs.Recognitions.{Event, Operator, event, related, or, absence, lasting, Arm, only, left, right, Recognition, ofOne, ofTwo, entryOf, startOf, endOf, recognitions}
+use Rattle.model.specs.Recognitions.{Event, Operator, event, related, or, absence, lasting, after, Arm, only, left, right, delayed, Recognition, ofOne, ofTwo, entryOf, startOf, endBy, endOf, recognitions}
 use Rattle.model.specs.Order.{before, listing, Row, row, place, asRow, asRows}
 use Rattle.model.specs.Reference.{Model, isAt}
 use Rattle.model.specs.RowSteps.{Node, rowAt, shown}
@@ -64,8 +64,8 @@ module _ (ops : List Operator) (c : Chart 0 ops) (es : List Event) (count : ℕ)
       let w : rowAt R (place L u) ≡ asRow L u = row-at ops c es f o u (k .0) in
       both (lt-ltb (place L u) i (k .1)) (both (eq-eqb ((rowAt R (place L u)) .entry) a (ap (λ z. z .entry) w ∙ row-entry L u ∙ e)) (subst (λ z. p z ≡ true) (sym w) q))
 
-  spans-one : (i n : ℕ) (m : Arm) (u : Recognition) → spansOne count R i (asRow L (ofOne n m u)) (asRow L u) ≡ true
-  spans-one i n m u = both (equal (sym (row-start L u))) (equal (sym (row-end L u)))
+  spans-one : (i n : ℕ) (m : Arm) (u : Recognition) → spansOne count R i (asRow L (ofOne n m u)) m (asRow L u) ≡ true
+  spans-one i n m u = both (equal (sym (row-start L u))) (equal (ap (endBy m) (sym (row-end L u))))
 
   spans-two : (k : Relation) (i n : ℕ) (u v : Recognition) → T (isRelated k (startOf u) (endOf u) (startOf v) (endOf v)) → spansTwo count R i (asRow L (ofTwo n u v)) k (asRow L u) (asRow L v) ≡ true
   spans-two k i n u v h =
@@ -89,11 +89,12 @@ module _ (ops : List Operator) (c : Chart 0 ops) (es : List Event) (count : ℕ)
       let p = parts-earlier ops c es f o (ofTwo n (q .l) (q .r)) m in
       refer i w (q .l) a (λ z. refers count R i w (pos (place L (q .r))) b (spansTwo count R i w k z)) (p .0) (q .hasl .entry)
       (refer i w (q .r) b (spansTwo count R i w k (asRow L (q .l))) (p .1) (q .hasr .entry) (spans-two k i n (q .l) (q .r) (q .ok))))
-  agree n (or a b) x (inl q) = subst (Agrees n (or a b)) (sym (q .is)) (λ m. first false (both (single n left a (q .r) (spansOne count R (place L (ofOne n left (q .r))) (asRow L (ofOne n left (q .r)))) (q .hasr .entry) m (spans-one (place L (ofOne n left (q .r))) n left (q .r))) refl))
-  agree n (or a b) x (inr q) = subst (Agrees n (or a b)) (sym (q .is)) (λ m. single n right b (q .r) (spansOne count R (place L (ofOne n right (q .r))) (asRow L (ofOne n right (q .r)))) (q .hasr .entry) m (spans-one (place L (ofOne n right (q .r))) n right (q .r)))
-  agree n (absence k a b) x q = subst (Agrees n (absence k a b)) (sym (q .is)) (λ m. both (single n only a (q .r) (spansOne count R (place L (ofOne n only (q .r))) (asRow L (ofOne n only (q .r)))) (q .hasr .entry) m (spans-one (place L (ofOne n only (q .r))) n only (q .r))) refl)
+  agree n (or a b) x (inl q) = subst (Agrees n (or a b)) (sym (q .is)) (λ m. first false (both (single n left a (q .r) (spansOne count R (place L (ofOne n left (q .r))) (asRow L (ofOne n left (q .r))) left) (q .hasr .entry) m (spans-one (place L (ofOne n left (q .r))) n left (q .r))) refl))
+  agree n (or a b) x (inr q) = subst (Agrees n (or a b)) (sym (q .is)) (λ m. single n right b (q .r) (spansOne count R (place L (ofOne n right (q .r))) (asRow L (ofOne n right (q .r))) right) (q .hasr .entry) m (spans-one (place L (ofOne n right (q .r))) n right (q .r)))
+  agree n (absence k a b) x q = subst (Agrees n (absence k a b)) (sym (q .is)) (λ m. both (single n only a (q .r) (spansOne count R (place L (ofOne n only (q .r))) (asRow L (ofOne n only (q .r))) only) (q .hasr .entry) m (spans-one (place L (ofOne n only (q .r))) n only (q .r))) refl)
+  agree n (after a d) x q = subst (Agrees n (after a d)) (sym (q .is)) (λ m. both (single n (delayed d) a (q .r) (spansOne count R (place L (ofOne n (delayed d) (q .r))) (asRow L (ofOne n (delayed d) (q .r))) (delayed d)) (q .hasr .entry) m (spans-one (place L (ofOne n (delayed d) (q .r))) n (delayed d) (q .r))) refl)
   agree n (lasting k a d) x q = subst (Agrees n (lasting k a d)) (sym (q .is)) (λ m. both
-      (single n only a (q .r) (λ z. spansOne count R (place L (ofOne n only (q .r))) (asRow L (ofOne n only (q .r))) z && hasLength k d (z .start) (z .end)) (q .hasr .entry) m
+      (single n only a (q .r) (λ z. spansOne count R (place L (ofOne n only (q .r))) (asRow L (ofOne n only (q .r))) only z && hasLength k d (z .start) (z .end)) (q .hasr .entry) m
       (both (spans-one (place L (ofOne n only (q .r))) n only (q .r)) (subst₂ (λ z w. hasLength k d z w ≡ true) (sym (row-start L (q .r))) (sym (row-end L (q .r))) (holds→ _ (q .ok))))) refl)
 
   agrees-at : (os : List Operator) (n : ℕ) (op : Operator) (i : ℕ) (r : Row) → OperatorAt os n op → agrees count R i r op ≡ true → agreesAt count R i r os n ≡ true

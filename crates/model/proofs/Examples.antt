@@ -1,6 +1,6 @@
 -- Each operator at its boundary, the misreadings that document 01 forbids, and each refusal: one list of cases, one theorem that the checker
--- computes. What must come out was found by hand from document 01 and request N2; where request N7 changes it, by a plain set-building program, and in
--- `floors` by hand. P1 to P8 are computed from text in crate `program`.
+-- computes. What must come out was found by hand from document 01 and request N2; where request N7 changes it, and for request N1, by a plain
+-- set-building program, and in `floors` by hand. P1 to P8 are computed from text in crate `program`.
 use Prim.Native.Nat.{ℕ, suc, _<_, _≤_}
 use mathlib.Core.Path.{_≡_, refl}
 use mathlib.Core.List.{List, [], _∷_, _++_, map}
@@ -16,9 +16,10 @@ use Rattle.interval.specs.declared.LengthTest.{LengthTest}
 use Rattle.interval.specs.declared.LengthTest.the-variants.{Lasts, AtMost, AtLeast}
 use Rattle.model.specs.Lists.{keep}
 use Rattle.model.specs.Recognitions as R
-use Rattle.model.specs.Recognitions.{Operator, related, or, absence, lasting, recognitionsOf, withEntries, recognitions}
+use Rattle.model.specs.Recognitions.{Operator, related, or, absence, lasting, after, recognitionsOf, withEntries, recognitions}
 use Rattle.model.specs.Capacity.{capacity}
 use Rattle.model.specs.Order.{compare, listing, Row, row, none}
+use Rattle.model.specs.RowSteps.{extendRows, closeRows, dueEnds, nextDue, closeDue}
 use Rattle.model.specs.Reference.{Model, opening, Call, event, clock, forget, isAt, eventStep, clockStep, forgetStep, step, run, numbersOf, rowsOf}
 
 -- A chart, the number of rows the table can hold, the opening instant and the calls; what must come out: the number that the opening and
@@ -139,6 +140,28 @@ tightest =
     log7 : List Call
     log7 = event 1 ∷ clock (pos 1) ∷ event 1 ∷ event 1 ∷ clock (pos 2) ∷ event 2 ∷ clock (pos 3) ∷ []
 
+-- "A delay operator" (request N1): a jump over several due ends, each in order of end, a delay of a delay and one of 0; not due at its own
+-- end, due after it; an event at a delayed end; what happens during the wait forbids; an end at 1,000,000,000 or later; a table full by
+-- what a jump makes due; a wait begun before the floor
+abbrev delays : List Case
+delays =
+    case (R.event 1 ∷ after 0 2 ∷ after 1 3 ∷ after 0 0 ∷ []) 3000 (pos 0) (event 1 ∷ clock (pos 1) ∷ event 1 ∷ clock (pos 10) ∷ []) (taken 4)
+    (row-l 0 1 0 0 ∷ row-l 3 0 0 0 ∷ row-l 0 2 1 1 ∷ row-l 3 2 1 1 ∷ row-l 1 0 0 2 ∷ row-l 1 2 1 3 ∷ row-l 2 4 0 5 ∷ row-l 2 5 1 6 ∷ []) ∷
+    case (R.event 1 ∷ after 0 5 ∷ []) 3000 (pos 0) (event 1 ∷ clock (pos 5) ∷ []) (taken 2)
+    (row-l 0 1 0 0 ∷ []) ∷
+    case (R.event 1 ∷ after 0 5 ∷ []) 3000 (pos 0) (event 1 ∷ clock (pos 5) ∷ clock (pos 6) ∷ []) (taken 3)
+    (row-l 0 1 0 0 ∷ row-l 1 0 0 5 ∷ []) ∷
+    case (R.event 1 ∷ R.event 2 ∷ after 0 2 ∷ related Finishes 1 2 ∷ related Seq 2 1 ∷ []) 3000 (pos 0) (event 1 ∷ clock (pos 2) ∷ event 2 ∷ clock (pos 3) ∷ event 2 ∷ clock (pos 4) ∷ []) (taken 6)
+    (row-l 0 1 0 0 ∷ row-l 1 2 2 2 ∷ row-l 2 0 0 2 ∷ row-lr 3 1 2 0 2 ∷ row-l 1 3 3 3 ∷ row-lr 4 2 4 0 3 ∷ []) ∷
+    case (R.event 1 ∷ R.event 2 ∷ after 0 5 ∷ absence ClosedClosed 2 1 ∷ []) 3000 (pos 0) (event 1 ∷ clock (pos 1) ∷ event 1 ∷ event 2 ∷ clock (pos 2) ∷ event 1 ∷ clock (pos 9) ∷ []) (taken 7)
+    (row-l 0 1 0 0 ∷ row-l 0 2 1 1 ∷ row-l 1 3 1 1 ∷ row-l 0 4 2 2 ∷ row-l 2 0 0 5 ∷ row-l 2 1 1 6 ∷ row-l 2 3 2 7 ∷ row-l 3 6 2 7 ∷ []) ∷
+    case (R.event 1 ∷ after 0 9 ∷ after 0 10 ∷ after 0 2000000000 ∷ []) 3000 (pos 999999990) (event 1 ∷ clock (pos 1000000000) ∷ []) (taken 2)
+    (row-l 0 1 999999990 999999990 ∷ row-l 1 0 999999990 999999999 ∷ []) ∷
+    case (R.event 1 ∷ after 0 2 ∷ after 1 3 ∷ []) 2 (pos 0) (event 1 ∷ clock (pos 5) ∷ clock (pos 6) ∷ []) (0 ∷ 0 ∷ 0 ∷ 12 ∷ [])
+    (row-l 0 1 0 0 ∷ row-l 1 0 0 2 ∷ []) ∷
+    case (R.event 1 ∷ after 0 2 ∷ []) 3000 (pos 0) (event 1 ∷ clock (pos 1) ∷ event 1 ∷ forget (pos 1) ∷ clock (pos 9) ∷ []) (taken 5)
+    (row-l 0 2 1 1 ∷ row-l 1 0 1 3 ∷ []) ∷ []
+
 -- An absence is not decided while its last instant is open: nothing stands there yet; a forbidding event may still come; once the
 -- instant is closed none comes too late.
 abbrev openInstants : List Case
@@ -181,7 +204,7 @@ refusals =
     case (R.event 1 ∷ []) 3000 (pos 0) (event 1 ∷ forget (negsuc 1000000000) ∷ forget (negsuc 999999999) ∷ forget (pos 1) ∷ forget (pos 0) ∷ forget (pos 0) ∷ forget (negsuc 0) ∷ clock (pos 1) ∷ []) (0 ∷ 0 ∷ 11 ∷ 0 ∷ 11 ∷ 0 ∷ 0 ∷ 11 ∷ 0 ∷ []) (row-l 0 1 0 0 ∷ []) ∷ []
 
 pub cases : List Case
-cases = relations ++ overlaps ++ absences ++ lengths ++ codes ++ orders ++ tightest ++ openInstants ++ floors ++ fullTables ++ refusals
+cases = relations ++ overlaps ++ absences ++ lengths ++ codes ++ orders ++ tightest ++ delays ++ openInstants ++ floors ++ fullTables ++ refusals
 
 pub examples : map outcome cases ≡ map expected cases
 unfolding cases opening eventStep clockStep forgetStep run numbersOf listing compare recognitions withEntries recognitionsOf isInstant firstFloor isMarkRefused isForgetRefused isRelated isForbidding hasLength
@@ -200,3 +223,9 @@ serials-spent m k h = rw (le-leb 1000000 (length (m .events)) h)
 pub serials-left : (m : Model) (k : ℕ) → length (m .events) < 1000000 → length (keep (isAt (m .openInstant)) (m .events)) < 64 → (eventStep m k) .number ≡ 0
 unfolding eventStep
 serials-left m k h l = rw (lt-leb 1000000 (length (m .events)) h, lt-leb 64 (length (keep (isAt (m .openInstant)) (m .events))) l)
+
+-- a jump over 1,000,000,000 instants closes four of them
+pub long-jump : closeDue 9 (pos 0) (pos 1000000000) (record { serial = 1; code = 1; instant = pos 0 } ∷ []) (R.event 1 ∷ after 0 2 ∷ after 1 3 ∷ after 0 999999999 ∷ after 0 1000000000 ∷ []) [] ≡
+    row-l 0 1 0 0 ∷ row-l 1 0 0 2 ∷ row-l 2 1 0 5 ∷ row-l 3 0 0 999999999 ∷ []
+unfolding closeDue nextDue dueEnds closeRows extendRows
+long-jump = refl

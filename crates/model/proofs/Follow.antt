@@ -9,13 +9,13 @@ use lib.Dec.{T, ltb, ltb→lt, nltb→le}
 use lib.IntN.{ℤ, pos}
 use lib.ListN.{length, getD}
 use Rattle.interval.proofs.Signed.{_<ᶻ_, least-is, greatest-is, le-cases}
-use Rattle.model.specs.Recognitions.{Event, Operator, event, related, or, absence, lasting, Recognition, ofEvent, ofOne, ofTwo, entryOf, startOf, endOf, recognitions}
+use Rattle.model.specs.Recognitions.{Event, Operator, event, related, or, absence, lasting, after, Recognition, ofEvent, ofOne, ofTwo, entryOf, startOf, endOf, recognitions}
 use Rattle.model.specs.Order.{before, listing, row, place, asRow, asRows}
 use Rattle.model.specs.RowSteps.{Node, rowAt}
 use Rattle.model.specs.Statements.{Sorted, Reads}
 use Rattle.model.proofs.Sorted.{T-em}
 use Rattle.model.proofs.Order.{before-irrefl, before-trans}
-use Rattle.model.proofs.Trees.{tree, trees}
+use Rattle.model.proofs.Trees.{end-by, tree, trees}
 use Rattle.model.proofs.Made.{Made}
 use Rattle.model.proofs.Local.{Lower, Chart}
 use Rattle.model.proofs.Extend.{recs-from}
@@ -57,6 +57,7 @@ made-lower n (related c a b) es ts x l m = subst (λ z. Parts (λ u. entryOf u <
 made-lower n (or a b) es ts x l (inl m) = subst (λ z. Parts (λ u. entryOf u < n) (tree n z)) (sym (m .is)) (subst (λ z. z < n) (sym (m .hasr .entry)) (l .0))
 made-lower n (or a b) es ts x l (inr m) = subst (λ z. Parts (λ u. entryOf u < n) (tree n z)) (sym (m .is)) (subst (λ z. z < n) (sym (m .hasr .entry)) (l .1))
 made-lower n (absence c a b) es ts x l m = subst (λ z. Parts (λ u. entryOf u < n) (tree n z)) (sym (m .is)) (subst (λ z. z < n) (sym (m .hasr .entry)) (l .0))
+made-lower n (after a d) es ts x l m = subst (λ z. Parts (λ u. entryOf u < n) (tree n z)) (sym (m .is)) (subst (λ z. z < n) (sym (m .hasr .entry)) l)
 made-lower n (lasting c a d) es ts x l m = subst (λ z. Parts (λ u. entryOf u < n) (tree n z)) (sym (m .is)) (subst (λ z. z < n) (sym (m .hasr .entry)) l)
 
 pub recs-lower : (ops : List Operator) → Chart 0 ops → (es : List Event) (t : Recognition) → List·Memᴰ t (recognitions ops es) → Parts (λ u. entryOf u < entryOf t) t
@@ -81,7 +82,7 @@ module _ (ops : List Operator) (c : Chart 0 ops) (es : List Event) (f o : ℤ) w
   parts-earlier (ofEvent n s x) m = tt
   parts-earlier (ofOne n a t) m =
       let k : List·Memᴰ t L = listing-closed ops es f o (ofOne n a t) m in
-      (k, place-less L (ofOne n a t) t (listing-lists ops es f o .sorted) m k (part-before (ofOne n a t) t (omega arith) (recs-lower ops c es (ofOne n a t) (listing-lists ops es f o .sound (ofOne n a t) m))))
+      (k, place-less L (ofOne n a t) t (listing-lists ops es f o .sorted) m k (part-before (ofOne n a t) t (omega (arith, end-by a (endOf t))) (recs-lower ops c es (ofOne n a t) (listing-lists ops es f o .sound (ofOne n a t) m))))
   parts-earlier (ofTwo n l r) m =
       let k = listing-closed ops es f o (ofTwo n l r) m in
       let w = recs-lower ops c es (ofTwo n l r) (listing-lists ops es f o .sound (ofTwo n l r) m) in

@@ -8,7 +8,7 @@ use lib.ListN.{length, getD, take, length-map}
 use lib.IntN.{ℤ, pos}
 use lib.Signed.{leZ}
 use Rattle.model.specs.Lists.{keep}
-use Rattle.model.specs.Recognitions.{Operator, Arm, only, left, right, Recognition, ofEvent, ofOne, ofTwo, startOf}
+use Rattle.model.specs.Recognitions.{Operator, Arm, only, left, right, delayed, Recognition, ofEvent, ofOne, ofTwo, startOf}
 use Rattle.model.specs.Order.{Row, before, row, none, place, leftOf, rightOf, asRow, asRows}
 use Rattle.model.specs.RowSteps.{placed, renumber, isEventAt, renumberedBy, keepRows, isLate, forgetRows}
 use Rattle.model.specs.Statements.{Sorted}
@@ -38,11 +38,13 @@ renumber-left : (g : ℕ → ℕ) (m : Arm) (i : ℕ) → renumber g (leftOf m i
 renumber-left g only i = refl
 renumber-left g left i = refl
 renumber-left g right i = refl
+renumber-left g (delayed d) i = refl
 
 renumber-right : (g : ℕ → ℕ) (m : Arm) (i : ℕ) → renumber g (rightOf m i) ≡ rightOf m (g i)
 renumber-right g only i = refl
 renumber-right g left i = refl
 renumber-right g right i = refl
+renumber-right g (delayed d) i = refl
 
 abbrev pub lateTree : ℤ → Recognition → Bool
 lateTree f t = leZ f (startOf t)

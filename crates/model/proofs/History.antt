@@ -6,16 +6,16 @@ use mathlib.Core.Logic.{_⊎_, inl, inr}
 use mathlib.Core.Bool.{Bool, true, false, cond, not}
 use mathlib.Core.List.{List, [], _∷_, _++_, map, map-append, append-assoc, append-nil, List·Memᴰ, List·Memᴰ·not-nil, List·Memᴰ·append-cases}
 use lib.Dec.{T, ltb, leb, nltb→le, nleb→lt}
-use lib.IntN.{ℤ, pos}
+use lib.IntN.{ℤ, pos, negsuc, natAbs, _+ℤ_, _-ℤ_}
 use lib.ListN.{length, length-map, length-append}
 use Rattle.interval.specs.Instants.{isInstant, firstFloor, isMarkRefused, isForgetRefused, eqZ}
-use Rattle.interval.proofs.Signed.{_≤ᶻ_, _<ᶻ_, eq-fact, eqZ→, eqZ-refl, holds→, →holds, fails→, is-instant}
+use Rattle.interval.proofs.Signed.{posPart, negPart, _≤ᶻ_, _<ᶻ_, eq-fact, eqZ→, eqZ-refl, holds→, →holds, fails→, is-instant, add-fact, sub-fact, antisym}
 use Rattle.interval.proofs.Laws.{floor-instant, floor-least, mark-taken, forget-taken}
 use Rattle.model.specs.Lists.{keep, numbers}
 use Rattle.model.specs.Recognitions.{Event, Operator}
 use Rattle.model.specs.Order.{Row, listing, asRow, asRows}
 use Rattle.model.specs.Reference.{Model, model, Answer, accepted, refused, opening, Call, event, clock, forget, isAt, eventStep, clockStep, forgetStep, step, run, numbersOf, rowsOf}
-use Rattle.model.specs.RowSteps.{closeRows, keepRows, isLate, forgetRows, Watch, watch, numbered, closedRows, watchOpening, watchEvent, watchClock, watchForget, watchStep, shown}
+use Rattle.model.specs.RowSteps.{closeInstants, instantsTo, keepRows, isLate, forgetRows, Watch, watch, numbered, closedRows, watchOpening, watchEvent, watchClock, watchForget, watchStep, shown}
 use Rattle.model.proofs.Sorted.{cond-T, keep-append}
 use Rattle.model.proofs.Local.{Chart}
 use Rattle.model.proofs.Place.{keep-none}
@@ -114,14 +114,22 @@ keep-new m k = keep-append (isAt (m .openInstant)) (m .events) (newEvent m k ∷
 rows-length : (chart : List Operator) (es : List Event) (f o : ℤ) → length (asRows (listing chart es f o)) ≡ length (listing chart es f o)
 rows-length chart es f o = length-map (listing chart es f o) (asRow (listing chart es f o))
 
+-- o and the instants from o to t-1 make t
+pub instants-to : (o t : ℤ) → o ≤ᶻ t → o +ℤ pos (instantsTo o t) ≡ t
+instants-to o t h = go (t -ℤ o) (sub-fact t o)
+  where
+    go : (z : ℤ) → posPart z + (negPart t + posPart o) ≡ negPart z + (posPart t + negPart o) → o +ℤ pos (natAbs z) ≡ t
+    go (pos n) e = let p = add-fact o (pos n) in antisym (o +ℤ pos n) t (omega arith) (omega arith)
+    go (negsuc n) e = absurd (omega arith)
+
 module _ (chart : List Operator) (c : Chart 0 chart) (capacity : ℕ) where
-  -- closing the open instant
-  pub closed-is : (m : Model) → Good chart capacity m → (t : ℤ) → m .openInstant <ᶻ t → closedRows chart (shown chart m) ≡ asRows (listing chart (m .events) (m .floor) t)
+  -- closing the instants from the open one to t-1
+  pub closed-is : (m : Model) → Good chart capacity m → (t : ℤ) → m .openInstant <ᶻ t → closedRows chart (shown chart m) t ≡ asRows (listing chart (m .events) (m .floor) t)
   unfolding shown
   closed-is m g t lt =
-      ap₂ (λ n ks. closeRows (m .openInstant) (numbered (m .openInstant) (suc n) ks) chart (rowsOf chart m)) count-old (pending-is g)
-      ∙ ap (λ es. closeRows (m .openInstant) now chart (asRows (listing chart es (m .floor) (m .openInstant)))) (g .is)
-      ∙ listing-clock chart c (g .old) (suc (length (g .old))) (g .pending) (m .floor) (m .openInstant) (g .low) (g .past) t lt
+      ap₂ (λ n ks. closeInstants (instantsTo (m .openInstant) t) (m .openInstant) (numbered (m .openInstant) (suc n) ks) chart (rowsOf chart m)) count-old (pending-is g)
+      ∙ ap (λ es. closeInstants (instantsTo (m .openInstant) t) (m .openInstant) now chart (asRows (listing chart es (m .floor) (m .openInstant)))) (g .is)
+      ∙ listing-clock chart c (g .old) (suc (length (g .old))) (g .pending) (m .floor) (m .openInstant) (g .low) (g .past) (instantsTo (m .openInstant) t) (m .openInstant) t (omega arith) (instants-to (m .openInstant) t (omega arith))
       ∙ ap (λ es. asRows (listing chart es (m .floor) t)) (sym (g .is))
     where
       now : List Event
@@ -143,7 +151,7 @@ module _ (chart : List Operator) (c : Chart 0 chart) (capacity : ℕ) where
   step-shown m g (clock t) =
       cond-lift chart (isMarkRefused (m .openInstant) t) (isMarkRefused (m .openInstant) t) _ _ _ _ refl refl (λ h.
       let lt : m .openInstant <ᶻ t = (mark-taken (m .openInstant) t (fails→ _ h)) .later in
-      let e : closedRows chart (shown chart m) ≡ asRows (listing chart (m .events) (m .floor) t) = closed-is m g t lt in
+      let e : closedRows chart (shown chart m) t ≡ asRows (listing chart (m .events) (m .floor) t) = closed-is m g t lt in
       cond-lift chart (ltb capacity (length (listing chart (m .events) (m .floor) t))) _ _ _ _ _ (ap (ltb capacity) (ap length e ∙ rows-length chart (m .events) (m .floor) t)) refl (λ h'.
       ap accepted (watch-path t (m .floor) refl (sym (ap (map (λ e. e .code)) (later g t lt))) e)))
   step-shown m g (forget f) =

@@ -12,6 +12,8 @@ pub mod Rows
 pub mod Forget
 pub mod Listing
 pub mod History
+pub mod Jump
+pub mod Due
 pub mod Follow
 pub mod Consistency
 pub mod Meaning

@@ -7,15 +7,15 @@ use mathlib.Core.Bool.{not}
 use mathlib.Core.List.{List, [], _∷_, _++_, List·Memᴰ, List·Memᴰ·head, List·Memᴰ·not-nil, List·Memᴰ·cases-cons, List·Memᴰ·append-cases, Memᴰ·append-right}
 use lib.Dec.{T, lt→ltb}
 use lib.ListN.{length}
-use lib.IntN.{ℤ}
-use Rattle.interval.proofs.Signed.{_≤ᶻ_, _<ᶻ_, eq-fact, leZ→, →leZ, least-is, greatest-is, least-most, greatest-most}
+use lib.IntN.{ℤ, pos, _+ℤ_}
+use Rattle.interval.proofs.Signed.{_≤ᶻ_, _<ᶻ_, eq-fact, leZ→, →leZ, least-is, greatest-is, least-most, add-fact, add-none, add-one-more}
 use Rattle.model.specs.Lists.{keep}
-use Rattle.model.specs.Recognitions.{Event, Operator, event, related, or, absence, lasting, Arm, Recognition, ofEvent, ofOne, ofTwo, entryOf, startOf, endOf, recognitions}
+use Rattle.model.specs.Recognitions.{Event, Operator, event, related, or, absence, lasting, after, Arm, Recognition, ofEvent, ofOne, ofTwo, entryOf, startOf, endOf, recognitions}
 use Rattle.model.specs.Order.{before, listing, asRows}
-use Rattle.model.specs.RowSteps.{Node, leaves, nodeStart, nodeEnd, rules, endsAt, closeRows, isEvent, isEventAt, forgetRows, numbered}
+use Rattle.model.specs.RowSteps.{Node, leaves, nodeStart, nodeEnd, rules, endsAt, closeRows, closeInstants, isEvent, isEventAt, forgetRows, numbered}
 use Rattle.model.specs.Statements.{Sorted, OperatorAt}
 use Rattle.model.proofs.Sorted.{sorted-keep, keep-mem, mem-keep}
-use Rattle.model.proofs.Trees.{tree, trees, tree-end, tree-start}
+use Rattle.model.proofs.Trees.{end-by, tree, trees, tree-start}
 use Rattle.model.proofs.Made.{Made}
 use Rattle.model.proofs.Local.{Chart}
 use Rattle.model.proofs.Extend.{always, recognitions-extend, extend-all, recs-from}
@@ -29,11 +29,7 @@ use Rattle.model.proofs.Forget.{Shape, Shaped, lateTree, forget-writes}
 recs-all : (P : Recognition → Type 0) (ops : List Operator) (es : List Event) → ((n : ℕ) (x : Node Recognition) (k : ℕ) → List·Memᴰ x (leaves k es) → P (tree n x)) → ((n : ℕ) (m : Arm) (r : Recognition) → P r → P (ofOne n m r)) → ((n : ℕ) (l r : Recognition) → P l → P r → P (ofTwo n l r)) → (t : Recognition) → List·Memᴰ t (recognitions ops es) → P t
 recs-all P ops es a b c t m = extend-all P es a b c (rules always 0 ops) [] (λ u k. absurd (List·Memᴰ·not-nil k)) t (subst (List·Memᴰ t) (recognitions-extend ops es) m)
 
--- no recognition ends after the last event
-pub recs-end : (ops : List Operator) (es : List Event) (o : ℤ) → ((e : Event) → List·Memᴰ e es → e .instant ≤ᶻ o) → (t : Recognition) → List·Memᴰ t (recognitions ops es) → endOf t ≤ᶻ o
-recs-end ops es o h = recs-all (λ t. endOf t ≤ᶻ o) ops es (λ n x k m. let q = leaves-mem k es x m in let e : endOf (tree n x) ≡ (q .e) .instant = tree-end n x ∙ ap (nodeEnd trees) (q .is) in let l : (q .e) .instant ≤ᶻ o = h (q .e) (q .there) in omega (arith, eq-fact e)) (λ n m r l. l) (λ n l r p q. greatest-most (λ z. z ≤ᶻ o) (endOf l) (endOf r) p q)
-
--- none starts before the first
+-- no recognition starts before the first event
 pub recs-start : (ops : List Operator) (es : List Event) (f : ℤ) → ((e : Event) → List·Memᴰ e es → f ≤ᶻ e .instant) → (t : Recognition) → List·Memᴰ t (recognitions ops es) → f ≤ᶻ startOf t
 recs-start ops es f h = recs-all (λ t. f ≤ᶻ startOf t) ops es (λ n x k m. let q = leaves-mem k es x m in let e : startOf (tree n x) ≡ (q .e) .instant = tree-start n x ∙ ap (nodeStart trees) (q .is) in let l : f ≤ᶻ (q .e) .instant = h (q .e) (q .there) in omega (arith, eq-fact e)) (λ n m r l. l) (λ n l r p q. least-most (λ z. f ≤ᶻ z) (startOf l) (startOf r) p q)
 
@@ -44,6 +40,7 @@ made-shape all n (related c a b) es ts x e m = subst (λ z. Shape all (tree n z)
 made-shape all n (or a b) es ts x e (inl m) = subst (λ z. Shape all (tree n z)) (sym (m .is)) (subst (λ z. T (not z)) (sym e) tt)
 made-shape all n (or a b) es ts x e (inr m) = subst (λ z. Shape all (tree n z)) (sym (m .is)) (subst (λ z. T (not z)) (sym e) tt)
 made-shape all n (absence c a b) es ts x e m = subst (λ z. Shape all (tree n z)) (sym (m .is)) (subst (λ z. T (not z)) (sym e) tt)
+made-shape all n (after a d) es ts x e m = subst (λ z. Shape all (tree n z)) (sym (m .is)) (subst (λ z. T (not z)) (sym e) tt)
 made-shape all n (lasting c a d) es ts x e m = subst (λ z. Shape all (tree n z)) (sym (m .is)) (subst (λ z. T (not z)) (sym e) tt)
 
 event-at : (ops : List Operator) (n : ℕ) (op : Operator) → OperatorAt ops n op → isEventAt ops n ≡ isEvent op
@@ -65,7 +62,7 @@ listing-closed ops es f o t m = go t (l .holds t m) (recs-closed ops es t (l .so
 
     go : (u : Recognition) → Due f o u → Parts (λ v. List·Memᴰ v (recognitions ops es)) u → Parts (λ v. List·Memᴰ v (listing ops es f o)) u
     go (ofEvent n s i) d p = tt
-    go (ofOne n a u) d p = l .full u p d
+    go (ofOne n a u) d p = l .full u p (omega (arith, end-by a (endOf u)))
     go (ofTwo n a b) d p = (l .full a (p .0) (omega (arith, least-is (startOf a) (startOf b), greatest-is (endOf a) (endOf b))), l .full b (p .1) (omega (arith, least-is (startOf a) (startOf b), greatest-is (endOf a) (endOf b))))
 
 pub listing-shaped : (ops : List Operator) → Chart 0 ops → (es : List Event) (f o : ℤ) → Shaped ops (listing ops es f o)
@@ -109,7 +106,7 @@ numbered-sorted : (o : ℤ) (s : ℕ) (ks : List ℕ) → Sorted bySerial (numbe
 numbered-sorted o s [] = tt
 numbered-sorted o s (k ∷ ks) = (λ e m. let q = numbered-mem o (suc s) ks e m in lt→ltb s (e .serial) (omega (arith, q .1)), numbered-sorted o (suc s) ks)
 
--- a clock mark
+-- a clock mark: the instants from the open one on, one after another
 module _ (ops : List Operator) (c : Chart 0 ops) (old : List Event) (s : ℕ) (ks : List ℕ) (f o : ℤ) (fo : f ≤ᶻ o) (past : (e : Event) → List·Memᴰ e old → e .instant <ᶻ o) where
   abbrev now : List Event
   now = numbered o s ks
@@ -117,35 +114,34 @@ module _ (ops : List Operator) (c : Chart 0 ops) (old : List Event) (s : ℕ) (k
   abbrev all : List Event
   all = old ++ now
 
-  of-now : (k : ℕ) (x : Node Recognition) → nodeEnd trees x ≡ o → List·Memᴰ x (leaves k now) → List·Memᴰ x (leaves k all)
-  of-now k x e m = subst (List·Memᴰ x) (sym (leaves-append k old now)) (Memᴰ·append-right (leaves k old) m)
+  module _ (i : ℤ) (oi : o ≤ᶻ i) where
+    of-now : (k : ℕ) (x : Node Recognition) → nodeEnd trees x ≡ i → List·Memᴰ x (leaves k now) → List·Memᴰ x (leaves k all)
+    of-now k x e m = subst (List·Memᴰ x) (sym (leaves-append k old now)) (Memᴰ·append-right (leaves k old) m)
 
-  in-now : (k : ℕ) (x : Node Recognition) → nodeEnd trees x ≡ o → List·Memᴰ x (leaves k all) → List·Memᴰ x (leaves k now)
-  in-now k x e m = go (List·Memᴰ·append-cases (leaves k old) (subst (List·Memᴰ x) (leaves-append k old now) m))
-    where
-      gone : IsLeaf k old x → ⊥
-      gone q =
-          let a : (q .e) .instant <ᶻ o = past (q .e) (q .there) in
-          let b : nodeEnd trees x ≡ (q .e) .instant = ap (nodeEnd trees) (q .is) in
-          omega (arith, eq-fact (sym b ∙ e))
+    in-now : (k : ℕ) (x : Node Recognition) → nodeEnd trees x ≡ i → List·Memᴰ x (leaves k all) → List·Memᴰ x (leaves k now)
+    in-now k x e m = go (List·Memᴰ·append-cases (leaves k old) (subst (List·Memᴰ x) (leaves-append k old now) m))
+      where
+        gone : IsLeaf k old x → ⊥
+        gone q =
+            let a : (q .e) .instant <ᶻ o = past (q .e) (q .there) in
+            let b : nodeEnd trees x ≡ (q .e) .instant = ap (nodeEnd trees) (q .is) in
+            omega (arith, eq-fact (sym b ∙ e))
 
-      go : List·Memᴰ x (leaves k old) ⊎ List·Memᴰ x (leaves k now) → List·Memᴰ x (leaves k now)
-      go (inl h) = absurd (gone (leaves-mem k old x h))
-      go (inr h) = h
+        go : List·Memᴰ x (leaves k old) ⊎ List·Memᴰ x (leaves k now) → List·Memᴰ x (leaves k now)
+        go (inl h) = absurd (gone (leaves-mem k old x h))
+        go (inr h) = h
 
-  upto : (e : Event) → List·Memᴰ e all → e .instant ≤ᶻ o
-  upto e m = go (List·Memᴰ·append-cases old m)
-    where
-      go : List·Memᴰ e old ⊎ List·Memᴰ e now → e .instant ≤ᶻ o
-      go (inl h) = let l : e .instant <ᶻ o = past e h in omega arith
-      go (inr h) = let q = numbered-mem o s ks e h in omega (arith, eq-fact (q .0))
+    done : Lists (Past f i) (append now (rules (endsAt i) 0 ops) (listing ops all f i)) (recognitions ops all)
+    done = closing ops c f i now all (omega arith) (numbered-sorted o s ks) in-now of-now (listing ops all f i) (listing-lists ops all f i)
 
-  after : Lists (Past f o) (append now (rules (endsAt o) 0 ops) (listing ops all f o)) (recognitions ops all)
-  after = closing ops c f o now all fo (numbered-sorted o s ks) in-now of-now (listing ops all f o) (listing-lists ops all f o)
+    listing-close : closeRows i now ops (asRows (listing ops all f i)) ≡ asRows (listing ops all f (i +ℤ pos 1))
+    unfolding closeRows
+    listing-close = append-writes now (rules (endsAt i) 0 ops) (listing ops all f i) (listing-closed ops all f i) (done .sorted) ∙ ap asRows (lists-same (Past f i) (Due f (i +ℤ pos 1)) _ _ (recognitions ops all) (recognitions ops all) done (listing-lists ops all f (i +ℤ pos 1)) (λ u m d. (m, omega (arith, add-fact i (pos 1)))) (λ u m d. (m, omega (arith, add-fact i (pos 1)))))
 
-  pub listing-clock : (t : ℤ) → o <ᶻ t → closeRows o now ops (asRows (listing ops all f o)) ≡ asRows (listing ops all f t)
-  unfolding closeRows
-  listing-clock t lt = append-writes now (rules (endsAt o) 0 ops) (listing ops all f o) (listing-closed ops all f o) (after .sorted) ∙ ap asRows (lists-same (Past f o) (Due f t) _ _ (recognitions ops all) (recognitions ops all) after (listing-lists ops all f t) (λ u m d. (m, omega arith)) (λ u m d. (m, (d .0, recs-end ops all o upto u m))))
+  pub listing-clock : (n : ℕ) (i t : ℤ) → o ≤ᶻ i → i +ℤ pos n ≡ t → closeInstants n i now ops (asRows (listing ops all f i)) ≡ asRows (listing ops all f t)
+  unfolding closeInstants
+  listing-clock zero i t oi e = ap (λ z. asRows (listing ops all f z)) (sym (add-none i) ∙ e)
+  listing-clock (suc n) i t oi e = ap (closeInstants n (i +ℤ pos 1) now ops) (listing-close i oi) ∙ listing-clock n (i +ℤ pos 1) t (omega (arith, add-fact i (pos 1))) (add-one-more i n ∙ e)
 
 -- with no events there are no recognitions
 empty : (ts : List Recognition) → ((t : Recognition) → List·Memᴰ t ts → ⊥) → ts ≡ []

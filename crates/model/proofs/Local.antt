@@ -8,7 +8,7 @@ use mathlib.Core.List.{List, [], _∷_, List·Memᴰ}
 use lib.Dec.{T, ltb, ltb→lt}
 use Rattle.interval.specs.Conditions.{isForbidding}
 use Rattle.interval.specs.declared.Edges.{Edges}
-use Rattle.model.specs.Recognitions.{Event, Operator, event, related, or, absence, lasting, Arm, only, Recognition, ofOne, ofTwo, entryOf, startOf, endOf, isLower, areLower}
+use Rattle.model.specs.Recognitions.{Event, Operator, event, related, or, absence, lasting, after, Arm, only, Recognition, ofOne, ofTwo, entryOf, startOf, endOf, isLower, areLower}
 use Rattle.model.specs.RowSteps.{Node, leaves}
 use Rattle.model.proofs.Made.{Has, One, Made}
 use Rattle.model.proofs.Trees.{tree, trees}
@@ -21,6 +21,7 @@ Lower n (related c a b) = (a < n) × (b < n)
 Lower n (or a b) = (a < n) × (b < n)
 Lower n (absence c a b) = (a < n) × (b < n)
 Lower n (lasting c a d) = a < n
+Lower n (after a d) = a < n
 
 abbrev pub Chart : ℕ → List Operator → Type 0
 Chart n [] = Unit {0}
@@ -35,6 +36,7 @@ lower n (related c a b) h = two-lower a b n h
 lower n (or a b) h = two-lower a b n h
 lower n (absence c a b) h = two-lower a b n h
 lower n (lasting c a d) h = ltb→lt a n h
+lower n (after a d) h = ltb→lt a n h
 
 pub chart-lower : (n : ℕ) (ops : List Operator) → T (areLower n ops) → Chart n ops
 chart-lower n [] h = tt
@@ -72,3 +74,4 @@ module _ {W : Recognition → Type 0} (w : Window W) (n : ℕ) (es es' : List Ev
       let h' : W (m .r) = w .one n only (m .r) (subst (λ z. W (tree n z)) (m .is) h) in
       record { r = m .r; is = m .is; hasr = moved (lo .0) h' (m .hasr); ok = λ u k t. m .ok u (back (lo .1) (w .bar c (m .r) u t h') k) t }
   local (lasting c a d) lo x h e m = record { r = m .r; is = m .is; hasr = moved lo (w .one n only (m .r) (subst (λ z. W (tree n z)) (m .is) h)) (m .hasr); ok = m .ok }
+  local (after a d) lo x h e m = in-one lo h m

@@ -10,7 +10,7 @@ use Rattle.interval.specs.declared.Relation.{Relation}
 use Rattle.interval.specs.declared.Edges.{Edges}
 use Rattle.interval.specs.declared.LengthTest.{LengthTest}
 use Rattle.model.specs.Lists.{keep}
-use Rattle.model.specs.Recognitions.{Event, Operator, event, related, or, absence, lasting, Arm, only, left, right}
+use Rattle.model.specs.Recognitions.{Event, Operator, event, related, or, absence, lasting, after, Arm, only, left, right, delayed}
 use Rattle.model.specs.RowSteps.{Node, part, pair, View, leaves, make, of, fits, forbidden}
 use Rattle.model.proofs.Sorted.{keep-mem, mem-keep, some-mem, mem-some, each-mem, mem-each}
 
@@ -57,6 +57,7 @@ module _ {A : Type 0} (v : View A) where
   Made (or a b) es xs x = One left a xs x ⊎ One right b xs x
   Made (absence c a b) es xs x = Less c a b xs x
   Made (lasting c a d) es xs x = Long c a d xs x
+  Made (after a d) es xs x = One (delayed d) a xs x
 
   one-made : (m : Arm) (a : ℕ) (xs : List A) {x : Node A} → List·Memᴰ x (map (part m) (of v a xs)) → One m a xs x
   one-made m a xs h = let p = Memᴰ·of-map (part m) (of v a xs) h in record { r = p .0; is = sym (p .2); hasr = has xs a (p .1) }
@@ -80,6 +81,7 @@ module _ {A : Type 0} (v : View A) where
       let p = Memᴰ·of-map (part only) (keep (λ r. hasLength c d (v .start r) (v .end r)) (of v a xs)) m in
       let k = keep-mem (λ r. hasLength c d (v .start r) (v .end r)) (of v a xs) (p .1) in
       record { r = p .0; is = sym (p .2); hasr = has xs a (k .0); ok = k .1 }
+  make-made (after a d) es xs x m = one-made (delayed d) a xs m
 
   pub made-make : (op : Operator) (es : List Event) (xs : List A) (x : Node A) → Made op es xs x → List·Memᴰ x (make v op es xs)
   made-make (event k) es xs x m = m
@@ -91,6 +93,7 @@ module _ {A : Type 0} (v : View A) where
       let q = some-mem (λ z. isForbidding c (v .start (h .r)) (v .end (h .r)) (v .start z) (v .end z)) (of v b xs) t in
       h .ok (q .0) (has xs b (q .1)) (q .2)))))
   made-make (lasting c a d) es xs x h = Memᴰ·cast (h .is) (Memᴰ·map (part only) (mem-keep (λ r. hasLength c d (v .start r) (v .end r)) (of v a xs) (had xs a (h .hasr)) (h .ok)))
+  made-make (after a d) es xs x h = made-one (delayed d) a xs h
 
   -- what holds of each part, and so of what is made
   pub made-all : (P : A → Type 0) (Q : Node A → Type 0) (xs : List A) → ((r : A) → List·Memᴰ r xs → P r) → ((m : Arm) (r : A) → P r → Q (part m r)) → ((l r : A) → P l → P r → Q (pair l r))
@@ -101,3 +104,4 @@ module _ {A : Type 0} (v : View A) where
   made-all P Q xs h f g (or a b) es x e (inr m) = subst Q (sym (m .is)) (f right (m .r) (h (m .r) (m .hasr .there)))
   made-all P Q xs h f g (absence c a b) es x e m = subst Q (sym (m .is)) (f only (m .r) (h (m .r) (m .hasr .there)))
   made-all P Q xs h f g (lasting c a d) es x e m = subst Q (sym (m .is)) (f only (m .r) (h (m .r) (m .hasr .there)))
+  made-all P Q xs h f g (after a d) es x e m = subst Q (sym (m .is)) (f (delayed d) (m .r) (h (m .r) (m .hasr .there)))

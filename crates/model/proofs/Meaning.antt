@@ -5,7 +5,7 @@ use mathlib.Core.Path.{_≡_, refl, ap, _∙_, subst}
 use mathlib.Core.Logic.{inl, inr, _↔_}
 use mathlib.Core.List.{List, [], _∷_, List·Memᴰ}
 use lib.ListN.{length}
-use Rattle.model.specs.Recognitions.{Event, Operator, event, related, or, absence, lasting, only, left, right, Recognition, entryOf, recognitions}
+use Rattle.model.specs.Recognitions.{Event, Operator, event, related, or, absence, lasting, after, only, left, right, delayed, Recognition, entryOf, recognitions}
 use Rattle.model.specs.RowSteps.{Node, leaf, part, pair}
 use Rattle.model.specs.Statements.{OperatorAt, Of, Asks, Line, IsWithin, IsRecognition}
 use Rattle.model.proofs.Trees.{tree, trees}
@@ -29,6 +29,7 @@ module _ (n : ℕ) (es : List Event) (R S : Recognition → Type 0) (f : (u : Re
   asks-same (or a b) lo t (inr h) = inr (h .0, to b (h .0) (lo .1) (h .1), h .2)
   asks-same (absence c a b) lo t h = (h .0, to a (h .0) (lo .0) (h .1), λ s k. h .2 s (fro b s (lo .1) k), h .3)
   asks-same (lasting c a d) lo t h = (h .0, to a (h .0) lo (h .1), h .2, h .3)
+  asks-same (after a d) lo t h = (h .0, to a (h .0) lo (h .1), h .2)
 
 chart-at : (ops : List Operator) (n k : ℕ) (op : Operator) → Chart n ops → OperatorAt ops k op → Lower (n + k) op
 chart-at [] n k op c a = absurd a
@@ -46,6 +47,7 @@ module _ (es : List Event) (all : List Recognition) where
   asked (or a b) x (inl m) t e = inl (m .r, (m .hasr .there, m .hasr .entry), e ∙ ap (tree (entryOf t)) (m .is))
   asked (or a b) x (inr m) t e = inr (m .r, (m .hasr .there, m .hasr .entry), e ∙ ap (tree (entryOf t)) (m .is))
   asked (absence c a b) x m t e = (m .r, (m .hasr .there, m .hasr .entry), λ s h. m .ok s (record { there = h .0; entry = h .1 }), e ∙ ap (tree (entryOf t)) (m .is))
+  asked (after a d) x m t e = (m .r, (m .hasr .there, m .hasr .entry), e ∙ ap (tree (entryOf t)) (m .is))
   asked (lasting c a d) x m t e = (m .r, (m .hasr .there, m .hasr .entry), m .ok, e ∙ ap (tree (entryOf t)) (m .is))
 
   made : (op : Operator) (t : Recognition) → Asks op es In t → (x : Node Recognition) × (t ≡ tree (entryOf t) x) × Made trees op es all x
@@ -54,6 +56,7 @@ module _ (es : List Event) (all : List Recognition) where
   made (or a b) t (inl h) = (part left (h .0), h .2, inl (record { r = h .0; is = refl; hasr = record { there = h .1 .0; entry = h .1 .1 } }))
   made (or a b) t (inr h) = (part right (h .0), h .2, inr (record { r = h .0; is = refl; hasr = record { there = h .1 .0; entry = h .1 .1 } }))
   made (absence c a b) t h = (part only (h .0), h .3, record { r = h .0; is = refl; hasr = record { there = h .1 .0; entry = h .1 .1 }; ok = λ s k. h .2 s (k .there, k .entry) })
+  made (after a d) t h = (part (delayed d) (h .0), h .2, record { r = h .0; is = refl; hasr = record { there = h .1 .0; entry = h .1 .1 } })
   made (lasting c a d) t h = (part only (h .0), h .3, record { r = h .0; is = refl; hasr = record { there = h .1 .0; entry = h .1 .1 }; ok = h .2 })
 
 module _ (chart : List Operator) (c : Chart 0 chart) (es : List Event) where

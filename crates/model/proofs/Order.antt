@@ -10,7 +10,7 @@ use lib.IntN.{ℤ, pos, negℤ}
 use lib.Signed.{ltZ}
 use Rattle.interval.specs.Instants.{eqZ, least, greatest}
 use Rattle.interval.proofs.Signed.{posPart, _<ᶻ_, eq-fact, ltZ→, →ltZ, eqZ→, eqZ-refl, antisym, neg-lt, neg-eq}
-use Rattle.model.specs.Recognitions.{Arm, only, left, right, Recognition, ofEvent, ofOne, ofTwo, entryOf, startOf, endOf}
+use Rattle.model.specs.Recognitions.{Arm, only, left, right, delayed, Recognition, ofEvent, ofOne, ofTwo, entryOf, startOf, endBy, endOf}
 use Rattle.model.specs.Order.{Comparison, less, equal, greater, _then_, compareZ, compareN, armNumber, byEndEntryAndStart, compare, isLess, before}
 use Rattle.model.proofs.Sorted.{T-or, or-T, T-and, and-T}
 
@@ -92,7 +92,7 @@ lex-behind (x ∷ xs) us vs h = lex-eq x x (xs ++ us) (xs ++ vs) refl (lex-behin
 -- the numbers by which a recognition is compared, one after another; the start counts backwards
 abbrev pub key : Recognition → List ℤ
 key (ofEvent n s i) = i ∷ pos n ∷ negℤ i ∷ pos 0 ∷ pos s ∷ []
-key (ofOne n m r) = endOf r ∷ pos n ∷ negℤ (startOf r) ∷ pos 1 ∷ pos (armNumber m) ∷ key r
+key (ofOne n m r) = endBy m (endOf r) ∷ pos n ∷ negℤ (startOf r) ∷ pos 1 ∷ pos (armNumber m) ∷ key r
 key (ofTwo n r s) = greatest (endOf r) (endOf s) ∷ pos n ∷ negℤ (least (startOf r) (startOf s)) ∷ pos 2 ∷ (key r ++ key s)
 
 -- the order of rows is the dictionary order of the keys
@@ -178,12 +178,19 @@ arm-inj : (m m' : Arm) → armNumber m ≡ armNumber m' → m ≡ m'
 arm-inj only only e = refl
 arm-inj only left e = absurd (omega arith)
 arm-inj only right e = absurd (omega arith)
+arm-inj only (delayed d') e = absurd (omega arith)
 arm-inj left only e = absurd (omega arith)
 arm-inj left left e = refl
 arm-inj left right e = absurd (omega arith)
+arm-inj left (delayed d') e = absurd (omega arith)
 arm-inj right only e = absurd (omega arith)
 arm-inj right left e = absurd (omega arith)
 arm-inj right right e = refl
+arm-inj right (delayed d') e = absurd (omega arith)
+arm-inj (delayed d) only e = absurd (omega arith)
+arm-inj (delayed d) left e = absurd (omega arith)
+arm-inj (delayed d) right e = absurd (omega arith)
+arm-inj (delayed d) (delayed d') e = ap delayed (omega arith)
 
 pub key-back : (t u : Recognition) (x y : List ℤ) → key t ++ x ≡ key u ++ y → (t ≡ u) × (x ≡ y)
 key-back (ofEvent n s i) (ofEvent n' s' i') x y e =

@@ -11,7 +11,7 @@ use lib.Signed.{ltZ}
 use Rattle.interval.specs.Conditions.{hasLength}
 use Rattle.interval.proofs.Signed.{_≤ᶻ_, _<ᶻ_, eq-fact, ltZ→, nltZ→, neg-turns, le-cases}
 use Rattle.model.specs.Lists.{keep, each, sortStably}
-use Rattle.model.specs.Recognitions.{Event, Operator, event, related, or, absence, lasting, Arm, only, left, right, Recognition, entryOf, startOf, endOf}
+use Rattle.model.specs.Recognitions.{Event, Operator, event, related, or, absence, lasting, after, Arm, only, left, right, delayed, Recognition, entryOf, startOf, endOf}
 use Rattle.model.specs.Order.{armNumber, before}
 use Rattle.model.specs.RowSteps.{Node, leaf, part, pair, leaves, make, of, fits, forbidden, nodeStart, nodeEnd, Rule}
 use Rattle.model.specs.Statements.{Sorted}
@@ -86,6 +86,7 @@ make-ranked (or a b) es ts g h =
     arm : (m : Arm) (c : ℕ) → Sorted ranked (map (part m) (of trees c ts))
     arm m c = sorted-map before ranked (part m) (of trees c ts) (λ t u m′ n. part-ranked m t u) (sorted-keep before (λ x. eqb (entryOf x) c) ts h)
 make-ranked (absence c a b) es ts g h = sorted-map before ranked (part only) (keep (λ r. not (forbidden trees c (of trees b ts) r)) (of trees a ts)) (λ t u m n. part-ranked only t u) (sorted-keep before (λ r. not (forbidden trees c (of trees b ts) r)) (of trees a ts) (sorted-keep before (λ x. eqb (entryOf x) a) ts h))
+make-ranked (after a d) es ts g h = sorted-map before ranked (part (delayed d)) (of trees a ts) (λ t u m n. part-ranked (delayed d) t u) (sorted-keep before (λ x. eqb (entryOf x) a) ts h)
 make-ranked (lasting c a d) es ts g h = sorted-map before ranked (part only) (keep (λ r. hasLength c d (startOf r) (endOf r)) (of trees a ts)) (λ t u m n. part-ranked only t u) (sorted-keep before (λ r. hasLength c d (startOf r) (endOf r)) (of trees a ts) (sorted-keep before (λ x. eqb (entryOf x) a) ts h))
 
 -- trees of one entry and end: the later start is before; where neither is later, as they are ranked

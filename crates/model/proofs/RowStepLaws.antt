@@ -37,11 +37,11 @@ module _ (chart : List Operator) (capacity : ℕ) (w : Watch) (t : ℤ) where
   unfolding watchClock
   clock-8 e = rw e
 
-  pub clock-12 : isMarkRefused (w .openInstant) t ≡ false → ltb capacity (length (closedRows chart w)) ≡ true → watchClock chart capacity w t ≡ refused 12 w
+  pub clock-12 : isMarkRefused (w .openInstant) t ≡ false → ltb capacity (length (closedRows chart w t)) ≡ true → watchClock chart capacity w t ≡ refused 12 w
   unfolding watchClock
   clock-12 e d = rw (e, d)
 
-  pub clock-taken : isMarkRefused (w .openInstant) t ≡ false → ltb capacity (length (closedRows chart w)) ≡ false → watchClock chart capacity w t ≡ accepted (watch t (w .floor) (w .count) [] (closedRows chart w))
+  pub clock-taken : isMarkRefused (w .openInstant) t ≡ false → ltb capacity (length (closedRows chart w t)) ≡ false → watchClock chart capacity w t ≡ accepted (watch t (w .floor) (w .count) [] (closedRows chart w t))
   unfolding watchClock
   clock-taken e d = rw (e, d)
 
@@ -65,7 +65,7 @@ module _ (rs : List Row) (i : ℕ) where
   unfolding Reads
   reads-event n s x h = h
 
-  pub reads-one : (n : ℕ) (m : Arm) (r : Recognition) → Reads rs i (ofOne n m r) → (j : ℕ) × (j < i) × (rowAt rs i ≡ row n (leftOf m j) (rightOf m j) (startOf r) (endOf r)) × Reads rs j r
+  pub reads-one : (n : ℕ) (m : Arm) (r : Recognition) → Reads rs i (ofOne n m r) → (j : ℕ) × (j < i) × (rowAt rs i ≡ row n (leftOf m j) (rightOf m j) (startOf (ofOne n m r)) (endOf (ofOne n m r))) × Reads rs j r
   unfolding Reads
   reads-one n m r h = h
 

@@ -12,7 +12,7 @@ use lib.Signed.{ltZ}
 use Rattle.interval.specs.Instants.{least, greatest}
 use Rattle.interval.specs.Conditions.{hasLength}
 use Rattle.model.specs.Lists.{keep, some, each, numbers, sortStably}
-use Rattle.model.specs.Recognitions.{Event, Operator, event, related, or, absence, lasting, Arm, only, left, right, Recognition, ofEvent, ofOne, ofTwo, entryOf, startOf, endOf}
+use Rattle.model.specs.Recognitions.{Event, Operator, event, related, or, absence, lasting, after, Arm, only, left, right, delayed, Recognition, ofEvent, ofOne, ofTwo, entryOf, startOf, endBy, endOf}
 use Rattle.model.specs.Order.{before, Row, row, place, leftOf, rightOf, asRow, asRows}
 use Rattle.model.specs.RowSteps.{Node, leaf, part, pair, View, leaves, make, of, fits, forbidden, Rule, rowAt, places, nodeRow, startsLater, derivedRows, extendRows}
 use Rattle.model.specs.Statements.{Sorted}
@@ -75,6 +75,7 @@ module _ {A B : Type 0} (g : A → B) where
 
         same-test : (r : A) → test (g r) ≡ test′ r
         same-test r = ap (λ z. not (forbidden v c z (g r))) (of-map b) ∙ ap not (some-map _ (of (pull v) b xs))
+    make-node (after a d) es = arm (delayed d) a
     make-node (lasting c a d) es = ap (λ z. map (part only) (keep (λ r. hasLength c d (v .start r) (v .end r)) z)) (of-map a) ∙ ap (map (part only)) (keep-map (λ r. hasLength c d (v .start r) (v .end r)) g (of (pull v) a xs)) ∙ map-node (part only) (part only) (λ x. refl) (keep (λ r. hasLength c d (v .start (g r)) (v .end (g r))) (of (pull v) a xs))
 
 -- reading a table by places
@@ -176,7 +177,7 @@ append-front es (j ∷ js) ts h = sorted-front before ts (arranged j es ts) (app
 -- the rows of what was there stay
 row-more : (ts us : List Recognition) (t : Recognition) → Sorted before ts → Sorted before (ts ++ us) → Parts (λ u. List·Memᴰ u ts) t → asRow (ts ++ us) t ≡ asRow ts t
 row-more ts us (ofEvent n s i) h k c = refl
-row-more ts us (ofOne n m t) h k c = ap (λ z. row n (leftOf m z) (rightOf m z) (startOf t) (endOf t)) (place-append ts us t h k c)
+row-more ts us (ofOne n m t) h k c = ap (λ z. row n (leftOf m z) (rightOf m z) (startOf t) (endBy m (endOf t))) (place-append ts us t h k c)
 row-more ts us (ofTwo n l r) h k c = ap₂ (λ y z. row n (pos y) (pos z) (least (startOf l) (startOf r)) (greatest (endOf l) (endOf r))) (place-append ts us l h k (c .0)) (place-append ts us r h k (c .1))
 
 pub row-path : (n : ℕ) {l l' r r' s s' e e' : ℤ} → l ≡ l' → r ≡ r' → s ≡ s' → e ≡ e' → row n l r s e ≡ row n l' r' s' e'
@@ -208,7 +209,7 @@ module _ (j : Rule) (es : List Event) (ts : List Recognition) (c : Closed ts) wh
     row-is : (x : Node ℕ) → List·Memᴰ x made → asRow (ts ++ news) (tree n (node (nth ts) x)) ≡ nodeRow (asRows ts) n x
     row-is x m = made-all (places (asRows ts)) (λ i. i < length ts) (λ y. asRow (ts ++ news) (tree n (node (nth ts) y)) ≡ nodeRow (asRows ts) n y) nums
         (λ i k. let l : i < 0 + length (asRows ts) = numbers-mem 0 (length (asRows ts)) i k in let e : length (asRows ts) ≡ length ts = length-map ts (asRow ts) in omega arith)
-        (λ a i l. row-path n (ap (leftOf a) (there i l)) (ap (rightOf a) (there i l)) (sym (rowAt-start ts i)) (sym (rowAt-end ts i)))
+        (λ a i l. row-path n (ap (leftOf a) (there i l)) (ap (rightOf a) (there i l)) (sym (rowAt-start ts i)) (ap (endBy a) (sym (rowAt-end ts i))))
         (λ i k l l'. row-path n (ap pos (there i l)) (ap pos (there k l')) (ap₂ least (sym (rowAt-start ts i)) (sym (rowAt-start ts k))) (ap₂ greatest (sym (rowAt-end ts i)) (sym (rowAt-end ts k))))
         (j .operator) es x (λ k q. let e = leaves-mem k es x q in subst (λ y. asRow (ts ++ news) (tree n (node (nth ts) y)) ≡ nodeRow (asRows ts) n y) (sym (e .is)) refl) (make-made (places (asRows ts)) (j .operator) es nums x m)
 

@@ -12,9 +12,9 @@ use Rattle.interval.proofs.Signed.{ltZ→, →ltZ, leZ→, →leZ, →holds}
 use Rattle.model.specs.Recognitions.{Recognition, startOf, endOf}
 use Rattle.model.specs.Order.{before, listing, place, asRows}
 use Rattle.model.specs.Reference.{opening, step, run, numbersOf}
-use Rattle.model.specs.RowSteps.{watchStep}
+use Rattle.model.specs.RowSteps.{instantsTo, watchStep}
 use Rattle.model.specs.Consistency.{isConsistent}
-use Rattle.model.specs.Statements.{Reads, RecognitionHolds, RecognitionUnique, StrictOrder, ListingHolds, ListingUnique, FloorHolds, LaterEventHolds, ReferencesHold, SerialsHold, HistoryHolds, ConsistencyHolds}
+use Rattle.model.specs.Statements.{Reads, RecognitionHolds, RecognitionUnique, StrictOrder, ListingHolds, ListingUnique, FloorHolds, LaterEventHolds, ReferencesHold, SerialsHold, HistoryHolds, IdleHolds, NextDueHolds, JumpHolds, ConsistencyHolds}
 use Rattle.model.proofs.Sorted.{same, T-em}
 use Rattle.model.proofs.Order.{before-irrefl, before-trans, before-total}
 use Rattle.model.proofs.Local.{Chart, chart-lower}
@@ -24,7 +24,8 @@ use Rattle.model.proofs.Place.{place-at}
 use Rattle.model.proofs.Rows.{nil}
 use Rattle.model.proofs.Closing.{listing-lists}
 use Rattle.model.proofs.Listing.{listing-floor}
-use Rattle.model.proofs.History.{good-run, good-opening, opening-shown, history-from}
+use Rattle.model.proofs.History.{good-run, good-opening, opening-shown, history-from, instants-to}
+use Rattle.model.proofs.Jump.{idle, next-due, jump}
 use Rattle.model.proofs.Follow.{reads}
 use Rattle.model.proofs.Consistency.{good-consistent}
 
@@ -81,6 +82,15 @@ history chart h capacity o calls =
     let e = opening-shown chart c capacity o in
     let r = history-from chart c capacity calls ((opening o) .state) (good-opening chart c capacity o) in
     record { opened = ap (λ a. a .number) e; state = ap (λ a. run (watchStep chart capacity) (a .state) calls) e ∙ r .0; answers = ap (λ a. numbersOf (watchStep chart capacity) (a .state) calls) e ∙ r .1 }
+
+pub idle-instant : IdleHolds
+idle-instant chart es rs o due none = idle chart es rs o due none
+
+pub next-due-instant : NextDueHolds
+next-due-instant chart es rs o t h = next-due chart es rs o t (leZ→ o t h)
+
+pub jumps : JumpHolds
+jumps chart es rs o t h ot n l = jump chart es n (instantsTo o t) rs o t (λ r m. ltZ→ (r .end) o (h r m)) (instants-to o t (leZ→ o t ot)) l
 
 pub consistent : ConsistencyHolds
 consistent chart h capacity o calls =

@@ -3,11 +3,21 @@ use Prim.Native.Nat.{ℕ}
 use mathlib.Core.Path.{_≡_, refl, ap, ap₂, _∙_}
 use mathlib.Core.Bool.{not}
 use mathlib.Core.List.{List, [], _∷_, _++_, map, map-append}
+use native.Mathlib.Omega.{arith}
 use lib.Dec.{eqb}
+use lib.IntN.{ℤ}
 use Rattle.interval.specs.Conditions.{hasLength}
+use Rattle.interval.proofs.Signed.{_≤ᶻ_, add-most}
 use Rattle.model.specs.Lists.{keep, each}
-use Rattle.model.specs.Recognitions.{Event, Operator, event, related, or, absence, lasting, only, left, right, Recognition, ofEvent, ofOne, ofTwo, entryOf, startOf, endOf, recognitionsOf}
+use Rattle.model.specs.Recognitions.{Event, Operator, event, related, or, absence, lasting, after, Arm, only, left, right, delayed, Recognition, ofEvent, ofOne, ofTwo, entryOf, startOf, endBy, endOf, recognitionsOf}
 use Rattle.model.specs.RowSteps.{Node, leaf, part, pair, View, make, of, fits, forbidden, nodeStart, nodeEnd}
+
+-- a whole ends no earlier than its one part
+pub end-by : (m : Arm) (e : ℤ) → e ≤ᶻ endBy m e
+end-by only e = omega arith
+end-by left e = omega arith
+end-by right e = omega arith
+end-by (delayed d) e = omega (arith, add-most e d)
 
 abbrev pub trees : View Recognition
 trees = record { entry = entryOf; start = startOf; end = endOf }
@@ -46,4 +56,5 @@ make-recognitions n (event k) es ts = map-map (tree n) (λ e. leaf (e .serial) (
 make-recognitions n (related c a b) es ts = map-each (tree n) (λ r. map (pair r) (keep (fits trees c r) (of trees b ts))) (λ r. map (ofTwo n r) (keep (fits trees c r) (of trees b ts))) (λ r. map-map (tree n) (pair r) (keep (fits trees c r) (of trees b ts))) (of trees a ts)
 make-recognitions n (or a b) es ts = map-append (tree n) (map (part left) (of trees a ts)) (map (part right) (of trees b ts)) ∙ ap₂ _++_ (map-map (tree n) (part left) (of trees a ts)) (map-map (tree n) (part right) (of trees b ts))
 make-recognitions n (absence c a b) es ts = map-map (tree n) (part only) (keep (λ r. not (forbidden trees c (of trees b ts) r)) (of trees a ts))
+make-recognitions n (after a d) es ts = map-map (tree n) (part (delayed d)) (of trees a ts)
 make-recognitions n (lasting c a d) es ts = map-map (tree n) (part only) (keep (λ r. hasLength c d (startOf r) (endOf r)) (of trees a ts))

@@ -16,7 +16,7 @@ use Rattle.model.specs.Lists.{keep}
 use Rattle.model.specs.Recognitions.{Event, Operator, Recognition, ofOne, ofTwo, entryOf, startOf, endOf, recognitions}
 use Rattle.model.specs.RowSteps.{Node, leaf, leaves, nodeStart, nodeEnd}
 use Rattle.model.proofs.Sorted.{keep-mem, mem-keep, keep-append}
-use Rattle.model.proofs.Trees.{tree, trees, tree-start, tree-end}
+use Rattle.model.proofs.Trees.{end-by, tree, trees, tree-start, tree-end}
 use Rattle.model.proofs.Local.{Chart, Window}
 use Rattle.model.proofs.Extend.{within}
 
@@ -53,7 +53,7 @@ forbids-in c r s h = let p = forbidding-inside c (startOf r) (endOf r) (startOf 
 -- what holds of a recognition and so of all that lies inside it
 pub window : {W : Recognition → Type 0} → ((t u : Recognition) → Inside t u → W t → W u) → Window W
 window f = record {
-  one = λ n m t. f (ofOne n m t) t (omega arith);
+  one = λ n m t. f (ofOne n m t) t (omega (arith, end-by m (endOf t)));
   fst = λ n l r. f (ofTwo n l r) l (omega (arith, least-is (startOf l) (startOf r), greatest-is (endOf l) (endOf r)));
   snd = λ n l r. f (ofTwo n l r) r (omega (arith, least-is (startOf l) (startOf r), greatest-is (endOf l) (endOf r)));
   bar = λ c r s t. f r s (forbids-in c r s t);

@@ -11,7 +11,7 @@ use Rattle.interval.specs.Instants.{isInstant, eqZ, least, greatest}
 use Rattle.interval.specs.Conditions.{isRelated, hasLength}
 use Rattle.interval.specs.declared.Relation.{Relation}
 use Rattle.model.specs.Lists.{every, numbers}
-use Rattle.model.specs.Recognitions.{Operator, event, related, or, absence, lasting}
+use Rattle.model.specs.Recognitions.{Operator, event, related, or, absence, lasting, after, Arm, only, left, right, delayed, endBy}
 use Rattle.model.specs.Order.{Row, none}
 use Rattle.model.specs.RowSteps.{rowAt, Watch}
 
@@ -26,8 +26,8 @@ module _ (count : ℕ) (rs : List Row) (i : ℕ) (r : Row) where
   refers (negsuc j) a p = false
 
   -- "start, end or non-absence condition disagrees with them"
-  abbrev pub spansOne : Row → Bool
-  spansOne q = eqZ (r .start) (q .start) && eqZ (r .end) (q .end)
+  abbrev pub spansOne : Arm → Row → Bool
+  spansOne m q = eqZ (r .start) (q .start) && eqZ (r .end) (endBy m (q .end))
 
   abbrev pub spansTwo : Relation → Row → Row → Bool
   spansTwo c p q = eqZ (r .start) (least (p .start) (q .start)) && (eqZ (r .end) (greatest (p .end) (q .end)) && isRelated c (p .start) (p .end) (q .start) (q .end))
@@ -41,9 +41,10 @@ module _ (count : ℕ) (rs : List Row) (i : ℕ) (r : Row) where
   abbrev pub agrees : Operator → Bool
   agrees (event k) = isSerial (r .left) && (isNone (r .right) && eqZ (r .start) (r .end))
   agrees (related c a b) = refers (r .left) a (λ p. refers (r .right) b (spansTwo c p))
-  agrees (or a b) = (refers (r .left) a spansOne && isNone (r .right)) || (isNone (r .left) && refers (r .right) b spansOne)
-  agrees (absence c a b) = refers (r .left) a spansOne && isNone (r .right)
-  agrees (lasting c a d) = refers (r .left) a (λ q. spansOne q && hasLength c d (q .start) (q .end)) && isNone (r .right)
+  agrees (or a b) = (refers (r .left) a (spansOne left) && isNone (r .right)) || (isNone (r .left) && refers (r .right) b (spansOne right))
+  agrees (absence c a b) = refers (r .left) a (spansOne only) && isNone (r .right)
+  agrees (lasting c a d) = refers (r .left) a (λ q. spansOne only q && hasLength c d (q .start) (q .end)) && isNone (r .right)
+  agrees (after a d) = refers (r .left) a (spansOne (delayed d)) && isNone (r .right)
 
   -- "a row whose entry is not in the chart"
   abbrev pub agreesAt : List Operator → ℕ → Bool

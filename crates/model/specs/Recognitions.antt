@@ -3,7 +3,7 @@ use Prim.Native.Nat.{ℕ, suc}
 use mathlib.Core.Bool.{Bool, true, not, _&&_}
 use mathlib.Core.List.{List, [], _∷_, _++_, map}
 use lib.Dec.{eqb, ltb}
-use lib.IntN.{ℤ}
+use lib.IntN.{ℤ, pos, _+ℤ_}
 use Rattle.interval.specs.Instants.{least, greatest}
 use Rattle.interval.specs.Conditions.{isRelated, isForbidding, hasLength}
 use Rattle.interval.specs.declared.Relation.{Relation}
@@ -19,7 +19,7 @@ pub record Event : Type 0 where
   pub instant : ℤ
 
 -- "Operators of a chart": event k; seq, and, meets, overlaps, starts, during, finishes, equals a b; or a b; -[] -][ -[[ -]] a b;
--- lasts, atmost, atleast a d. Here a and b are entry numbers, k is a code and d a length.
+-- lasts, atmost, atleast a d; after a d (request N1). Here a and b are entry numbers, k is a code and d a length.
 -- A chart is the list of its entries' operators: "A chart has 1 to 32 entries, numbered from 0".
 pub data Operator : Type 0 where
   event : ℕ → Operator
@@ -27,6 +27,7 @@ pub data Operator : Type 0 where
   or : ℕ → ℕ → Operator
   absence : Edges → ℕ → ℕ → Operator
   lasting : LengthTest → ℕ → ℕ → Operator
+  after : ℕ → ℕ → Operator
 
 -- "operands a and b are lower entry numbers and may be equal": of entry n, and of a chart's entries from n on
 abbrev pub isLower : ℕ → Operator → Bool
@@ -35,14 +36,17 @@ isLower n (related c a b) = ltb a n && ltb b n
 isLower n (or a b) = ltb a n && ltb b n
 isLower n (absence c a b) = ltb a n && ltb b n
 isLower n (lasting c a d) = ltb a n
+isLower n (after a d) = ltb a n
 
 abbrev pub areLower : ℕ → List Operator → Bool
 areLower n [] = true
 areLower n (op ∷ ops) = isLower n op && areLower (suc n) ops
 
--- An `or` has a left and a right arm; an absence and a length test have one operand's recognition only.
+-- How a recognition holds its one part: an `or` has a left and a right arm; an absence and a length test have one operand's recognition
+-- only; a delay has it for so long.
 pub data Arm : Type 0 where
   only left right : Arm
+  delayed : ℕ → Arm
 
 -- "A recognition of an entry, over a list of events, is a tree ... Another entry, arm, event or part makes another recognition."
 -- Each has its entry first; then an event's serial and instant, or the arm and the part, or the two parts.
@@ -62,9 +66,16 @@ startOf (ofEvent n s i) = i
 startOf (ofOne n m r) = startOf r
 startOf (ofTwo n r s) = least (startOf r) (startOf s)
 
+-- "the same start and end = end r + d"
+abbrev pub endBy : Arm → ℤ → ℤ
+endBy only e = e
+endBy left e = e
+endBy right e = e
+endBy (delayed d) e = e +ℤ pos d
+
 abbrev pub endOf : Recognition → ℤ
 endOf (ofEvent n s i) = i
-endOf (ofOne n m r) = endOf r
+endOf (ofOne n m r) = endBy m (endOf r)
 endOf (ofTwo n r s) = greatest (endOf r) (endOf s)
 
 -- The conditions of the table on recognitions: those of crate `interval` on their starts and ends.
@@ -95,6 +106,8 @@ recognitionsOf n (or a b) es ts = map (ofOne n left) (ofEntry a ts) ++ map (ofOn
 recognitionsOf n (absence c a b) es ts = map (ofOne n only) (keep (λ r. not (some (λ s. forbids c s r) (ofEntry b ts))) (ofEntry a ts))
 -- lasts, atmost, atleast a d: each r that lasts so long
 recognitionsOf n (lasting c a d) es ts = map (ofOne n only) (keep (λ r. isLasting c d r) (ofEntry a ts))
+-- after a d: "for each row r of a"
+recognitionsOf n (after a d) es ts = map (ofOne n (delayed d)) (ofEntry a ts)
 
 -- to the recognitions of the entries below n, those of the entries from n on
 unfoldable pub withEntries : ℕ → List Operator → List Event → List Recognition → List Recognition

@@ -1,11 +1,11 @@
--- What the watch does on rows: opening, an event, closing an instant, forgetting. Nothing here has to be believed for the reference
+-- What the watch does on rows: opening, an event, closing instants, forgetting. Nothing here has to be believed for the reference
 -- model; the theorems say that these steps give the reference model's rows and numbers. The contracts of the watch cite them, for tables that no
 -- history left; `nodeStart`, `nodeEnd` and `moved` alone serve the proofs.
 use Prim.Native.Nat.{ℕ, zero, suc, _-_}
 use mathlib.Core.Bool.{Bool, true, false, cond, not}
 use mathlib.Core.List.{List, [], _∷_, _++_, map}
 use lib.Dec.{eqb, ltb, leb}
-use lib.IntN.{ℤ, pos, negsuc}
+use lib.IntN.{ℤ, pos, negsuc, natAbs, _+ℤ_, _-ℤ_}
 use lib.ListN.{length, getD, take}
 use lib.Signed.{ltZ, leZ}
 use Rattle.interval.specs.Instants.{isInstant, firstFloor, isMarkRefused, isForgetRefused, eqZ, least, greatest}
@@ -13,7 +13,7 @@ use Rattle.interval.specs.Conditions.{isRelated, isForbidding, hasLength}
 use Rattle.interval.specs.declared.Relation.{Relation}
 use Rattle.interval.specs.declared.Edges.{Edges}
 use Rattle.model.specs.Lists.{keep, some, each, numbers, sortStably}
-use Rattle.model.specs.Recognitions.{Event, Operator, event, related, or, absence, lasting, Arm, only, left, right}
+use Rattle.model.specs.Recognitions.{Event, Operator, event, related, or, absence, lasting, after, Arm, only, left, right, delayed, endBy}
 use Rattle.model.specs.Order.{Row, row, none, leftOf, rightOf}
 use Rattle.model.specs.Reference.{Model, Answer, accepted, refused, Call, isAt, rowsOf}
 
@@ -49,6 +49,7 @@ module _ {A : Type 0} (v : View A) where
   make (or a b) es xs = map (part left) (of a xs) ++ map (part right) (of b xs)
   make (absence c a b) es xs = map (part only) (keep (λ r. not (forbidden c (of b xs) r)) (of a xs))
   make (lasting c a d) es xs = map (part only) (keep (λ r. hasLength c d (v .start r) (v .end r)) (of a xs))
+  make (after a d) es xs = map (part (delayed d)) (of a xs)
 
   abbrev pub nodeStart : Node A → ℤ
   nodeStart (leaf s i) = i
@@ -57,7 +58,7 @@ module _ {A : Type 0} (v : View A) where
 
   abbrev pub nodeEnd : Node A → ℤ
   nodeEnd (leaf s i) = i
-  nodeEnd (part m r) = v .end r
+  nodeEnd (part m r) = endBy m (v .end r)
   nodeEnd (pair r s) = greatest (v .end r) (v .end s)
 
 -- what an entry's operator makes, as far as its start and end pass the test
@@ -80,7 +81,7 @@ places rs = record { entry = λ i. (rowAt rs i) .entry; start = λ i. (rowAt rs 
 
 abbrev pub nodeRow : List Row → ℕ → Node ℕ → Row
 nodeRow rs n (leaf s i) = row n (pos s) none i i
-nodeRow rs n (part m i) = row n (leftOf m i) (rightOf m i) ((rowAt rs i) .start) ((rowAt rs i) .end)
+nodeRow rs n (part m i) = row n (leftOf m i) (rightOf m i) ((rowAt rs i) .start) (endBy m ((rowAt rs i) .end))
 nodeRow rs n (pair i j) = row n (pos i) (pos j) (least ((rowAt rs i) .start) ((rowAt rs j) .start)) (greatest ((rowAt rs i) .end) ((rowAt rs j) .end))
 
 -- "later start first"
@@ -98,13 +99,49 @@ unfoldable pub extendRows : List Event → List Rule → List Row → List Row
 extendRows es [] rs = rs
 extendRows es (j ∷ js) rs = extendRows es js (rs ++ derivedRows j es rs)
 
--- Closing the instant o, es being its events: entry by entry, the rows that end at o are appended. They are the *due* rows of document 01 that
--- are not in the table yet.
+-- Closing the instant o: entry by entry, the rows that end at o are appended. Of the events es only those at o count. These rows are the *due*
+-- rows of document 01 that are not in the table yet.
 abbrev pub endsAt : ℤ → ℤ → ℤ → Bool
 endsAt o s e = eqZ e o
 
 unfoldable pub closeRows : ℤ → List Event → List Operator → List Row → List Row
 closeRows o es chart rs = extendRows es (rules (endsAt o) 0 chart) rs
+
+-- "a clock mark t closes every instant from the open one to t-1" (request N1): n instants one after another, the first of them o
+unfoldable pub closeInstants : ℕ → ℤ → List Event → List Operator → List Row → List Row
+closeInstants zero o es chart rs = rs
+closeInstants (suc n) o es chart rs = closeInstants n (o +ℤ pos 1) es chart (closeRows o es chart rs)
+
+-- how many instants are from o to t-1
+abbrev pub instantsTo : ℤ → ℤ → ℕ
+instantsTo o t = natAbs (t -ℤ o)
+
+-- The instants at which something is due: those of the events, and for every `after a d` those of the rows of a, d later.
+abbrev pub delayedEnds : List Row → Operator → List ℤ
+delayedEnds rs (event k) = []
+delayedEnds rs (related c a b) = []
+delayedEnds rs (or a b) = []
+delayedEnds rs (absence c a b) = []
+delayedEnds rs (lasting c a d) = []
+delayedEnds rs (after a d) = map (λ r. r .end +ℤ pos d) (keep (λ r. eqb (r .entry) a) rs)
+
+unfoldable pub dueEnds : List Event → List Operator → List Row → List ℤ
+dueEnds es chart rs = map (λ e. e .instant) es ++ each (delayedEnds rs) chart
+
+-- the first of these instants from o on, and t if none is before t
+abbrev pub firstFrom : ℤ → ℤ → List ℤ → ℤ
+firstFrom o t [] = t
+firstFrom o t (e ∷ es) = cond (leZ o e) (least e (firstFrom o t es)) (firstFrom o t es)
+
+unfoldable pub nextDue : ℤ → ℤ → List Event → List Operator → List Row → ℤ
+nextDue o t es chart rs = firstFrom o t (dueEnds es chart rs)
+
+-- The instants from o to t-1 closed, where only those count at which something is due: at most n of them.
+unfoldable pub closeDue : ℕ → ℤ → ℤ → List Event → List Operator → List Row → List Row
+closeDue zero o t es chart rs = rs
+closeDue (suc n) o t es chart rs =
+    let e : ℤ = nextDue o t es chart rs in
+    cond (ltZ e t) (closeDue n (e +ℤ pos 1) t es chart (closeRows e es chart rs)) rs
 
 -- Keeping the rows that pass a test: they stay in their order, and their references are renumbered. Where row i goes: as many rows are
 -- kept before it.
@@ -122,6 +159,7 @@ isEvent (related c a b) = false
 isEvent (or a b) = false
 isEvent (absence c a b) = false
 isEvent (lasting c a d) = false
+isEvent (after a d) = false
 
 abbrev pub isEventAt : List Operator → ℕ → Bool
 isEventAt [] n = false
@@ -164,8 +202,8 @@ numbered o s (k ∷ ks) = record { serial = s; code = k; instant = o } ∷ numbe
 abbrev pub pendingEvents : Watch → List Event
 pendingEvents w = numbered (w .openInstant) (suc (w .count - length (w .pending))) (w .pending)
 
-abbrev pub closedRows : List Operator → Watch → List Row
-closedRows chart w = closeRows (w .openInstant) (pendingEvents w) chart (w .rows)
+abbrev pub closedRows : List Operator → Watch → ℤ → List Row
+closedRows chart w t = closeInstants (instantsTo (w .openInstant) t) (w .openInstant) (pendingEvents w) chart (w .rows)
 
 unfoldable pub watchOpening : ℤ → Answer Watch
 watchOpening o = cond (isInstant o) (accepted (watch o firstFloor 0 [] [])) (refused 8 (watch (pos 0) firstFloor 0 [] []))
@@ -179,8 +217,8 @@ watchEvent w k =
 unfoldable pub watchClock : List Operator → ℕ → Watch → ℤ → Answer Watch
 watchClock chart capacity w t =
     cond (isMarkRefused (w .openInstant) t) (refused 8 w)
-    (cond (ltb capacity (length (closedRows chart w))) (refused 12 w)
-    (accepted (watch t (w .floor) (w .count) [] (closedRows chart w))))
+    (cond (ltb capacity (length (closedRows chart w t))) (refused 12 w)
+    (accepted (watch t (w .floor) (w .count) [] (closedRows chart w t))))
 
 unfoldable pub watchForget : List Operator → Watch → ℤ → Answer Watch
 watchForget chart w f =

@@ -1,5 +1,5 @@
 -- What the theorems say; proofs/Theorems.antt proves each statement. No proof stands here. `T b` says that the test b is true.
-use Prim.Native.Nat.{ℕ, zero, suc, _<_}
+use Prim.Native.Nat.{ℕ, zero, suc, _<_, _≤_}
 use mathlib.Core.Path.{_≡_}
 use mathlib.Core.Logic.{_⊎_, _↔_}
 use mathlib.Core.Bool.{Bool}
@@ -9,10 +9,10 @@ use lib.IntN.{ℤ, pos}
 use lib.ListN.{length}
 use lib.Signed.{ltZ, leZ}
 use Rattle.model.specs.Lists.{keep, numbers}
-use Rattle.model.specs.Recognitions.{Event, Operator, event, related, or, absence, lasting, areLower, only, left, right, Recognition, ofEvent, ofOne, ofTwo, entryOf, startOf, endOf, areRelated, forbids, isLasting}
+use Rattle.model.specs.Recognitions.{Event, Operator, event, related, or, absence, lasting, after, areLower, only, left, right, delayed, Recognition, ofEvent, ofOne, ofTwo, entryOf, startOf, endOf, areRelated, forbids, isLasting}
 use Rattle.model.specs.Order.{before, listing, Row, row, none, leftOf, rightOf, asRows}
 use Rattle.model.specs.Reference.{Model, Call, opening, step, run, numbersOf}
-use Rattle.model.specs.RowSteps.{rowAt, watchOpening, watchStep, shown}
+use Rattle.model.specs.RowSteps.{rowAt, closeRows, closeInstants, instantsTo, dueEnds, nextDue, closeDue, watchOpening, watchStep, shown}
 use Rattle.model.specs.Consistency.{isConsistent}
 
 -- x stands in the list
@@ -43,6 +43,7 @@ Asks (related c a b) es R t = (r : Recognition) × (s : Recognition) × Of R a r
 Asks (or a b) es R t = ((r : Recognition) × Of R a r × (t ≡ ofOne (entryOf t) left r)) ⊎ ((s : Recognition) × Of R b s × (t ≡ ofOne (entryOf t) right s))
 Asks (absence c a b) es R t = (r : Recognition) × Of R a r × ((s : Recognition) → Of R b s → T (forbids c s r) → ⊥) × (t ≡ ofOne (entryOf t) only r)
 Asks (lasting c a d) es R t = (r : Recognition) × Of R a r × T (isLasting c d r) × (t ≡ ofOne (entryOf t) only r)
+Asks (after a d) es R t = (r : Recognition) × Of R a r × (t ≡ ofOne (entryOf t) (delayed d) r)
 
 -- what the line of its own entry asks of t
 abbrev pub Line : List Operator → List Event → (Recognition → Type 0) → Recognition → Type 0
@@ -95,7 +96,7 @@ LaterEventHolds = (chart : List Operator) → T (areLower 0 chart) → (es : Lis
 -- row i, its references followed down, gives the recognition's own tree; "a reference is the operand's place in that order, always an earlier one"
 unfoldable pub Reads : List Row → ℕ → Recognition → Type 0
 Reads rs i (ofEvent n s x) = rowAt rs i ≡ row n (pos s) none x x
-Reads rs i (ofOne n m r) = (j : ℕ) × (j < i) × (rowAt rs i ≡ row n (leftOf m j) (rightOf m j) (startOf r) (endOf r)) × Reads rs j r
+Reads rs i (ofOne n m r) = (j : ℕ) × (j < i) × (rowAt rs i ≡ row n (leftOf m j) (rightOf m j) (startOf (ofOne n m r)) (endOf (ofOne n m r))) × Reads rs j r
 Reads rs i (ofTwo n r s) = (j : ℕ) × (k : ℕ) × (j < i) × (k < i) × (rowAt rs i ≡ row n (pos j) (pos k) (startOf (ofTwo n r s)) (endOf (ofTwo n r s))) × Reads rs j r × Reads rs k s
 
 -- The row of t, which stands where as many recognitions stand before it, reads t.
@@ -116,6 +117,24 @@ pub record History (chart : List Operator) (capacity : ℕ) (o : ℤ) (calls : L
 
 abbrev pub HistoryHolds : Type 0
 HistoryHolds = (chart : List Operator) → T (areLower 0 chart) → (capacity : ℕ) (o : ℤ) (calls : List Call) → History chart capacity o calls
+
+-- An instant at which nothing is due changes no row: no event happens at it, no delayed end falls on it, and nothing ends at it.
+abbrev pub IdleHolds : Type 0
+IdleHolds = (chart : List Operator) (es : List Event) (rs : List Row) (o : ℤ) → (o ∈ dueEnds es chart rs → ⊥) → ((r : Row) → r ∈ rs → r .end ≡ o → ⊥) → closeRows o es chart rs ≡ rs
+
+-- The next due instant from o on: none is due before it, and it is due, unless it is t.
+pub record NextDue (ds : List ℤ) (o t e : ℤ) : Type 0 where
+  pub from : T (leZ o e)
+  pub most : T (leZ e t)
+  pub none : (d : ℤ) → d ∈ ds → T (leZ o d) → T (leZ e d)
+  pub due : T (ltZ e t) → e ∈ ds
+
+abbrev pub NextDueHolds : Type 0
+NextDueHolds = (chart : List Operator) (es : List Event) (rs : List Row) (o t : ℤ) → T (leZ o t) → NextDue (dueEnds es chart rs) o t (nextDue o t es chart rs)
+
+-- So finding the next due instant before t and closing it, as long as there is one, closes every instant from o to t-1.
+abbrev pub JumpHolds : Type 0
+JumpHolds = (chart : List Operator) (es : List Event) (rs : List Row) (o t : ℤ) → ((r : Row) → r ∈ rs → T (ltZ (r .end) o)) → T (leZ o t) → (n : ℕ) → instantsTo o t ≤ n → closeDue n o t es chart rs ≡ closeInstants (instantsTo o t) o es chart rs
 
 -- The watch on rows of every history is consistent.
 abbrev pub ConsistencyHolds : Type 0

@@ -128,6 +128,31 @@ tightest =
     log7 : List String
     log7 = "open 0" ∷ "event 1" ∷ "clock 1" ∷ "event 1" ∷ "event 1" ∷ "clock 2" ∷ "event 2" ∷ "clock 3" ∷ []
 
+-- "for each row r of a, a row with left r, right -1, the same start and end = end r + d"; "a clock mark t closes every instant from the open one to
+-- t-1" (request N1)
+abbrev delays : List Case
+delays =
+    -- "two seconds after the stage stopped": 1 is a stop, 2 a move, 3 the shutter. Entry 4 is the wait without a move in it. The move at 900 spoils the waits
+    -- from 0 and from 500; all three end in one jump of the clock.
+    lists 3000 ("0 event 1" ∷ "1 event 2" ∷ "2 event 3" ∷ "3 after 0 2000" ∷ "4 -[] 3 1" ∷ "5 seq 4 2" ∷ [])
+    ("open 0" ∷ "event 1" ∷ "clock 500" ∷ "event 1" ∷ "clock 900" ∷ "event 2" ∷ "clock 1000" ∷ "event 1" ∷ "clock 4000" ∷ "event 3" ∷ "clock 4001" ∷ [])
+    ("0 0 1 -1 0 0" ∷ "1 0 2 -1 500 500" ∷ "2 1 3 -1 900 900" ∷ "3 0 4 -1 1000 1000" ∷ "4 3 0 -1 0 2000" ∷ "5 3 1 -1 500 2500" ∷
+    "6 3 3 -1 1000 3000" ∷ "7 4 6 -1 1000 3000" ∷ "8 2 5 -1 4000 4000" ∷ "9 5 7 8 1000 4000" ∷ []) ∷
+    -- "The table must be complete across a jump over several due ends, each in order of end, delays of delays included"; a delay of 0
+    lists 3000 ("0 event 1" ∷ "1 after 0 2" ∷ "2 after 1 3" ∷ "3 after 0 0" ∷ []) ("open 0" ∷ "event 1" ∷ "clock 1" ∷ "event 1" ∷ "clock 10" ∷ [])
+    ("0 0 1 -1 0 0" ∷ "1 3 0 -1 0 0" ∷ "2 0 2 -1 1 1" ∷ "3 3 2 -1 1 1" ∷ "4 1 0 -1 0 2" ∷ "5 1 2 -1 1 3" ∷ "6 2 4 -1 0 5" ∷ "7 2 5 -1 1 6" ∷ []) ∷
+    -- "An end at 1,000,000,000 or later is never closed"
+    lists 3000 ("0 event 1" ∷ "1 after 0 9" ∷ "2 after 0 10" ∷ "3 after 0 2000000000" ∷ []) ("open 999999990" ∷ "event 1" ∷ "clock 1000000000" ∷ [])
+    ("0 0 1 -1 999999990 999999990" ∷ "1 1 0 -1 999999990 999999999" ∷ []) ∷
+    -- 12 counts all that the jump makes due; an end at the mark is not
+    prints 2 again ("open 0" ∷ "event 1" ∷ "clock 6" ∷ []) ("refused 12 7" ∷ []) ∷
+    lists 2 again ("open 0" ∷ "event 1" ∷ "clock 5" ∷ []) ("0 0 1 -1 0 0" ∷ "1 1 0 -1 0 2" ∷ []) ∷
+    -- what is forgotten takes its delayed row along
+    lists 3000 again ("open 0" ∷ "event 1" ∷ "clock 1" ∷ "event 1" ∷ "forget 1" ∷ "clock 4" ∷ []) ("0 0 2 -1 1 1" ∷ "1 1 0 -1 1 3" ∷ []) ∷ []
+  where
+    again : List String
+    again = "0 event 1" ∷ "1 after 0 2" ∷ "2 after 1 3" ∷ []
+
 -- the first and the last instant; a log that has only its opening; a table of no rows
 abbrev ends : List Case
 ends =
@@ -184,7 +209,7 @@ refusals =
     log calls line = prints 3000 ("0 event 1" ∷ []) calls (line ∷ [])
 
 pub cases : List Case
-cases = P1-P8 ++ absences ++ tightest ++ ends ++ refusals
+cases = P1-P8 ++ absences ++ tightest ++ delays ++ ends ++ refusals
 
 pub examples : map (λ (c : Case). printedFor (c .room) (c .input)) cases ≡ map (λ (c : Case). c .printed) cases
 unfolding cases bytes tabbed unended text split lines isInstant isLength firstFloor isMarkRefused isForgetRefused isRelated isForbidding hasLength isDigit allDigits valueFrom hasLeadingZero isNumber numberOf withoutMinus withMinus instantOf digitsWithin spelledNumber spelled words sameBytes placeOf operatorOf edgesOf relationOf lengthTestOf kindOf inRange areLower withCode eventLine withOperands secondOperand operandsLine byOperator operatorLine numbered parsedLine checkedEntry checkedLine answerTo noEntries withEntry refusedChart readLines orNoLine recognitionsOf withEntries recognitions compare listing opening eventStep clockStep forgetStep operatorBy operatorsOf callWords eventCall instantCall wordCall fieldsCall callOf numbersText rowTexts callIn openingAnswer callAnswer playCalls playLog chartLines logLines playLines outcomeText printedFor

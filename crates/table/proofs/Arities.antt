@@ -15,7 +15,7 @@ use Rattle.chart.proofs.Usable.{usable-few}
 use Rattle.interval.specs.declared.Relation.{Relation}
 use Rattle.interval.specs.declared.Edges.{Edges}
 use Rattle.interval.specs.declared.LengthTest.{LengthTest}
-use Rattle.model.specs.Recognitions.{Operator, event, related, or, absence, lasting}
+use Rattle.model.specs.Recognitions.{Operator, event, related, or, absence, lasting, after}
 use Rattle.model.specs.RowSteps.{isEvent, isEventAt}
 use Rattle.table.specs.Operators.{entryOperator, operatorsOf, arityOf, aritiesOf}
 use Rattle.table.proofs.Operators.{operatorsFrom, operators-all, length-operators}
@@ -44,6 +44,7 @@ event-none (related c a b) = refl
 event-none (or a b) = refl
 event-none (absence c a b) = refl
 event-none (lasting c a d) = refl
+event-none (after a d) = refl
 
 -- and how many each of the others has, for those who write a tree
 pub arity-related : (c : Relation) (a b : ℕ) → arityOf (related c a b) ≡ 2
@@ -61,6 +62,10 @@ arity-absence c a b = refl
 pub arity-lasting : (c : LengthTest) (a d : ℕ) → arityOf (lasting c a d) ≡ 1
 unfolding arityOf
 arity-lasting c a d = refl
+
+pub arity-after : (a d : ℕ) → arityOf (after a d) ≡ 1
+unfolding arityOf
+arity-after a d = refl
 
 event-at : (ops : List Operator) (n : ℕ) → n < length ops → isEventAt ops n ≡ eqb (getD (map arityOf ops) n 0) 0
 event-at [] n h = absurd (omega arith)

@@ -9,7 +9,7 @@ use lib.ListN.{length, take, drop, take-append-drop}
 use lib.Seq.{slice, take-at, drop-at, drop-cons, length-take-le}
 use lib.Signed.{leZ, ltZ}
 use Rattle.interval.specs.Instants.{eqZ}
-use Rattle.interval.proofs.Signed.{_<ᶻ_, signed, is-lt, not-le, eq-true, eq-fact}
+use Rattle.interval.proofs.Signed.{_<ᶻ_, signed, is-lt, not-le, not-eq, eq-fact}
 use Rattle.interval.proofs.Machine.{pos-of}
 use Rattle.model.specs.Lists.{keep, numbers}
 use Rattle.model.specs.Order.{Row}
@@ -17,14 +17,6 @@ use Rattle.model.proofs.History.{keep-length}
 use Rattle.table.specs.Table.{cell, tableRow, rowsIn, cellsOf, flat, part}
 use Rattle.table.proofs.Rows.{rows-none, rows-numbers, rows-snoc, length-rows, length-flat, flat-none, flat-append, flat-snoc}
 use Rattle.table.specs.Ends.{Ordered, endingBefore, endingBy}
-
--- numbers that differ fail the test
-not-eq : (a b : ℤ) → (a ≡ b → ⊥) → eqZ a b ≡ false
-not-eq a b d = go (eqZ a b) refl
-  where
-    go : (c : Bool) → eqZ a b ≡ c → c ≡ false
-    go true p = absurd (d (eq-true a b p))
-    go false p = refl
 
 -- each end is z or later, and none is before the one in front of it
 Rising : ℤ → List Row → Type 0

@@ -94,3 +94,20 @@ module _ (included : Bool) (rows : ℕ) (e : ℤ) (t : List ℤ) where
       go : (b : Bool) → endsBefore included e (cell t j 4) ≡ b → b ≡ true
       go true p = refl
       go false p = absurd (omega (arith, count-most o j p rows (omega arith)))
+
+  -- and as many do as stand up to one that does
+  module _ (o : Ordered rows t) (j : ℕ) (h : j < rows) (p : endsBefore included e (cell t j 4) ≡ true) where
+    count-least : (n : ℕ) → n ≤ rows → min n (suc j) ≤ length (keep passes (rowsIn n t))
+    count-least zero g = omega arith
+    count-least (suc n) g = go (decLt n (suc j)) (count-least n (omega arith))
+      where
+        go : Dec (n < suc j) → min n (suc j) ≤ length (keep passes (rowsIn n t)) → min (suc n) (suc j) ≤ length (keep passes (rowsIn (suc n) t))
+        go (yes l) r = rw (count-snoc n, earlier-passes included e (cell t n 4) (cell t j 4) (o n j (omega arith) h) p) (omega arith)
+        go (no l) r = omega (arith, count-snoc n)
+
+  pub counted-fails : Ordered rows t → (j : ℕ) → countEnding included rows e t ≤ j → j < rows → endsBefore included e (cell t j 4) ≡ false
+  counted-fails o j g h = go (endsBefore included e (cell t j 4)) refl
+    where
+      go : (b : Bool) → endsBefore included e (cell t j 4) ≡ b → b ≡ false
+      go true p = absurd (omega (arith, count-least o j h p rows (omega arith)))
+      go false p = refl

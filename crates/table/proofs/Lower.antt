@@ -12,7 +12,7 @@ use Rattle.chart.specs.Operators.{kindOf}
 use Rattle.chart.specs.Charts.{entryAt, isUsable}
 use Rattle.chart.specs.declared.Chart.{Chart}
 use Rattle.chart.specs.declared.operator.Kind.{Kind}
-use Rattle.chart.specs.declared.operator.Kind.the-variants.{Event, Or, Pair, Absence, Length, Unknown}
+use Rattle.chart.specs.declared.operator.Kind.the-variants.{Event, Or, Pair, Absence, Length, After, Unknown}
 use Rattle.chart.proofs.Usable.{Lower, usable-fits, fits-lower}
 use Rattle.model.specs.Lists.{numbers}
 use Rattle.model.specs.Recognitions as model
@@ -25,9 +25,10 @@ lower-kind Or n a b o e h = rw (e, lt-ltb a n (h .0), lt-ltb b n (h .1))
 lower-kind (Pair c) n a b o e h = rw (e, lt-ltb a n (h .0), lt-ltb b n (h .1))
 lower-kind (Absence c) n a b o e h = rw (e, lt-ltb a n (h .0), lt-ltb b n (h .1))
 lower-kind (Length t) n a b o e h = rw (e, lt-ltb a n h)
+lower-kind After n a b o e h = rw (e, lt-ltb a n h)
 lower-kind Unknown n a b o e h = absurd h
 
-lower-entry : (c : Chart) → isUsable c ≡ true → (i : ℕ) → i < c .count → model.isLower i (entryOperator (entryAt c i)) ≡ true
+pub lower-entry : (c : Chart) → isUsable c ≡ true → (i : ℕ) → i < c .count → model.isLower i (entryOperator (entryAt c i)) ≡ true
 lower-entry c u i h =
     let e = entryAt c i in
     lower-kind (kindOf (e .op)) i (e .a) (e .b) (entryOperator e) (entry-operator e (kindOf (e .op)) refl) (fits-lower i e (kindOf (e .op)) (usable-fits c u i h) refl)

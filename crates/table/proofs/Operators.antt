@@ -10,11 +10,11 @@ use Rattle.chart.specs.Charts.{entryAt}
 use Rattle.chart.specs.declared.Chart.{Chart}
 use Rattle.chart.specs.declared.Entry.{Entry}
 use Rattle.chart.specs.declared.operator.Kind.{Kind}
-use Rattle.chart.specs.declared.operator.Kind.the-variants.{Event, Or, Pair, Absence, Length, Unknown}
+use Rattle.chart.specs.declared.operator.Kind.the-variants.{Event, Or, Pair, Absence, Length, After, Unknown}
 use Rattle.chart.specs.declared.operator.Shape.{Shape}
-use Rattle.chart.specs.declared.operator.Shape.the-variants.{Leaf, Single, Arms, Double}
+use Rattle.chart.specs.declared.operator.Shape.the-variants.{Leaf, Single, Arms, Double, Delayed}
 use Rattle.model.specs.Lists.{numbers}
-use Rattle.model.specs.Recognitions.{Operator, event, related, or, absence, lasting}
+use Rattle.model.specs.Recognitions.{Operator, event, related, or, absence, lasting, after}
 use Rattle.table.specs.Operators.{operatorBy, entryOperator, operatorsOf, arityOf}
 
 -- o is the operator of this kind with the operands a and b
@@ -24,7 +24,8 @@ IsOperator Or a b o = o ≡ or a b
 IsOperator (Pair c) a b o = o ≡ related c a b
 IsOperator (Absence e) a b o = o ≡ absence e a b
 IsOperator (Length t) a b o = o ≡ lasting t a b
-IsOperator Unknown a b o = o ≡ event a
+IsOperator After a b o = o ≡ after a b
+IsOperator Unknown a b o = o ≡ after a b
 
 pub operator-is : (k : Kind) (a b : ℕ) → IsOperator k a b (operatorBy k a b)
 unfolding operatorBy
@@ -33,6 +34,7 @@ operator-is Or a b = refl
 operator-is (Pair c) a b = refl
 operator-is (Absence e) a b = refl
 operator-is (Length t) a b = refl
+operator-is After a b = refl
 operator-is Unknown a b = refl
 
 -- the same of an entry whose kind is known
@@ -45,6 +47,7 @@ arityBy Leaf = 0
 arityBy Single = 1
 arityBy Arms = 2
 arityBy Double = 2
+arityBy Delayed = 1
 
 pub shape-arity : (k : Kind) (a b : ℕ) → arityOf (operatorBy k a b) ≡ arityBy (shapeOf k)
 unfolding operatorBy arityOf
@@ -53,6 +56,7 @@ shape-arity Or a b = refl
 shape-arity (Pair c) a b = refl
 shape-arity (Absence e) a b = refl
 shape-arity (Length t) a b = refl
+shape-arity After a b = refl
 shape-arity Unknown a b = refl
 
 -- k operators, from that of entry i on

@@ -4,12 +4,12 @@ use native.Mathlib.Omega.{arith}
 use native.Mathlib.Nat.{add-zero, zero-add}
 use native.Mathlib.Numerals.{add-one, towards-suc}
 use native.Mathlib.Decide.{ℕ-discrete}
-use mathlib.Core.Path.{_≡_, refl, sym, ap, ap₂, _∙_}
+use mathlib.Core.Path.{_≡_, refl, sym, ap, ap₂, _∙_, subst}
 use mathlib.Core.Logic.{_⊎_, inl, inr}
 use mathlib.Core.Bool.{Bool, true, false}
 use borrow.Author.Tests.{le-leb, ltb-true, ltb-false}
 use lib.Dec.{ltb}
-use mathlib.Core.List.{List, [], _∷_, _++_, map, map-append, append-assoc, append-nil}
+use mathlib.Core.List.{List, [], _∷_, _++_, map, map-append, append-assoc, append-nil, List·Memᴰ, Memᴰ·of-map}
 use lib.IntN.{ℤ, pos, natAbs}
 use lib.ListN.{length, getD, take, drop, set, length-append, length-set, length-take, take-append-drop, List·getD-append}
 use lib.Seq.{sets, sets-eq, length-sets, set-getD, set-set, getD-set-same, getD-set-other, getD-append-seam, drop-set-lt, take-at, length-take-le}
@@ -19,6 +19,8 @@ use Rattle.model.specs.Lists.{numbers}
 use Rattle.model.specs.Order.{Row}
 use Rattle.model.specs.RowSteps.{rowAt}
 use Rattle.model.proofs.History.{numbers-snoc}
+use Rattle.model.proofs.Place.{getD-mem}
+use Rattle.model.proofs.Rows.{numbers-mem}
 use Rattle.table.specs.Table.{cell, tableRow, rowsIn, cellsOf, flat, putRow, putRows}
 
 -- the rows read
@@ -48,6 +50,16 @@ row-at (suc n) i t h = ap (λ l. rowAt l i) (rows-snoc n t) ∙ go (ℕ-discrete
     go : Dec (i ≡ n) → (i < n → rowAt (rowsIn n t) i ≡ tableRow t i) → rowAt (rowsIn n t ++ tableRow t n ∷ []) i ≡ tableRow t i
     go (yes e) f = ap (λ k. rowAt (rowsIn n t ++ tableRow t n ∷ []) k) (e ∙ sym size) ∙ getD-append-seam (rowsIn n t) (tableRow t n) [] _ ∙ ap (tableRow t) (sym e)
     go (no d) f = List·getD-append (rowsIn n t) (tableRow t n ∷ []) _ i (omega (arith, size)) ∙ f (omega arith)
+
+-- a row that is one of the table's
+pub rows-mem : (n : ℕ) (t : List ℤ) (r : Row) → List·Memᴰ r (rowsIn n t) → (j : ℕ) × (j < n) × (r ≡ tableRow t j)
+rows-mem n t r m =
+    let p = Memᴰ·of-map (tableRow t) (numbers 0 n) (subst (List·Memᴰ r) (rows-numbers n t) m) in
+    let l : p .0 < 0 + n = numbers-mem 0 n (p .0) (p .1) in
+    (p .0, omega arith, sym (p .2))
+
+pub mem-rows : (n : ℕ) (t : List ℤ) (j : ℕ) → j < n → List·Memᴰ (tableRow t j) (rowsIn n t)
+mem-rows n t j h = subst (λ r. List·Memᴰ r (rowsIn n t)) (row-at n j t h) (getD-mem _ (rowsIn n t) j (omega (arith, length-rows n t)))
 
 -- a run of numbers stored: elsewhere, and there
 getD-sets-other : (vs t : List ℤ) (i m : ℕ) → (m < i) ⊎ (i + length vs ≤ m) → getD (sets t i vs) m (pos 0) ≡ getD t m (pos 0)

@@ -127,7 +127,7 @@ pub fn ending_before(table: &[i32], rows: usize, e: i32) -> usize
     requires { ⌜ (rows * 5 ≤ length (now table)) × Ordered rows (now table) ⌝ }
     ensures { λ r. ⌜ r ≡ endingBefore rows e (now (table .entry)) ⌝ }
 {
-    count_ending(table, rows, e, false)
+    count_ending(table, rows, e as i64, false)
 }
 
 // How many of the rows end at e or before. Binary search: at most 16 of 65,535 rows are looked at.
@@ -135,21 +135,23 @@ pub fn ending_by(table: &[i32], rows: usize, e: i32) -> usize
     requires { ⌜ (rows * 5 ≤ length (now table)) × Ordered rows (now table) ⌝ }
     ensures { λ r. ⌜ r ≡ endingBy rows e (now (table .entry)) ⌝ }
 {
-    count_ending(table, rows, e, true)
+    count_ending(table, rows, e as i64, true)
 }
 
 // Whether an end is before e, or at e where that is included.
-fn ends_before(end: i32, e: i32, included: bool) -> bool
+fn ends_before(end: i32, e: i64, included: bool) -> bool
     ensures { λ r. ⌜ r ≡ endsBefore included e end ⌝ }
 {
+    let z = end as i64;
     if included {
-        return interval::is_no_later(end, e);
+        return interval::is_wide_no_later(z, e);
     }
-    interval::is_before(end, e)
+    interval::is_wide_before(z, e)
 }
 
-// The search behind both: the rows below low pass, those from high on do not. A logarithm of the rows.
-fn count_ending(table: &[i32], rows: usize, e: i32, included: bool) -> usize
+// The search behind both: the rows below low pass, those from high on do not. A logarithm of the rows. e is wider than an end: the
+// beginning of a wait may be earlier than all instants.
+pub fn count_ending(table: &[i32], rows: usize, e: i64, included: bool) -> usize
     requires { ⌜ (rows * 5 ≤ length (now table)) × Ordered rows (now table) ⌝ }
     ensures { λ r. ⌜ r ≡ countEnding included rows e (now (table .entry)) ⌝ }
 {
@@ -194,5 +196,6 @@ fn arity_of(e: Entry) -> u8
         Shape::Single => 1,
         Shape::Arms => 2,
         Shape::Double => 2,
+        Shape::Delayed => 1,
     }
 }

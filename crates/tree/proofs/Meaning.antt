@@ -6,15 +6,15 @@ use mathlib.Core.Logic.{inl, inr}
 use mathlib.Core.List.{List, [], _∷_, map}
 use lib.IntN.{ℤ, pos, natAbs}
 use lib.ListN.{length, getD}
-use Rattle.model.specs.Order.{Row, row, none}
-use Rattle.model.specs.Recognitions.{Event, Operator, event, related, or, absence, lasting, Arm, only, left, right, Recognition, ofEvent, ofOne, ofTwo, entryOf}
+use Rattle.model.specs.Order.{Row, row, none, leftOf, rightOf}
+use Rattle.model.specs.Recognitions.{Event, Operator, event, related, or, absence, lasting, after, Arm, only, left, right, delayed, Recognition, ofEvent, ofOne, ofTwo, entryOf}
 use Rattle.model.specs.RowSteps.{rowAt}
 use Rattle.model.specs.Statements.{OperatorAt, Asks, IsWithin, Reads}
 use Rattle.model.proofs.RowStepLaws.{reads-event, reads-one, reads-two}
 use Rattle.table.specs.Table.{cell, tableRow, rowsIn}
 use Rattle.table.specs.Operators.{arityOf}
 use Rattle.table.proofs.Rows.{row-at}
-use Rattle.table.proofs.Arities.{arity-event, arity-related, arity-or, arity-absence, arity-lasting}
+use Rattle.table.proofs.Arities.{arity-event, arity-related, arity-or, arity-absence, arity-lasting, arity-after}
 use Rattle.tree.specs.Tree.{recognitionBytes, rowBytes, referenceBytes, treeWithin, treeBytes, TreeHolds}
 
 arity-told : (ops : List Operator) (n : ℕ) (op : Operator) → OperatorAt ops n op → getD (map arityOf ops) n 0 ≡ arityOf op
@@ -27,6 +27,15 @@ abbrev armArity : Arm → ℕ
 armArity only = 1
 armArity left = 2
 armArity right = 2
+armArity (delayed d) = 1
+
+-- and its bytes, from those of the row j that it refers to
+arm-bytes : (tree : ℕ → List ℕ) (n : ℕ) (m : Arm) (j : ℕ) (u : Recognition) → tree j ≡ recognitionBytes u → rowBytes (armArity m) (leftOf m j) (referenceBytes tree (leftOf m j)) (referenceBytes tree (rightOf m j)) ≡ recognitionBytes (ofOne n m u)
+unfolding recognitionBytes rowBytes referenceBytes
+arm-bytes tree n only j u e = rw e
+arm-bytes tree n left j u e = rw e
+arm-bytes tree n right j u e = rw e
+arm-bytes tree n (delayed d) j u e = rw e
 
 -- one step down from row i, of which the parts' bytes are known
 module _ (arities : List ℕ) (rows : ℕ) (t : List ℤ) (f i : ℕ) (low : i < rows) (P : Recognition → Type 0) (below : (j : ℕ) (v : Recognition) → j < i → P v → Reads (rowsIn rows t) j v → treeWithin arities t f j ≡ recognitionBytes v) where
@@ -44,10 +53,9 @@ module _ (arities : List ℕ) (rows : ℕ) (t : List ℤ) (f i : ℕ) (low : i <
   of-event n s x q r = bytes-by n (pos s) none x x (reads-event (rowsIn rows t) i n s x r) _ q
 
   of-one : (n : ℕ) (m : Arm) (u : Recognition) → getD arities n 0 ≡ armArity m → P u → Reads (rowsIn rows t) i (ofOne n m u) → treeWithin arities t (suc f) i ≡ recognitionBytes (ofOne n m u)
-  unfolding recognitionBytes rowBytes referenceBytes
-  of-one n only u q p h = let r = reads-one (rowsIn rows t) i n only u h in bytes-by n _ _ _ _ (r .2) _ q ∙ rw (below (r .0) u (r .1) p (r .3))
-  of-one n left u q p h = let r = reads-one (rowsIn rows t) i n left u h in bytes-by n _ _ _ _ (r .2) _ q ∙ rw (below (r .0) u (r .1) p (r .3))
-  of-one n right u q p h = let r = reads-one (rowsIn rows t) i n right u h in bytes-by n _ _ _ _ (r .2) _ q ∙ rw (below (r .0) u (r .1) p (r .3))
+  of-one n m u q p h =
+      let r = reads-one (rowsIn rows t) i n m u h in
+      bytes-by n _ _ _ _ (r .2) (armArity m) q ∙ arm-bytes (treeWithin arities t f) n m (r .0) u (below (r .0) u (r .1) p (r .3))
 
   of-two : (n : ℕ) (u v : Recognition) → getD arities n 0 ≡ 2 → P u → P v → Reads (rowsIn rows t) i (ofTwo n u v) → treeWithin arities t (suc f) i ≡ recognitionBytes (ofTwo n u v)
   unfolding recognitionBytes rowBytes referenceBytes
@@ -65,6 +73,7 @@ module _ (arities : List ℕ) (rows : ℕ) (t : List ℤ) (f i : ℕ) (low : i <
   by-operator es (or a b) u q (inr h) = subst Written (sym (h .2)) (of-one (entryOf u) right (h .0) (q ∙ arity-or a b) (h .1 .0))
   by-operator es (absence c a b) u q h = subst Written (sym (h .3)) (of-one (entryOf u) only (h .0) (q ∙ arity-absence c a b) (h .1 .0))
   by-operator es (lasting c a d) u q h = subst Written (sym (h .3)) (of-one (entryOf u) only (h .0) (q ∙ arity-lasting c a d) (h .1 .0))
+  by-operator es (after a d) u q h = subst Written (sym (h .2)) (of-one (entryOf u) (delayed d) (h .0) (q ∙ arity-after a d) (h .1 .0))
 
 bytes-within : (ops : List Operator) (es : List Event) (rows : ℕ) (t : List ℤ) (m f i : ℕ) (u : Recognition) → i < rows → i < f → IsWithin m ops es u → Reads (rowsIn rows t) i u → treeWithin (map arityOf ops) t f i ≡ recognitionBytes u
 bytes-within ops es rows t zero f i u h k w r = absurd w

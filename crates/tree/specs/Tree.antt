@@ -9,7 +9,7 @@ use lib.Dec.{leb}
 use lib.IntN.{ℤ, pos, negsuc, natAbs}
 use lib.ListN.{length, getD}
 use Rattle.decimal.specs.Spelling.{spelled}
-use Rattle.model.specs.Recognitions.{Event, Operator, only, left, right, Recognition, ofEvent, ofOne, ofTwo}
+use Rattle.model.specs.Recognitions.{Event, Operator, only, left, right, delayed, Recognition, ofEvent, ofOne, ofTwo}
 use Rattle.model.specs.Statements.{IsRecognition, Reads}
 use Rattle.table.specs.Table.{cell, rowsIn}
 use Rattle.table.specs.Operators.{arityOf}
@@ -20,6 +20,7 @@ recognitionBytes (ofEvent n s i) = 101 ∷ spelled (pos s)
 recognitionBytes (ofOne n only r) = 60 ∷ recognitionBytes r ++ 62 ∷ []
 recognitionBytes (ofOne n left r) = 60 ∷ recognitionBytes r ++ 44 ∷ 95 ∷ 62 ∷ []
 recognitionBytes (ofOne n right r) = 60 ∷ 95 ∷ 44 ∷ recognitionBytes r ++ 62 ∷ []
+recognitionBytes (ofOne n (delayed d) r) = 60 ∷ recognitionBytes r ++ 62 ∷ []
 recognitionBytes (ofTwo n r s) = 60 ∷ recognitionBytes r ++ (44 ∷ recognitionBytes s ++ 62 ∷ [])
 
 -- The same on the flat table: a row from its arity, its number left and the bytes of its references

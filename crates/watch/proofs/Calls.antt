@@ -94,32 +94,32 @@ module _ (chart : Chart) (w : WatchState) (t : List ℤ) (x : ℤ) where
   early = isMarkRefused (w .instant) x
 
   abbrev size : ℕ
-  size = length (closedRows chart w t)
+  size = length (closedRows chart w x t)
 
   pub clock-8 : early ≡ true → clockOwn chart w t x ≡ refusedStep 8 w t
   unfolding clockOwn
   clock-8 e = rw e
 
-  pub clock-12 : early ≡ false → roomIn t < closedNumber chart w t → (clockOwn chart w t x ≡ refusedStep 12 w t) × (closedTable chart w t ≡ t)
+  pub clock-12 : early ≡ false → roomIn t < closedNumber chart w x t → (clockOwn chart w t x ≡ refusedStep 12 w t) × (closedTable chart w x t ≡ t)
   unfolding clockOwn
   clock-12 e h = go (leb size (roomIn t)) refl
     where
-      go : (b : Bool) → leb size (roomIn t) ≡ b → (clockOwn chart w t x ≡ refusedStep 12 w t) × (closedTable chart w t ≡ t)
-      go true p = absurd (omega (arith, leb-true size (roomIn t) p, number-fits chart w t (leb-true size (roomIn t) p) .0))
+      go : (b : Bool) → leb size (roomIn t) ≡ b → (clockOwn chart w t x ≡ refusedStep 12 w t) × (closedTable chart w x t ≡ t)
+      go true p = absurd (omega (arith, leb-true size (roomIn t) p, number-fits chart w x t (leb-true size (roomIn t) p) .0))
       go false p =
           let l = leb-false size (roomIn t) p in
-          (rw (e, lt-ltb (roomIn t) size l), number-over chart w t l .1)
+          (rw (e, lt-ltb (roomIn t) size l), number-over chart w x t l .1)
 
-  pub clock-taken : early ≡ false → closedNumber chart w t ≤ roomIn t → clockOwn chart w t x ≡ takenStep (marked w x (closedNumber chart w t)) (closedTable chart w t)
+  pub clock-taken : early ≡ false → closedNumber chart w x t ≤ roomIn t → clockOwn chart w t x ≡ takenStep (marked w x (closedNumber chart w x t)) (closedTable chart w x t)
   unfolding clockOwn
   clock-taken e h = go (leb size (roomIn t)) refl
     where
-      go : (b : Bool) → leb size (roomIn t) ≡ b → clockOwn chart w t x ≡ takenStep (marked w x (closedNumber chart w t)) (closedTable chart w t)
+      go : (b : Bool) → leb size (roomIn t) ≡ b → clockOwn chart w t x ≡ takenStep (marked w x (closedNumber chart w x t)) (closedTable chart w x t)
       go true p =
           let l = leb-true size (roomIn t) p in
-          let f = number-fits chart w t l in
+          let f = number-fits chart w x t l in
           rw (e, le-ltb (roomIn t) size l, f .0, f .1)
-      go false p = absurd (omega (arith, number-over chart w t (leb-false size (roomIn t) p) .0))
+      go false p = absurd (omega (arith, number-over chart w x t (leb-false size (roomIn t) p) .0))
 
 -- a forget
 module _ (chart : Chart) (w : WatchState) (t : List ℤ) (f : ℤ) where

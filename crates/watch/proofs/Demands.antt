@@ -80,7 +80,7 @@ unfolding clockOwn
 given-clock chart s x =
     let w = s .watch in
     let t = s .table in
-    let rs = closedRows chart w t in
+    let rs = closedRows chart w x t in
     let full = ltb (roomIn t) (length rs) in
     let taken = takenStep (marked w x (length rs)) (putRows (w .rows) (drop (w .rows) rs) t) in
     cond-holds (Given s) (isMarkRefused (w .instant) x) (refusedStep 8 w t) (cond full (refusedStep 12 w t) taken) (given-refused s 8)
@@ -179,9 +179,9 @@ floor-event w k = go (leb 1000000 (w .events)) (leb 64 (w .pending))
 
 floor-clock : (chart : Chart) (w : WatchState) (t : List ℤ) (x : ℤ) → (clockOwn chart w t x) .answer .watch .state .floor ≡ w .floor
 unfolding clockOwn
-floor-clock chart w t x = go (isMarkRefused (w .instant) x) (ltb (roomIn t) (length (closedRows chart w t)))
+floor-clock chart w t x = go (isMarkRefused (w .instant) x) (ltb (roomIn t) (length (closedRows chart w x t)))
   where
-    go : (a b : Bool) → (cond a (refusedStep 8 w t) (cond b (refusedStep 12 w t) (takenStep (marked w x (length (closedRows chart w t))) (putRows (w .rows) (drop (w .rows) (closedRows chart w t)) t)))) .answer .watch .state .floor ≡ w .floor
+    go : (a b : Bool) → (cond a (refusedStep 8 w t) (cond b (refusedStep 12 w t) (takenStep (marked w x (length (closedRows chart w x t))) (putRows (w .rows) (drop (w .rows) (closedRows chart w x t)) t)))) .answer .watch .state .floor ≡ w .floor
     go true b = refl
     go false true = refl
     go false false = refl

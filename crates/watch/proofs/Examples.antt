@@ -19,7 +19,7 @@ use Rattle.chart.specs.declared.Chart.{Chart}
 use Rattle.chart.specs.declared.Entry.{Entry}
 use Rattle.model.specs.Capacity.{capacity}
 use Rattle.model.specs.Reference.{Call, event, clock, forget}
-use Rattle.model.specs.RowSteps.{extendRows, closeRows, keepRows, forgetRows}
+use Rattle.model.specs.RowSteps.{extendRows, closeRows, closeInstants, keepRows, forgetRows}
 use Rattle.table.specs.Table.{rowsIn, putRow, putRows, areZeros, zeroed}
 use Rattle.table.specs.Operators.{operatorBy, operatorsOf, arityOf}
 use Rattle.consistency.specs.Consistency.{isWatchInRange, isTableRowConsistent, areConsistent}
@@ -58,14 +58,14 @@ abbrev check : Chart → WatchState → List ℤ → ℕ → Check
 check chart w t n = record { chart = chart; watch = w; table = t; number = n }
 
 -- "14 a chart of no entries, of over 32, or with an entry breaking the operator table". An operator's code is its place in that table: 0 is event,
--- 1 seq, 14 lasts, and 17 is none.
+-- 1 seq, 14 lasts, and 18 is none.
 abbrev charts : List Check
 charts =
     of 0 [] 14 ∷
     of 1 (entry 0 255 0 ∷ []) 0 ∷
     of 1 (entry 0 256 0 ∷ []) 14 ∷
     of 1 (entry 0 1 1 ∷ []) 14 ∷
-    of 1 (entry 17 0 0 ∷ []) 14 ∷
+    of 1 (entry 18 0 0 ∷ []) 14 ∷
     of 2 (entry 0 1 0 ∷ entry 1 0 0 ∷ []) 0 ∷
     of 2 (entry 0 1 0 ∷ entry 1 1 0 ∷ []) 14 ∷
     of 2 (entry 0 1 0 ∷ entry 1 0 1 ∷ []) 14 ∷
@@ -183,11 +183,14 @@ markOrder =
     refuses oneEntry pendingOne [] (clock (pos 1000000001)) 8 ∷
     refuses oneEntry pendingOne [] (clock (minus 1000000001)) 8 ∷
     refuses oneEntry pendingOne [] (clock (pos 3)) 8 ∷
-    refuses oneEntry pendingOne [] (clock (pos 1000000000)) 12 ∷
+    refuses oneEntry (pendingAt (pos 999999999)) [] (clock (pos 1000000000)) 12 ∷
     refuses oneEntry pendingOne [] (clock (pos 4)) 12 ∷ []
   where
+    pendingAt : ℤ → WatchState
+    pendingAt o = watch o (pos 0) 1 0 (1 ∷ [])
+
     pendingOne : WatchState
-    pendingOne = watch (pos 3) (pos 0) 1 0 (1 ∷ [])
+    pendingOne = pendingAt (pos 3)
 
 -- Two events in sequence. Events of code 1 came at 1 and at 3; one of code 2, at 5, brings three rows more, of those in sequence the later start first
 -- (request N7).
@@ -221,7 +224,22 @@ marks =
     moreRows : List String
     moreRows = "2 1 3 3 5" ∷ "2 2 3 3 5" ∷ "2 0 3 1 5" ∷ "3 4 -1 3 5" ∷ "3 5 -1 3 5" ∷ "3 6 -1 1 5" ∷ []
 
--- the watch after that mark, with this floor and this many rows, and an event pending
+-- A mark closes every instant before it (request N1): an event at 0, 2 later its delayed row, 3 later the one delayed again. That one is not due while
+-- its end is the mark; on a table with room for two rows nothing of the jump stays.
+abbrev jumps : List Called
+jumps =
+    takes delays opened (table (replicate 3 "0 0 0 0 0" ++ "7 8 9" ∷ [])) (clock (pos 6)) (watch (pos 6) (pos 0) 1 3 []) (table ("0 1 -1 0 0" ∷ "1 0 -1 0 2" ∷ "2 1 -1 0 5" ∷ "7 8 9" ∷ [])) ∷
+    takes delays opened (table (replicate 3 "0 0 0 0 0")) (clock (pos 5)) (watch (pos 5) (pos 0) 1 2 []) (table ("0 1 -1 0 0" ∷ "1 0 -1 0 2" ∷ "0 0 0 0 0" ∷ [])) ∷
+    refuses delays opened (table (replicate 2 "0 0 0 0 0" ++ "7 8 9" ∷ [])) (clock (pos 6)) 12 ∷
+    takes delays (watch (pos 1) (pos 0) 1 1 []) (table ("0 1 -1 0 0" ∷ replicate 2 "0 0 0 0 0")) (clock (pos 6)) (watch (pos 6) (pos 0) 1 3 []) (table ("0 1 -1 0 0" ∷ "1 0 -1 0 2" ∷ "2 1 -1 0 5" ∷ [])) ∷ []
+  where
+    delays : Chart
+    delays = chartOf ("0 event 1" ∷ "1 after 0 2" ∷ "2 after 1 3" ∷ [])
+
+    opened : WatchState
+    opened = watch (pos 0) (pos 0) 1 0 (1 ∷ [])
+
+-- the watch after the mark that left five rows, with this floor and this many rows, and an event pending
 abbrev five : ℤ → ℕ → WatchState
 five floor n = watch (pos 6) floor 4 n (9 ∷ [])
 
@@ -237,10 +255,10 @@ forgets =
     refuses inSequence (five (pos 1) 5) (table fiveRows) (forget (minus 1000000001)) 11 ∷ []
 
 pub callCases : List Called
-callCases = firstChecks ++ eventCalls ++ markOrder ++ marks ++ forgets
+callCases = firstChecks ++ eventCalls ++ markOrder ++ marks ++ jumps ++ forgets
 
 pub calls : map (λ (c : Called). ofStep (call (c .chart) (record { watch = c .watch; table = c .table }) (c .call))) callCases ≡ map (λ (c : Called). c .expected) callCases
-unfolding callCases isInstant isLength isMarkRefused isForgetRefused isRelated isForbidding hasLength split lines bytes tabbed unended text isDigit allDigits valueFrom hasLeadingZero isNumber numberOf withoutMinus withMinus instantOf words sameBytes placeOf operatorOf lengthTestOf kindOf inRange areLower withCode eventLine withOperands secondOperand operandsLine byOperator operatorLine numbered parsedLine checkedEntry checkedLine answerTo noEntries withEntry refusedChart readLines orNoLine readChart entryFits allBelow isUsable capacity extendRows closeRows keepRows forgetRows rowsIn putRow putRows areZeros zeroed operatorBy operatorsOf isWatchInRange isTableRowConsistent areConsistent checked eventOwn eventStep closedRows clockOwn clockStep keptRows forgottenTable forgetOwn forgetStep call
+unfolding callCases isInstant isLength isMarkRefused isForgetRefused isRelated isForbidding hasLength split lines bytes tabbed unended text isDigit allDigits valueFrom hasLeadingZero isNumber numberOf withoutMinus withMinus instantOf words sameBytes placeOf operatorOf lengthTestOf kindOf inRange areLower withCode eventLine withOperands secondOperand operandsLine byOperator operatorLine numbered parsedLine checkedEntry checkedLine answerTo noEntries withEntry refusedChart readLines orNoLine readChart entryFits allBelow isUsable capacity extendRows closeRows closeInstants keepRows forgetRows rowsIn putRow putRows areZeros zeroed operatorBy operatorsOf isWatchInRange isTableRowConsistent areConsistent checked eventOwn eventStep closedRows clockOwn clockStep keptRows forgottenTable forgetOwn forgetStep call
 calls = refl
 
 -- Trees of the five rows: chart, watch, row and output lent; the number, the length and the output after it.

@@ -76,7 +76,7 @@ module _ (chart : Chart) (w : WatchState) (t : List ℤ) where
   unfolding clockOwn
   clock-numbered x =
       let ns : List ℕ = 0 ∷ callNumbers (ref.clock x) in
-      let rs = closedRows chart w t in
+      let rs = closedRows chart w x t in
       let full = ltb (roomIn t) (length rs) in
       let taken = takenStep (marked w x (length rs)) (putRows (w .rows) (drop (w .rows) rs) t) in
       either stepNumber ns (early chart w t x) (refusedStep 8 w t) (cond full (refusedStep 12 w t) taken) (nth 3 ns (omega arith))

@@ -19,10 +19,11 @@ use Rattle.model.specs.Recognitions.{Operator, Event}
 use Rattle.model.specs.Reference as ref
 use Rattle.model.specs.Reference.{Call}
 use Rattle.model.specs.RowSteps as rows
-use Rattle.model.specs.RowSteps.{closeRows, forgetRows, isLate, renumberedBy, numbered}
+use Rattle.model.specs.RowSteps.{closeInstants, instantsTo, forgetRows, isLate, renumberedBy, numbered}
 use Rattle.model.proofs.History.{keep-length}
 use Rattle.model.proofs.RowStepLaws as laws
-use Rattle.model.proofs.Steps.{close-more, forget-kept}
+use Rattle.model.proofs.Steps.{forget-kept}
+use Rattle.model.proofs.Due.{instants-more}
 use Rattle.table.specs.Table.{putRows, roomIn, tableOf}
 use Rattle.table.specs.Operators.{operatorsOf}
 use Rattle.consistency.specs.Consistency.{areConsistent}
@@ -37,10 +38,10 @@ use Rattle.table.proofs.Tables.{rows-flat, length-table, table-more, table-less
 use Rattle.watch.proofs.Shown.{watchOf, stateOf, codes-more}
 
 -- closing appends to the rows there are
-close-appends : (o : ℤ) (es : List Event) (ops : List Operator) (rs : List Row) → closeRows o es ops rs ≡ rs ++ drop (length rs) (closeRows o es ops rs)
-close-appends o es ops rs =
-    let g = close-more o es ops rs in
-    g .1 ∙ ap (λ l. rs ++ l) (sym (ap (drop (length rs)) (g .1) ∙ drop-at rs (g .0) (length rs) refl))
+instants-append : (ops : List Operator) (es : List Event) (n : ℕ) (o : ℤ) (rs : List Row) → closeInstants n o es ops rs ≡ rs ++ drop (length rs) (closeInstants n o es ops rs)
+instants-append ops es n o rs =
+    let p = instants-more ops es n o rs in
+    p .1 ∙ ap (λ x. rs ++ x) (sym (ap (drop (length rs)) (p .1) ∙ drop-at rs (p .0) (length rs) refl))
 
 kept-few : (ops : List Operator) (f : ℤ) (rs : List Row) → length (forgetRows ops f rs) ≤ length rs
 kept-few ops f rs = rw (forget-kept ops f rs, length-map (keep (isLate f) rs) (renumberedBy ops (isLate f) rs)) (keep-length (isLate f) rs)
@@ -70,18 +71,18 @@ module _ (chart : Chart) (usable : isUsable chart ≡ true) (room : ℕ) (tail :
       go false d false e = rw (d, e, laws.event-taken m k d e) (ap (λ w. record { answer = answered 0 w; table = tableOf room tail (m .rows) }) (one-more k (leb-false 64 (length (m .pending)) e)))
 
   -- the rows after closing are those of the watch on rows
-  closed-same : closedRows chart (watchOf m) (tableOf room tail (m .rows)) ≡ rows.closedRows (operatorsOf chart) m
-  closed-same =
-      closed-is chart (watchOf m) (tableOf room tail (m .rows))
-      ∙ ap₂ (λ p rs. closeRows (m .openInstant) (numbered (m .openInstant) (suc (m .count - length (m .pending))) p) (operatorsOf chart) rs)
+  closed-same : (x : ℤ) → closedRows chart (watchOf m) x (tableOf room tail (m .rows)) ≡ rows.closedRows (operatorsOf chart) m x
+  closed-same x =
+      closed-is chart (watchOf m) x (tableOf room tail (m .rows))
+      ∙ ap₂ (λ p rs. closeInstants (instantsTo (m .openInstant) x) (m .openInstant) (numbered (m .openInstant) (suc (m .count - length (m .pending))) p) (operatorsOf chart) rs)
       (take-at (m .pending) (replicate (64 - length (m .pending)) 0) (length (m .pending)) refl)
       (rows-flat (m .rows) _)
 
-  closed-table : length (rows.closedRows (operatorsOf chart) m) ≤ room → putRows (length (m .rows)) (drop (length (m .rows)) (rows.closedRows (operatorsOf chart) m)) (tableOf room tail (m .rows)) ≡ tableOf room tail (rows.closedRows (operatorsOf chart) m)
-  closed-table h =
-      let rs = rows.closedRows (operatorsOf chart) m in
+  closed-table : (x : ℤ) → length (rows.closedRows (operatorsOf chart) m x) ≤ room → putRows (length (m .rows)) (drop (length (m .rows)) (rows.closedRows (operatorsOf chart) m x)) (tableOf room tail (m .rows)) ≡ tableOf room tail (rows.closedRows (operatorsOf chart) m x)
+  closed-table x h =
+      let rs = rows.closedRows (operatorsOf chart) m x in
       let qs = drop (length (m .rows)) rs in
-      let e : rs ≡ m .rows ++ qs = close-appends (m .openInstant) (rows.pendingEvents m) (operatorsOf chart) (m .rows) in
+      let e : rs ≡ m .rows ++ qs = instants-append (operatorsOf chart) (rows.pendingEvents m) (instantsTo (m .openInstant) x) (m .openInstant) (m .rows) in
       table-more room tail (m .rows) qs (rw (← e) h) ∙ ap (tableOf room tail) (sym e)
 
   clock-shown : (x : ℤ) → clockStep chart (watchOf m) (tableOf room tail (m .rows)) x ≡ stepOf room tail (rows.watchClock (operatorsOf chart) room m x)
@@ -89,12 +90,12 @@ module _ (chart : Chart) (usable : isUsable chart ≡ true) (room : ℕ) (tail :
   clock-shown x = passes _ ∙ go (isMarkRefused (m .openInstant) x) refl (ltb room (length rs)) refl
     where
       rs : List Row
-      rs = rows.closedRows (operatorsOf chart) m
+      rs = rows.closedRows (operatorsOf chart) m x
 
       go : (a : Bool) → isMarkRefused (m .openInstant) x ≡ a → (b : Bool) → ltb room (length rs) ≡ b → clockOwn chart (watchOf m) (tableOf room tail (m .rows)) x ≡ stepOf room tail (rows.watchClock (operatorsOf chart) room m x)
       go true d b e = rw (d, laws.clock-8 (operatorsOf chart) room m x d)
-      go false d true e = rw (closed-same, room-is, d, e, laws.clock-12 (operatorsOf chart) room m x d e)
-      go false d false e = rw (closed-same, room-is, d, e, laws.clock-taken (operatorsOf chart) room m x d e) (ap (λ u. takenStep (marked (watchOf m) x (length rs)) u) (closed-table (ltb-false room (length rs) e)))
+      go false d true e = rw (closed-same x, room-is, d, e, laws.clock-12 (operatorsOf chart) room m x d e)
+      go false d false e = rw (closed-same x, room-is, d, e, laws.clock-taken (operatorsOf chart) room m x d e) (ap (λ u. takenStep (marked (watchOf m) x (length rs)) u) (closed-table x (ltb-false room (length rs) e)))
 
   forget-shown : (f : ℤ) → forgetStep chart (watchOf m) (tableOf room tail (m .rows)) f ≡ stepOf room tail (rows.watchForget (operatorsOf chart) m f)
   unfolding forgetStep forgetOwn

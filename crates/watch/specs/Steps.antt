@@ -71,8 +71,8 @@ eventStep chart w t k = checked chart w t (record { answer = eventOwn w k; table
 unfoldable pub clockOwn : Chart → WatchState → List ℤ → ℤ → Step
 clockOwn chart w t x =
     cond (isMarkRefused (w .instant) x) (refusedStep 8 w t)
-    (cond (ltb (roomIn t) (length (closedRows chart w t))) (refusedStep 12 w t)
-    (takenStep (marked w x (length (closedRows chart w t))) (putRows (w .rows) (drop (w .rows) (closedRows chart w t)) t)))
+    (cond (ltb (roomIn t) (length (closedRows chart w x t))) (refusedStep 12 w t)
+    (takenStep (marked w x (length (closedRows chart w x t))) (putRows (w .rows) (drop (w .rows) (closedRows chart w x t)) t)))
 
 unfoldable pub clockStep : Chart → WatchState → List ℤ → ℤ → Step
 clockStep chart w t x = checked chart w t (clockOwn chart w t x)

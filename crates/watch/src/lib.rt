@@ -137,7 +137,7 @@ impl Watch {
         self.clock_unchecked(chart, table, instant)
     }
 
-    // A clock mark on a watch that is known to be consistent. With nothing pending it looks at each entry of the chart; otherwise see closing::close.
+    // A clock mark on a watch that is known to be consistent. With nothing pending and no delay in the chart it looks at each entry; otherwise see closing::close.
     pub fn clock_unchecked(self, chart: Chart, table: &mut [i32], instant: i32) -> Answer
         requires { ⌜ checkNumber chart (self .state) (now table) ≡ 0 ⌝ }
         ensures { λ r. ⌜ (r ≡ (clockOwn chart (self .state) (now (table .entry)) instant) .answer) × (now (table .exit) ≡ (clockOwn chart (self .state) (now (table .entry)) instant) .table) ⌝ }
@@ -150,7 +150,7 @@ impl Watch {
             };
         }
         let room = table::rows_that_fit(table.len());
-        let n = closing::close(chart, s, table);
+        let n = closing::close(chart, s, instant, table);
         if room < n {
             return Answer {
                 refusal: 12,

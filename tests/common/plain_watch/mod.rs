@@ -9,7 +9,7 @@ pub mod storage;
 use crate::chart_value;
 use crate::interface::{Answer, Calls, Chart, ChartAnswer, Entry, Rows, TreeAnswer, Watch, MOST_ENTRIES, MOST_PENDING};
 use crate::plain_chart;
-use closing::{Closing, AT_LEAST, CLOSED_CLOSED, EQUALS, EVENT, LASTS, NONE, OPEN_CLOSED, OR, SEQ};
+use closing::{Closing, AFTER, AT_LEAST, CLOSED_CLOSED, EQUALS, EVENT, LASTS, NONE, OPEN_CLOSED, OR, SEQ};
 use std::ops::RangeInclusive;
 use storage::{Row, Span, Storage, END, ENTRY, START, UNUSED};
 
@@ -157,7 +157,7 @@ pub trait PlainWatch: Closing {
             match entry.op {
                 EVENT => entry.a <= GREATEST_CODE && entry.b == 0,
                 SEQ..=EQUALS => is_lower(entry.a) && is_lower(entry.b),
-                LASTS..=AT_LEAST => is_lower(entry.a) && entry.b <= GREATEST_LENGTH,
+                LASTS..=AFTER => is_lower(entry.a) && entry.b <= GREATEST_LENGTH,
                 _ => false,
             }
         };
@@ -204,7 +204,7 @@ pub trait PlainWatch: Closing {
         if instant <= i64::from(watch.instant) || !INSTANTS.contains(&instant) {
             return Err(8);
         }
-        if Self::close(watch, chart, storage).is_none() {
+        if Self::close_before(watch, chart, storage, instant as i32).is_none() {
             Self::take_back(storage);
             return Err(12);
         }
@@ -322,6 +322,7 @@ pub trait PlainWatch: Closing {
                     && Self::spans(row, Self::lower_row(lower, left, entry.a))
                     && Self::has_length(entry.op, entry.b, &Span::of(NONE, row))
             }
+            AFTER => right == NONE && Self::is_delayed(row, Self::lower_row(lower, left, entry.a), entry.b),
             _ => {
                 let operands = (Self::lower_row(lower, left, entry.a), Self::lower_row(lower, right, entry.b));
                 matches!(operands, (Some(r), Some(s))
@@ -344,6 +345,10 @@ pub trait PlainWatch: Closing {
         r.is_some_and(|r| row[START] == r[START] && row[END] == r[END])
     }
 
+    fn is_delayed(row: &Row, r: Option<&Row>, delay: u32) -> bool {
+        r.is_some_and(|r| row[START] == r[START] && i64::from(row[END]) == i64::from(r[END]) + i64::from(delay))
+    }
+
     fn spans_both(op: u8, row: &Row, r: &Span, s: &Span) -> bool {
         row[START] == r.start.min(s.start) && row[END] == r.end.max(s.end) && Self::is_related(op, r, s)
     }
@@ -363,7 +368,7 @@ pub trait PlainWatch: Closing {
         let [entry, left, right, ..] = row;
         match chart.entries[entry as usize].op {
             EVENT => Some(2 + left.ilog10() as usize).filter(|length| *length <= limit),
-            CLOSED_CLOSED..=OPEN_CLOSED | LASTS..=AT_LEAST => {
+            CLOSED_CLOSED..=OPEN_CLOSED | LASTS..=AFTER => {
                 let rest = limit.checked_sub(2)?;
                 Some(Self::tree_length(chart, rows, left, rest)? + 2)
             }
@@ -390,7 +395,7 @@ pub trait PlainWatch: Closing {
         }
         out[at] = b'<';
         let mut behind = Self::write_tree(chart, rows, left, out, at + 1);
-        if !matches!(op, CLOSED_CLOSED..=OPEN_CLOSED | LASTS..=AT_LEAST) {
+        if !matches!(op, CLOSED_CLOSED..=OPEN_CLOSED | LASTS..=AFTER) {
             out[behind] = b',';
             behind = Self::write_tree(chart, rows, right, out, behind + 1);
         }

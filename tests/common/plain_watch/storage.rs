@@ -26,9 +26,11 @@ impl Span {
     }
 }
 
-/// The rows of a watch while an instant is closed. The first `old` end before it, those from there to `count` at it.
+/// The rows of a watch while instants are closed. The first `before` were there before the mark; the first `old` end
+/// before the instant that is closed, those from there to `count` at it.
 pub struct Storage<'a> {
     pub rows: &'a mut [Row],
+    pub before: usize,
     pub old: usize,
     pub count: usize,
     pub index: Option<&'a mut Index>,
@@ -36,14 +38,27 @@ pub struct Storage<'a> {
 
 impl<'a> Storage<'a> {
     pub fn new(rows: &'a mut [Row], in_use: usize, index: Option<&'a mut Index>) -> Storage<'a> {
-        Storage { rows, old: in_use, count: in_use, index }
+        Storage { rows, before: in_use, old: in_use, count: in_use, index }
     }
 
-    /// Leaves the old rows alone, the others being zeros again: the table was full, so every row was written.
-    pub fn take_back(&mut self) {
-        self.rows[self.old..].fill(UNUSED);
+    /// Goes on to a later instant: the rows of this one are old there.
+    #[inline]
+    pub fn go_on(&mut self) {
+        self.old = self.count;
         if let Some(index) = &mut self.index {
-            index.lists.iter_mut().for_each(|list| list.spans.truncate(list.old));
+            index.lists.iter_mut().for_each(|list| list.old = list.spans.len());
+        }
+    }
+
+    /// Leaves the rows from before the mark alone, the others being zeros again: the table was full, so every row was
+    /// written.
+    pub fn take_back(&mut self) {
+        self.rows[self.before..].fill(UNUSED);
+        if let Some(index) = &mut self.index {
+            for list in &mut index.lists {
+                list.spans.truncate(list.spans.partition_point(|span| (span.row as usize) < self.before));
+                list.old = list.spans.len();
+            }
         }
     }
 }

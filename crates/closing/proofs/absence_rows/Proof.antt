@@ -30,7 +30,7 @@ abbrev μ-loop : tie.MeasureT-loop
 
 abbrev Inv-candidates : tie.InvT-candidates
 Inv-candidates t₀ n f edges a b end room i₀ top count₀ t i count =
-    let rows = absenceRow edges (natAbs (f .entry)) (toZ w32 a) (toZ w32 b) top t₀ in
+    let rows = absenceRow edges (natAbs (f .entry)) (f .instant) (toZ w32 a) (toZ w32 b) top t₀ in
     Filling (f .room) n (each rows (span (f .first) (f .end))) t₀ count (each rows (span i (f .end))) t
 
 abbrev μ-candidates : tie.MeasureT-candidates
@@ -58,7 +58,7 @@ returns c =
     let s = d .before .before in
     let g = s .args in
     let f = first d in
-    simp (same32 _ (s .fits .a)) at (over _ (d .first-of .result) (g .f .end) (past _ _ _ (begin _ _ _ (g .t .now) (s .pre .fit)) _ (f .least) (f .most) (λ j p q. absence-other (g .edges) (natAbs (g .f .entry)) _ (g .b) (topOf (g .b) (g .f .end) (g .t .now)) (g .t .now) j (f .none j p q))) (c .if1 .taken))
+    simp (same32 _ (s .fits .a)) at (over _ (d .first-of .result) (g .f .end) (past _ _ _ (begin _ _ _ (g .t .now) (s .pre .fit)) _ (f .least) (f .most) (λ j p q. absence-other (g .edges) (natAbs (g .f .entry)) (g .f .instant) _ (g .b) (topOf (g .b) (g .f .end) (g .t .now)) (g .t .now) j (f .none j p q))) (c .if1 .taken))
 
 candidates-holds : tie.Need-candidates-holds Inv-loop μ-loop Inv-candidates μ-candidates
 candidates-holds c =
@@ -66,7 +66,7 @@ candidates-holds c =
     let s = d .before .before in
     let g = s .args in
     let f = first d in
-    past _ _ _ (begin _ _ _ _ (s .pre .fit)) _ (f .least) (f .most) (λ j p q. absence-other (g .edges) (natAbs (g .f .entry)) _ _ (c .top-of .result) (g .t .now) j (f .none j p q))
+    past _ _ _ (begin _ _ _ _ (s .pre .fit)) _ (f .least) (f .most) (λ j p q. absence-other (g .edges) (natAbs (g .f .entry)) (g .f .instant) _ _ (c .top-of .result) (g .t .now) j (f .none j p q))
 
 -- row i of the table t, while the one before this closing was t₀
 module _ (c : tie.After-is-of Inv-loop μ-loop Inv-candidates μ-candidates) where
@@ -88,6 +88,9 @@ module _ (c : tie.After-is-of Inv-loop μ-loop Inv-candidates μ-candidates) whe
   abbrev entry : ℕ
   entry = natAbs (s .args .f .entry)
 
+  abbrev O : ℤ
+  O = s .args .f .instant
+
   abbrev A : ℤ
   A = toZ w32 (ofZ w32 (s .args .a))
 
@@ -98,7 +101,7 @@ module _ (c : tie.After-is-of Inv-loop μ-loop Inv-candidates μ-candidates) whe
   t = k .candidates .t
 
   abbrev rows : ℕ → List Row
-  rows = absenceRow (s .args .edges) entry A B top (s .args .t .now)
+  rows = absenceRow (s .args .edges) entry O A B top (s .args .t .now)
 
   low : i < end
   low = omega arith
@@ -106,11 +109,11 @@ module _ (c : tie.After-is-of Inv-loop μ-loop Inv-candidates μ-candidates) whe
   long : end * 5 ≤ length t
   long = omega (arith, held s, k .candidates .inv .size)
 
-  same : absenceRow (s .args .edges) entry A B top t i ≡ rows i
-  same = absence-same (s .args .n) t (s .args .t .now) (k .candidates .inv .kept) entry (s .args .edges) A B top i (omega (arith, top-below (k .before), s .pre .inside)) (omega (arith, s .pre .inside))
+  same : absenceRow (s .args .edges) entry O A B top t i ≡ rows i
+  same = absence-same (s .args .n) t (s .args .t .now) (k .candidates .inv .kept) entry O (s .args .edges) A B top i (omega (arith, top-below (k .before), s .pre .inside)) (omega (arith, s .pre .inside))
 
   other : c .is-of .result ≡ false → rows i ≡ []
-  other h = sym same ∙ absence-other (s .args .edges) entry A B top t i (sym (c .is-of .ensures) ∙ h)
+  other h = sym same ∙ absence-other (s .args .edges) entry O A B top t i (sym (c .is-of .ensures) ∙ h)
 
 -- the same row, a candidate
 module _ (r : tie.After-row-at Inv-loop μ-loop Inv-candidates μ-candidates) where
@@ -124,10 +127,10 @@ module _ (r : tie.After-row-at Inv-loop μ-loop Inv-candidates μ-candidates) wh
   is-a = sym (o .is-of .ensures) ∙ r .before .before .if2 .taken
 
   barred : isBarred (top o) ≡ true → rows o (i o) ≡ []
-  barred h = sym (same o) ∙ absence-forbidden (s o .args .edges) (entry o) (A o) (B o) (top o) (t o) (i o) _ _ (ap (λ x. x .start) (r .row-at .ensures)) (ap (λ x. x .end) (r .row-at .ensures)) is-a h
+  barred h = sym (same o) ∙ absence-forbidden (s o .args .edges) (entry o) (O o) (A o) (B o) (top o) (t o) (i o) _ _ (ap (λ x. x .start) (r .row-at .ensures)) (ap (λ x. x .end) (r .row-at .ensures)) is-a h
 
-  stands : isBarred (top o) ≡ false → partRow left (entry o) (t o) (i o) ∷ [] ≡ rows o (i o)
-  stands h = absence-stands (s o .args .edges) (entry o) (A o) (B o) (top o) (t o) (i o) _ _ (ap (λ x. x .start) (r .row-at .ensures)) (ap (λ x. x .end) (r .row-at .ensures)) is-a h ∙ same o
+  stands : isBarred (top o) ≡ false → partRow left (entry o) (O o) (t o) (i o) ∷ [] ≡ rows o (i o)
+  stands h = absence-stands (s o .args .edges) (entry o) (O o) (A o) (B o) (top o) (t o) (i o) _ _ (ap (λ x. x .start) (r .row-at .ensures)) (ap (λ x. x .end) (r .row-at .ensures)) is-a h ∙ same o
 
 -- the row before place j is within the candidate
 within : (c : tie.After-is-within Inv-loop μ-loop Inv-candidates μ-candidates) → let l = c .before .before .before in c .is-within .result ≡ isWithin (l .before .row-at .result .start) (t (o (l .before))) (l .loop .j)
@@ -177,7 +180,7 @@ same-length c =
     d .push-part .kept .0 ∙ k (o (d .before .before .before .before .before .before .before)) .candidates .inv .size
 
 -- what was to be appended
-whole : (c : tie.After-top-of Inv-loop μ-loop Inv-candidates μ-candidates) → let s = c .before .before .before .before .before in let g = s .args in each (absenceRow (g .edges) (natAbs (g .f .entry)) (toZ w32 (ofZ w32 (g .a))) (toZ w32 (ofZ w32 (g .b))) (c .top-of .result) (g .t .now)) (span (g .f .first) (g .f .end)) ≡ absenceRows (g .edges) (natAbs (g .f .entry)) (g .a) (g .b) (g .f .first) (g .f .end) (g .t .now)
+whole : (c : tie.After-top-of Inv-loop μ-loop Inv-candidates μ-candidates) → let s = c .before .before .before .before .before in let g = s .args in each (absenceRow (g .edges) (natAbs (g .f .entry)) (g .f .instant) (toZ w32 (ofZ w32 (g .a))) (toZ w32 (ofZ w32 (g .b))) (c .top-of .result) (g .t .now)) (span (g .f .first) (g .f .end)) ≡ absenceRows (g .edges) (natAbs (g .f .entry)) (g .f .instant) (g .a) (g .b) (g .f .first) (g .f .end) (g .t .now)
 unfolding absenceRows
 whole c =
     let s = c .before .before .before .before .before in

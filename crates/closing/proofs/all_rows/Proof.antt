@@ -1,85 +1,95 @@
--- `all_rows` meets its contract: what the entries left append is what all were to append.
-use Prim.Native.Nat.{ℕ, _+_, _*_, _-_, _≤_, _<_}
-use native.Mathlib.Numerals.{add-one}
+-- `all_rows` meets its contract: what the entries left append is what all were to append; the limit is the next due end of the entries so far.
+use Prim.Native.Nat.{ℕ, _*_, _-_, _≤_, _<_}
 use native.Mathlib.Omega.{arith}
-use mathlib.Core.Path.{_≡_, refl, _∙_}
-use mathlib.Core.List.{List}
-use lib.IntN.{pos}
-use lib.ListN.{length, take, drop}
+use mathlib.Core.Path.{_≡_, refl, ap, _∙_, subst}
+use mathlib.Core.Bool.{true}
+use lib.IntN.{ℤ, pos, _+ℤ_}
+use lib.ListN.{length, drop}
+use lib.Signed.{ltZ}
 use mir.Syntax.{w32}
-use mir.Val.{SFits, toZ, ofZ}
+use mir.Val.{SFits, toZ}
 use mir.ValLaws.{toZ-pos}
 use Rattle.interval.proofs.Machine.{same32}
-use Rattle.interval.proofs.Signed.{is-le}
+use Rattle.interval.proofs.Signed.{lt-true, is-lt, is-le, leZ→, add-fact}
 use Rattle.chart.proofs.Usable.{usable-few, usable-fits}
 use Rattle.model.proofs.Capacity.{capacity-most, capacity-fits}
+use Rattle.model.proofs.Due.{next-none, next-more}
 use Rattle.model.specs.Capacity.{capacity}
-use Rattle.model.specs.Recognitions.{Event}
-use Rattle.model.specs.RowSteps.{numbered}
-use Rattle.closing.specs.declared.Pending.{Pending}
-use Rattle.table.specs.Table.{cell}
-use Rattle.table.specs.Operators.{entryOperator}
+use Rattle.model.specs.RowSteps.{closeRows, delayedEnds}
+use Rattle.model.specs.Statements.{NextDue}
+use Rattle.table.specs.Table.{rowsIn}
+use Rattle.table.specs.Operators.{operatorsOf, entryOperator}
 use Rattle.chart.specs.Charts.{entryAt}
 use Rattle.ordering.proofs.Appended.{alike-behind}
-use Rattle.closing.specs.Added.{pendingAt, FilledBy, addedRows}
-use Rattle.closing.specs.Closed.{closedRows}
-use Rattle.closing.proofs.Derived.{Grown}
-use Rattle.closing.proofs.Growth.{grown-none}
+use Rattle.closing.specs.Added.{FilledBy, eventsAt, addedRows}
+use Rattle.closing.proofs.Derived.{Grown, all-ordered}
+use Rattle.closing.proofs.Growth.{grown-none, grown-settled}
 use Rattle.closing.proofs.Entries.{Closing, closing-none, same-size, least, closing-ended, leftRows, left-first, left-last, Entered, entered}
+use Rattle.closing.proofs.Waits.{entryEnds, ends-all, ends-more}
 use Rattle.closing.proofs.all_rows.Statement.{statement}
 use Rattle.closing.proofs.all_rows.Tie as tie
 
--- the events that are pending
-abbrev eventsOf : Pending → List ℕ → List Event
-eventsOf p codes = numbered (p .instant) (p .first) (take (p .count) codes)
-
 abbrev Inv-loop : tie.InvT-loop
-Inv-loop t₀ room chart codes rows p count n₀ i₀ t n i =
+Inv-loop t₀ rows room jump p codes chart count n₀ next₀ i₀ t n next i =
+    let o : ℤ = jump .instant in
     (i ≤ chart .count) ×
     (count ≡ chart .count) ×
-    Grown (p .instant) rows n t ×
-    Closing room rows (leftRows chart (p .instant) (eventsOf p codes) 0 rows t₀) t₀ n (leftRows chart (p .instant) (eventsOf p codes) i n t) t
+    Grown o rows n t ×
+    Closing room rows (leftRows chart o (eventsAt o p codes) 0 rows t₀) t₀ n (leftRows chart o (eventsAt o p codes) i n t) t ×
+    NextDue (entryEnds chart (rowsIn n t) i) (o +ℤ pos 1) (jump .mark) (toZ w32 next)
 
 abbrev μ-loop : tie.MeasureT-loop
-μ-loop t₀ room chart codes rows p count n₀ i₀ t n i = chart .count - i
-
--- the open instant, as the loop has it
-instant : (c : tie.After-struct-told Inv-loop μ-loop) → SFits w32 (c .before .before .args .state .instant)
-instant c = record { sfits = c .struct-told .given .0 .1 }
+μ-loop t₀ rows room jump p codes chart count n₀ next₀ i₀ t n next i = chart .count - i
 
 loop-holds : tie.Need-loop-holds Inv-loop μ-loop
 loop-holds c =
-    let s = c .before .before in
+    let s = c .before in
     let g = s .args in
-    let p = s .pre .0 in
-    (omega arith, refl, simp (same32 _ (instant c)) (grown-none (g .t1) (g .state .instant) (g .state .rows) (g .t .now) (p .ready) (p .ended)), closing-none _ _ _ _ (rw (s .pre .2) (p .ready .fit)))
+    let o = g .jump .instant in
+    let x = g .jump .mark in
+    let f : SFits w32 x = record { sfits = c .struct-told .given .1 .0 .1 } in (
+      omega arith,
+      refl,
+      grown-none o (g .rows) (g .t .now) (s .pre .1),
+      closing-none _ _ _ _ (s .pre .2),
+      rw (same32 _ f) (next-none (o +ℤ pos 1) x (omega (arith, lt-true o x (s .pre .6), add-fact o (pos 1)))),
+    )
 
 -- the table is long enough
 held : (c : tie.Start Inv-loop μ-loop) → c .args .room * 5 ≤ length (c .args .t .now)
-held c = let room : c .args .room ≡ capacity (length (c .args .t .now)) = c .pre .2 in omega (arith, capacity-fits (length (c .args .t .now)))
+held c = let room : c .args .room ≡ capacity (length (c .args .t .now)) = c .pre .3 in omega (arith, capacity-fits (length (c .args .t .now)))
 
-below : (c : tie.In-loop Inv-loop μ-loop) → c .before .loop .i < c .before .before .before .before .args .t1 .count
+below : (c : tie.In-loop Inv-loop μ-loop) → c .before .loop .i < c .before .before .before .args .t1 .count
 below c = omega arith
 
 -- an entry's number
 number : (c : tie.In-loop Inv-loop μ-loop) → (c .before .loop .i < 32) × (toZ w32 (c .before .loop .i) ≡ pos (c .before .loop .i))
 number c =
-    let s = c .before .before .before .before in
-    let few = usable-few (s .args .t1) (s .pre .0 .ready .usable) in
+    let s = c .before .before .before in
+    let few = usable-few (s .args .t1) (s .pre .0) in
     let low : c .before .loop .i < 32 = omega arith in
     (low, toZ-pos w32 (c .before .loop .i) (omega arith))
+
+-- the instant, as it is read
+instant : (c : tie.After-struct-told2 Inv-loop μ-loop) → SFits w32 (c .before .before .before .before .before .args .jump .instant)
+instant c = record { sfits = c .struct-told2 .given .0 .1 }
+
+-- the limit is behind the instant
+behind : (c : tie.At-loop Inv-loop μ-loop) → ltZ (c .before .before .args .jump .instant) (toZ w32 (c .loop .next)) ≡ true
+behind c =
+    let o = c .before .before .args .jump .instant in
+    is-lt o (toZ w32 (c .loop .next)) (omega (arith, leZ→ (o +ℤ pos 1) (toZ w32 (c .loop .next)) (c .loop .inv .4 .from), add-fact o (pos 1)))
 
 entry-rows-requires : tie.Need-entry-rows-requires Inv-loop μ-loop
 entry-rows-requires c κs =
     let y = c .before .before .before in
     let l = y .before in
-    let s = l .before .before .before in
+    let s = l .before .before in
     let g = s .args in
-    let p = s .pre .0 in
     let f = l .loop .inv .3 in
     let n = number y in
-    let room : g .room ≡ capacity (length (g .t .now)) = s .pre .2 in
-    rw (n .1) (
+    let room : g .room ≡ capacity (length (g .t .now)) = s .pre .3 in
+    simp (n .1, same32 _ (instant (c .before))) (
       record {
         fit = f .most;
         most = omega (arith, capacity-most (length (g .t .now)));
@@ -88,25 +98,16 @@ entry-rows-requires c κs =
         low = n .0;
         few = least f;
         inside = omega arith;
-        ordered = λ i j h k. is-le (cell (l .loop .t) i 4) (cell (l .loop .t) j 4) (l .loop .inv .2 .ordered i j h k);
+        ordered = all-ordered (l .loop .inv .2);
       },
-      record { few = p .few; most = omega (arith, p .counted, p .most) },
-      usable-fits (g .t1) (p .ready .usable) (l .loop .i) (omega arith),
+      s .pre .4,
+      usable-fits (g .t1) (s .pre .0) (l .loop .i) (omega arith),
+      grown-settled (g .jump .instant) (g .rows) (l .loop .n) (l .loop .t) (l .loop .inv .2),
+      behind l,
     )
 
--- the events that are pending, as the loop has them and as the state has them
-abbrev pendingOf : tie.Start Inv-loop μ-loop → Pending
-pendingOf c = let w = c .args .state in pendingAt (toZ w32 (ofZ w32 (w .instant))) (w .events - w .pending + 1) (w .pending)
-
-whole : (c : tie.After-struct-told Inv-loop μ-loop) → let s = c .before .before in let g = s .args in leftRows (g .t1) (pendingOf s .instant) (eventsOf (pendingOf s) (g .t3)) 0 (g .state .rows) (g .t .now) ≡ drop (g .state .rows) (closedRows (g .t1) (g .state) (g .t .now))
-whole c = let s = c .before .before in let g = s .args in simp (same32 _ (instant c), add-one, s .pre .1) (left-first (g .t1) (g .state) (g .t .now))
-
--- the rows of the entry were appended
-appended : (c : tie.After-entry-rows Inv-loop μ-loop) → let l = c .before .before .before .before .before in let s = l .before .before .before in let g = s .args in FilledBy (g .room) (l .loop .n) (addedRows (entryOperator (entryAt (g .t1) (l .loop .i))) (l .loop .i) (pendingOf s) (g .t3) (g .state .rows) (l .loop .n) (l .loop .t)) (l .loop .t) (c .entry-rows .result) (c .entry-rows .last .0)
-appended c = simp (number (c .before .before .before .before) .1) at (c .entry-rows .ensures)
-
-few : (c : tie.Start Inv-loop μ-loop) → c .args .state .pending ≤ length (c .args .t3)
-few c = omega (arith, c .pre .0 .few)
+whole : (c : tie.Start Inv-loop μ-loop) → let g = c .args in let o = g .jump .instant in leftRows (g .t1) o (eventsAt o (g .p) (g .codes .now)) 0 (g .rows) (g .t .now) ≡ drop (g .rows) (closeRows o (eventsAt o (g .p) (g .codes .now)) (operatorsOf (g .t1)) (rowsIn (g .rows) (g .t .now)))
+whole c = let g = c .args in left-first (g .t1) (g .jump .instant) (eventsAt (g .jump .instant) (g .p) (g .codes .now)) (g .rows) (g .t .now)
 
 -- what is known once the entry's rows were appended
 module _ (d : tie.After-entry-rows Inv-loop μ-loop) where
@@ -114,25 +115,42 @@ module _ (d : tie.After-entry-rows Inv-loop μ-loop) where
   at = d .before .before .before .before .before
 
   abbrev start : tie.Start Inv-loop μ-loop
-  start = at .before .before .before
+  start = at .before .before
+
+  abbrev o : ℤ
+  o = start .args .jump .instant
+
+  abbrev i : ℕ
+  i = at .loop .i
 
   room : start .args .room * 5 ≤ length (at .loop .t)
   room = omega (arith, held start, same-size (at .loop .inv .3))
 
-  known : let l = at in let g = start .args in let p = pendingOf start in
-      Entered (g .t1) (p .instant) (p .first) (p .count) (g .t3) (few start) (g .state .rows) (l .loop .i) (l .loop .n) (l .loop .t) (l .loop .inv .2) (below (d .before .before .before .before)) (l .loop .inv .3) room (appended d)
+  told : let l = at in let g = start .args in let op = entryOperator (entryAt (g .t1) i) in
+      FilledBy (g .room) (l .loop .n) (addedRows op i o (g .p) (g .codes .now) (g .rows) (l .loop .n) (l .loop .t)) (l .loop .t) (d .entry-rows .result .rows) (d .entry-rows .last .0)
+  told = simp (number (d .before .before .before .before) .1, same32 _ (instant (d .before .before))) at (d .entry-rows .ensures .0)
+
+  next-told : let l = at in NextDue (delayedEnds (rowsIn (l .loop .n) (l .loop .t)) (entryOperator (entryAt (start .args .t1) i))) (o +ℤ pos 1) (toZ w32 (l .loop .next)) (d .entry-rows .result .next)
+  next-told = simp (same32 _ (instant (d .before .before))) at (d .entry-rows .ensures .1)
+
+  known : let l = at in let g = start .args in
+      Entered (g .t1) o (g .p .first) (g .p .count) (g .codes .now) (start .pre .5) (g .rows) i (l .loop .n) (l .loop .t) (l .loop .inv .2) (below (d .before .before .before .before)) (l .loop .inv .3) room told
   known = entered _ _ _ _ _ _ _ _ _ _ _ _ _ _ _
 
+-- the limit, read back
+next : (c : tie.After-struct-told3 Inv-loop μ-loop) → SFits w32 (c .before .before .entry-rows .result .next)
+next c = record { sfits = c .struct-told3 .given .1 .0 .1 }
+
 returns : tie.Need-returns Inv-loop μ-loop
-returns c = let d = c .before .before in simp (whole (at d .before)) at (known d .full (c .if1 .taken))
+returns c = let d = c .before .before .before in (simp (whole (start d)) at (known d .full (c .if1 .taken)), λ h. absurd (omega (arith, c .if1 .taken)))
 
 same-length : tie.Need-same-length Inv-loop μ-loop
-same-length c = let d = c .before .before in d .entry-rows .kept .0 ∙ same-size (at d .loop .inv .3)
+same-length c = let d = c .before .before .before in d .entry-rows .kept .0 ∙ same-size (at d .loop .inv .3)
 
 later-start-first-requires : tie.Need-later-start-first-requires Inv-loop μ-loop
 later-start-first-requires c κs =
     let e = c .before in
-    let d = e .before .before in
+    let d = e .before .before .before in
     let size : length (d .entry-rows .last .0) ≡ length (at d .loop .t) = d .entry-rows .kept .0 in
     (omega (arith, room d), alike-behind (known d .alike (e .if1 .left)) (omega (arith, known d .grows (e .if1 .left))))
 
@@ -140,18 +158,25 @@ loop-again : tie.Need-loop-again Inv-loop μ-loop
 loop-again c =
     let v = c .before in
     let e = v .before .before in
-    let d = e .before .before in
+    let d = e .before .before .before in
+    let l = at d in
+    let g = start d .args in
+    let low = below (d .before .before .before .before) in
     let w = known d .next (e .if1 .left) (v .later-start-first .last .0) (v .later-start-first .ensures) in
-    (omega (arith, below (d .before .before .before .before)), refl, w .1, w .0)
+    let m = known d .more (e .if1 .left) (v .later-start-first .last .0) (v .later-start-first .ensures) in
+    let due = next-more _ _ (o d +ℤ pos 1) (g .jump .mark) (toZ w32 (l .loop .next)) (d .entry-rows .result .next) (l .loop .inv .4) (next-told d) in
+    (omega (arith, low), refl, w .1, w .0, rw (same32 _ (next (e .before)), m .0, ends-more (g .t1) (start d .pre .0) (rowsIn (l .loop .n) (l .loop .t)) _ (i d) low (m .1)) due)
 
 returns-2 : tie.Need-returns-2 Inv-loop μ-loop
 returns-2 c =
     let l = c .before in
-    let e = l .before in
-    let s = e .before .before in
+    let s = l .before .before in
     let g = s .args in
-    let p = pendingOf s in
-    simp (whole e) at (closing-ended (l .loop .inv .3) (left-last (g .t1) (p .instant) (eventsOf p (g .t3)) (l .loop .i) (l .loop .n) (l .loop .t) (omega arith)))
+    let o = g .jump .instant in
+    let z : l .loop .i ≡ g .t1 .count = omega (arith, l .loop .inv .0, l .loop .inv .1, c .loop-test .left) in (
+      simp (whole s) at (closing-ended (l .loop .inv .3) (left-last (g .t1) o (eventsAt o (g .p) (g .codes .now)) (l .loop .i) (l .loop .n) (l .loop .t) (omega arith))),
+      λ h. (grown-settled o (g .rows) (l .loop .n) (l .loop .t) (l .loop .inv .2), subst (λ x. NextDue x (o +ℤ pos 1) (g .jump .mark) (toZ w32 (l .loop .next))) (ap (entryEnds (g .t1) (rowsIn (l .loop .n) (l .loop .t))) z ∙ ends-all (g .t1) (rowsIn (l .loop .n) (l .loop .t))) (l .loop .inv .4)),
+    )
 
 pub all-rows-spec : {M : Type 1} → statement M
 all-rows-spec =
@@ -159,8 +184,6 @@ all-rows-spec =
     (tie.spec
     Inv-loop
     μ-loop
-    (λ c. omega (arith, c .before .pre .0 .counted))
-    (λ c. omega (arith, c .before .pre .0 .most))
     loop-holds
     (λ c. omega (arith, number c .0))
     (λ c. number c .0)

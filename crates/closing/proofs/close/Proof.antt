@@ -3,6 +3,7 @@ use borrow.Author.Needs.{needs}
 use native.Mathlib.Omega.{arith}
 use mathlib.Core.Path.{_≡_, _∙_}
 use lib.ListN.{length}
+use Rattle.interval.proofs.Machine.{same32}
 use Rattle.model.specs.Capacity.{capacity}
 use Rattle.model.proofs.Capacity.{capacity-most, capacity-fits}
 use Rattle.closing.proofs.Entries.{closed-fits, closed-full}
@@ -19,14 +20,14 @@ returns c =
     let r = d .before .before .before in
     let s = r .before in
     let g = s .args in
-    closed-fits (g .chart) (g .state) (g .table .now) (s .pre .ready) (d .all-rows .result) (d .all-rows .last .1 .1 .1 .0) (simp (room r) at (d .all-rows .ensures)) (rw (room r) at (c .if1 .taken))
+    closed-fits (g .chart) (g .state) (g .mark) (g .table .now) (s .pre .ready) (d .due-rows .result) (d .due-rows .last .1 .1 .1 .1 .0) (simp (room r, same32 _ (s .fits .mark)) at (d .due-rows .ensures)) (rw (room r) at (c .if1 .taken))
 
 zero-part-requires : tie.Need-zero-part-requires
 zero-part-requires c κs =
     let d = c .before .before .before .before in
     let r = d .before .before .before in
     let s = r .before in
-    let size : length (d .all-rows .last .1 .1 .1 .0) ≡ length (s .args .table .now) = d .all-rows .kept .1 .1 .1 .0 in
+    let size : length (d .due-rows .last .1 .1 .1 .1 .0) ≡ length (s .args .table .now) = d .due-rows .kept .1 .1 .1 .1 .0 in
     (omega (arith, room r, s .pre .ready .fit), omega (arith, room r, capacity-fits (length (s .args .table .now))))
 
 returns-2 : tie.Need-returns-2
@@ -36,7 +37,7 @@ returns-2 c =
     let r = d .before .before .before in
     let s = r .before in
     let g = s .args in
-    let w = closed-full (g .chart) (g .state) (g .table .now) (s .pre .ready) (d .all-rows .result) (d .all-rows .last .1 .1 .1 .0) (simp (room r) at (d .all-rows .ensures)) (rw (room r) at (y .if1 .left)) in
+    let w = closed-full (g .chart) (g .state) (g .mark) (g .table .now) (s .pre .ready) (d .due-rows .result) (d .due-rows .last .1 .1 .1 .1 .0) (simp (room r, same32 _ (s .fits .mark)) at (d .due-rows .ensures)) (rw (room r) at (y .if1 .left)) in
     (w .0, rw (room r) at (c .before .zero-part .ensures) ∙ w .1)
 
 pub close-spec : {M : Type 1} → statement M

@@ -1,13 +1,18 @@
 -- `entry_rows` meets its contract: each arm appends what the definition has for the operator.
 use Prim.Native.Nat.{ℕ, _<_}
 use borrow.Author.Needs.{needs}
+use native.Mathlib.Omega.{arith}
 use mathlib.Core.Path.{_≡_, sym, _∙_}
-use lib.IntN.{pos, natAbs}
+use mathlib.Core.List.{[]}
+use lib.IntN.{pos, natAbs, _+ℤ_}
 use mir.Syntax.{w32}
 use mir.Val.{SFits}
 use Rattle.interval.proofs.Machine.{same32}
+use Rattle.interval.proofs.Signed.{lt-true, is-le, add-fact}
 use Rattle.chart.specs.declared.operator.Kind.{Kind}
 use Rattle.chart.proofs.Usable.{Lower, fits-lower}
+use Rattle.model.specs.Statements.{NextDue}
+use Rattle.model.proofs.Due.{next-none}
 use Rattle.table.specs.Operators.{entryOperator}
 use Rattle.table.proofs.Operators.{IsOperator, entry-operator}
 use Rattle.closing.specs.Added.{addedRows}
@@ -22,6 +27,17 @@ module _ (c : tie.After-kind-of) (k : Kind) (h : c .kind-of .result ≡ k) where
 
   lower : let v = c .before in Lower k (natAbs (v .args .f .entry)) (v .args .e .a) (v .args .e .b)
   lower = let v = c .before in fits-lower (natAbs (v .args .f .entry)) (v .args .e) k (v .pre .2) (sym (c .kind-of .ensures) ∙ h)
+
+module _ (c : tie.After-kind-of) where
+  -- no end behind the instant
+  none : let g = c .before .args in NextDue [] (g .f .instant +ℤ pos 1) (g .limit) (g .limit)
+  none =
+      let s = c .before in
+      let o = s .args .f .instant in
+      next-none (o +ℤ pos 1) (s .args .limit) (omega (arith, lt-true o (s .args .limit) (s .pre .4), add-fact o (pos 1)))
+
+  limit : SFits w32 (c .before .args .limit)
+  limit = c .before .fits .limit
 
 -- the operands are small numbers, by the operator
 fits : (c : tie.Start) (a : ℕ) → a < natAbs (c .args .f .entry) → SFits w32 (pos a)
@@ -45,37 +61,71 @@ absence-fits c =
 length-fits : (c : tie.After-kind3) → SFits w32 (pos (c .before .before .before .args .e .a))
 length-fits c = fits (c .before .before .before) _ (lower (c .before .before) _ (c .kind3 .given .1))
 
+after-fits : (c : tie.After-enum-told3) → SFits w32 (pos (c .before .before .before .args .e .a))
+after-fits c = fits (c .before .before .before) _ (lower (c .before .before) _ (c .enum-told3 .given .1))
+
+instant : (c : tie.After-struct-told) → SFits w32 (c .before .before .before .before .before .args .f .instant)
+instant c = record { sfits = c .struct-told .given .1 .1 .1 .1 .0 .1 }
+
 -- the rows appended by each
 event-added : tie.Need-returns
 unfolding addedRows
-event-added c = let y = c .before .before .before in simp (operator (y .before .before) _ (y .enum-told .given .1)) (c .before .event-rows .ensures)
+event-added c =
+    let y = c .before .before .before in
+    let k = y .before .before in
+    simp (operator k _ (y .enum-told .given .1), same32 _ (limit k)) (c .before .event-rows .ensures, none k)
 
 or-added : tie.Need-returns-2
 unfolding addedRows
 or-added c =
     let y = c .before .before .before in
     let f = or-fits y in
-    simp (operator (y .before .before) _ (y .enum-told2 .given .1)) (simp (same32, f .0, f .1) at (c .before .or-rows .ensures))
+    let k = y .before .before in
+    simp (operator k _ (y .enum-told2 .given .1), same32 _ (limit k)) (simp (same32, f .0, f .1) at (c .before .or-rows .ensures), none k)
 
 pair-added : tie.Need-returns-3
 unfolding addedRows
 pair-added c =
     let y = c .before .before .before .before in
     let f = pair-fits y in
-    simp (operator (y .before .before) _ (y .kind .given .1)) (simp (same32, f .0, f .1) at (c .before .pair-rows .ensures))
+    let k = y .before .before in
+    simp (operator k _ (y .kind .given .1), same32 _ (limit k)) (simp (same32, f .0, f .1) at (c .before .pair-rows .ensures), none k)
 
 absence-added : tie.Need-returns-4
 unfolding addedRows
 absence-added c =
     let y = c .before .before .before .before in
     let f = absence-fits y in
-    simp (operator (y .before .before) _ (y .kind2 .given .1)) (simp (same32, f .0, f .1) at (c .before .absence-rows .ensures))
+    let k = y .before .before in
+    simp (operator k _ (y .kind2 .given .1), same32 _ (limit k)) (simp (same32, f .0, f .1) at (c .before .absence-rows .ensures), none k)
 
 length-added : tie.Need-returns-5
 unfolding addedRows
 length-added c =
     let y = c .before .before .before .before in
-    simp (operator (y .before .before) _ (y .kind3 .given .1)) (simp (same32, length-fits y) at (c .before .taken-rows .ensures))
+    let k = y .before .before in
+    simp (operator k _ (y .kind3 .given .1), same32 _ (limit k)) (simp (same32, length-fits y) at (c .before .taken-rows .ensures), none k)
+
+-- what the search for the next end of a delay asks and tells
+next-end-requires : tie.Need-next-end-requires
+next-end-requires c κs =
+    let y = c .before .before in
+    let s = y .before .before .before in
+    let p = s .pre in
+    simp (same32 _ (instant c), same32 _ (s .fits .limit), same32 _ (after-fits y)) (p .3, omega (arith, p .0 .held, p .0 .fit, p .0 .inside), p .4, is-le (pos 0) (pos (s .args .e .a)) (omega arith))
+
+delay-added : tie.Need-returns-6
+unfolding addedRows
+delay-added c =
+    let d = c .before in
+    let m = d .before .before in
+    let y = m .before .before .before in
+    let s = y .before .before .before in
+    let f : SFits w32 (m .next-end .result) = record { sfits = m .next-end .ok } in
+    simp (operator (y .before .before) _ (y .enum-told3 .given .1), same32 _ f) (
+      simp (same32, after-fits y) at (d .delayed-rows .ensures),
+      simp (same32 _ (instant (m .before)), same32 _ (s .fits .limit), same32 _ (after-fits y)) at (m .next-end .ensures),
+    )
 
 pub entry-rows-spec : {M : Type 1} → statement M
 entry-rows-spec =
@@ -87,10 +137,13 @@ entry-rows-spec =
     (λ c. search needs) (λ c. pair-fits (c .before .before) .0) (λ c. pair-fits (c .before .before) .1) (λ c κs. search needs)
     (λ c. search needs) (λ c. absence-fits (c .before .before) .0) (λ c. absence-fits (c .before .before) .1) (λ c κs. search needs)
     (λ c. search needs) (λ c. length-fits (c .before .before)) (λ c κs. search needs)
+    (λ c. search needs) (λ c. after-fits (c .before)) next-end-requires
+    (λ c. after-fits (c .before .before .before .before)) (λ c κs. search needs)
     (λ c. search needs)
     (λ c. search needs) event-added
     (λ c. search needs) or-added
     (λ c. search needs) pair-added
     (λ c. search needs) absence-added
     (λ c. search needs) length-added
-    (λ c. absurd (lower (c .before .before) _ (c .enum-told3 .given .1))))
+    (λ c. search needs) delay-added
+    (λ c. absurd (lower (c .before .before) _ (c .enum-told4 .given .1))))

@@ -127,7 +127,7 @@ pair-rows-spec =
     (tie.spec
     Inv-loop
     μ-loop
-    (λ c κs. let s = c .before in (s .pre .few, held s, s .pre .ordered))
+    (λ c κs. let s = c .before in (s .pre .few, held s, λ i j h k. s .pre .ordered i j h (omega (arith, s .pre .few))))
     (λ c κs. (from-least (c .before), held (c .before .before .before)))
     loop-holds
     pairs-with-requires

@@ -14,7 +14,8 @@ returns c =
     let y = p .before .before in
     let s = y .before in
     let f : SFits w32 (s .args .f .entry) = record { sfits = y .struct-told .given .1 .1 .1 .0 .1 } in
-    simp (same32, f, s .fits .instant, toZ-pos w32 (s .args .serial) (omega arith)) at (p .push-row .ensures)
+    let o : SFits w32 (s .args .f .instant) = record { sfits = y .struct-told .given .1 .1 .1 .1 .0 .1 } in
+    simp (same32, f, o, toZ-pos w32 (s .args .serial) (omega arith)) at (p .push-row .ensures)
 
 pub push-event-spec : {M : Type 1} → statement M
 push-event-spec =

@@ -15,7 +15,7 @@ use Rattle.closing.proofs.taken_rows.Tie as tie
 
 abbrev Inv-loop : tie.InvT-loop
 Inv-loop t₀ n f a taken second end room count₀ i₀ t count i =
-    let rows = takenRow (armOf second) (natAbs (f .entry)) (toZ w32 a) taken t₀ in
+    let rows = takenRow (armOf second) (natAbs (f .entry)) (f .instant) (toZ w32 a) taken t₀ in
     Filling (f .room) n (each rows (span (f .first) (f .end))) t₀ count (each rows (span i (f .end))) t
 
 abbrev μ-loop : tie.MeasureT-loop
@@ -39,7 +39,7 @@ returns c =
     let l = d .before .before .before in
     let s = l .before in
     let g = s .args in
-    simp (same32, s .fits .a) at (stop _ (l .loop .i) (g .f .end) (l .loop .inv) (omega arith) (taken-same (g .n) (l .loop .t) (g .t .now) (l .loop .inv .kept) _ _ _ _ (l .loop .i) (omega (arith, s .pre .inside))) (d .push-taken .ensures) (c .if1 .taken))
+    simp (same32, s .fits .a) at (stop _ (l .loop .i) (g .f .end) (l .loop .inv) (omega arith) (taken-same (g .n) (l .loop .t) (g .t .now) (l .loop .inv .kept) _ _ _ _ _ (l .loop .i) (omega (arith, s .pre .inside))) (d .push-taken .ensures) (c .if1 .taken))
 
 loop-again : tie.Need-loop-again Inv-loop μ-loop
 loop-again c =
@@ -47,7 +47,7 @@ loop-again c =
     let l = d .before .before .before in
     let s = l .before in
     let g = s .args in
-    turn _ (l .loop .i) (g .f .end) (l .loop .inv) (omega arith) (taken-same (g .n) (l .loop .t) (g .t .now) (l .loop .inv .kept) _ _ _ _ (l .loop .i) (omega (arith, s .pre .inside))) (d .push-taken .ensures) (c .if1 .left)
+    turn _ (l .loop .i) (g .f .end) (l .loop .inv) (omega arith) (taken-same (g .n) (l .loop .t) (g .t .now) (l .loop .inv .kept) _ _ _ _ _ (l .loop .i) (omega (arith, s .pre .inside))) (d .push-taken .ensures) (c .if1 .left)
 
 returns-2 : tie.Need-returns-2 Inv-loop μ-loop
 unfolding takenRows

@@ -19,4 +19,4 @@ is-single-row-spec =
     (λ c. let e = c .before .before in let d = e .before .before in simp (passed (d .before .meets-condition .ensures) (d .if1 .left), passed (e .before .has-no-right .ensures) (e .if2 .left), ← c .before .part-at .ensures, le-ltb _ _ (c .if3 .taken)))
     (λ c κs. search needs)
     (λ c κs. search needs)
-    (λ c. let f = c .before .before in let e = f .before .before in let d = e .before .before in simp (passed (d .before .meets-condition .ensures) (d .if1 .left), passed (e .before .has-no-right .ensures) (e .if2 .left), ← f .before .part-at .ensures, lt-ltb _ _ (f .if3 .left), c .spans-parts .ensures, c .before .row-at .ensures)))
+    (λ c. let f = c .before .before in let e = f .before .before in let d = e .before .before in simp (passed (d .before .meets-condition .ensures) (d .if1 .left), passed (e .before .has-no-right .ensures) (e .if2 .left), ← f .before .part-at .ensures, lt-ltb _ _ (f .if3 .left), c .spans-part .ensures, c .before .row-at .ensures)))

@@ -38,7 +38,9 @@ meets-condition-spec =
     (λ c. search needs)
     (λ c. search needs)
     (λ c. search needs)
+    (λ c. search needs)
     returns-3
     (λ c. search needs)
     returns-5
+    (λ c. search needs)
     (λ c. search needs))

@@ -3,9 +3,9 @@ use Prim.Native.Nat.{_+_, _-_, _/_}
 use mathlib.Core.Path.{_≡_, sym, _∙_}
 use native.Mathlib.Omega.{arith}
 use borrow.Author.Needs.{needs}
-use mir.Syntax.{w32}
+use mir.Syntax.{w32, w64}
 use mir.Val.{SFits, toZ, ofZ}
-use Rattle.interval.proofs.Machine.{same32}
+use Rattle.interval.proofs.Machine.{same32, same64}
 use Rattle.table.specs.Table.{cell}
 use Rattle.table.specs.Ends.{endsBefore}
 use Rattle.table.proofs.Ends.{Searched, search-holds, search-up, search-down, search-ends}
@@ -13,13 +13,13 @@ use Rattle.table.proofs.count_ending.Statement.{statement}
 use Rattle.table.proofs.count_ending.Tie as tie
 
 abbrev Inv-loop : tie.InvT-loop
-Inv-loop table rows e included low₀ high₀ low high = Searched included rows (toZ w32 e) table low high
+Inv-loop table rows e included low₀ high₀ low high = Searched included rows (toZ w64 e) table low high
 
 abbrev μ-loop : tie.MeasureT-loop
 μ-loop table rows e included low₀ high₀ low high = high - low
 
 -- the test of the middle row
-tested : (c : tie.After-ends-before Inv-loop μ-loop) → let l = c .before .before .before in let g = l .before .args in c .ends-before .result ≡ endsBefore (g .included) (toZ w32 (ofZ w32 (g .e))) (cell (g .table .now) (l .loop .low + (l .loop .high - l .loop .low) / 2) 4)
+tested : (c : tie.After-ends-before Inv-loop μ-loop) → let l = c .before .before .before in let g = l .before .args in c .ends-before .result ≡ endsBefore (g .included) (toZ w64 (ofZ w64 (g .e))) (cell (g .table .now) (l .loop .low + (l .loop .high - l .loop .low) / 2) 4)
 tested c =
     let l = c .before .before .before in
     let g = l .before .args in
@@ -42,7 +42,7 @@ loop-again-2 c =
 returns : tie.Need-returns Inv-loop μ-loop
 returns c =
     let l = c .before in
-    let s = simp (same32, l .before .fits .e) at (l .loop .inv) in
+    let s = simp (same64, l .before .fits .e) at (l .loop .inv) in
     search-ends _ _ _ _ _ _ s (c .loop-test .left)
 
 pub count-ending-spec : {M : Type 1} → statement M

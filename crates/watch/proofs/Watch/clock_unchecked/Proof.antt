@@ -7,10 +7,12 @@ use mathlib.Core.Bool.{false}
 use mir.Syntax.{w32}
 use mir.Val.{SFits}
 use Rattle.interval.specs.Instants.{isMarkRefused}
+use Rattle.interval.proofs.Signed.{is-lt}
+use Rattle.interval.proofs.Laws.{mark-taken}
 use Rattle.interval.proofs.Machine.{same32}
 use Rattle.state.specs.State.{marked}
 use Rattle.table.specs.Table.{roomIn}
-use Rattle.closing.specs.Closed.{closedNumber}
+use Rattle.closing.specs.Closed.{closedNumber, closedTable}
 use Rattle.watch.specs.Steps.{answered}
 use Rattle.watch.proofs.Calls.{told, clock-8, clock-12, clock-taken, parts}
 use Rattle.watch.proofs.Watch.clock_unchecked.Statement.{statement}
@@ -30,7 +32,13 @@ close-requires : tie.Need-close-requires
 close-requires c κs =
     let s = c .before .before .before .before .before .before in
     let j = told (s .args .chart) (s .args .self .state) (s .args .table .now) (s .pre) in
-    record { ready = j .ready; ended = j .ended; few = j .few; counted = j .counted; most = j .most }
+    let later = is-lt (s .args .self .state .instant) (s .args .instant) (mark-taken _ _ (in-time (c .before .before)) .later) in
+    record { ready = j .ready; ended = j .ended; few = j .few; counted = j .counted; most = j .most; later = simp (same32 _ (s .fits .instant)) later }
+
+-- how many rows there are after closing, and the table
+closed : (c : tie.After-close) → let g = c .before .before .before .before .before .before .before .args in
+    (c .close .result ≡ closedNumber (g .chart) (g .self .state) (g .instant) (g .table .now)) × (c .close .last .1 .1 .1 .0 ≡ closedTable (g .chart) (g .self .state) (g .instant) (g .table .now))
+closed c = simp (same32 _ (c .before .before .before .before .before .before .before .fits .instant)) at (c .close .ensures)
 
 returns : tie.Need-returns
 returns c = let g = c .before .before .before .before .args in parts (clock-8 (g .chart) (g .self .state) (g .table .now) (g .instant) (early (c .before) ∙ c .if1 .taken))
@@ -40,10 +48,10 @@ full c =
     let k = c .before .before in
     let r = k .before .before in
     let g = r .before .before .before .before .before .args in
-    let h : roomIn (g .table .now) < closedNumber (g .chart) (g .self .state) (g .table .now) = omega (arith, c .if2 .taken, r .rows-that-fit .ensures, k .close .ensures .0) in
+    let h : roomIn (g .table .now) < closedNumber (g .chart) (g .self .state) (g .instant) (g .table .now) = omega (arith, c .if2 .taken, r .rows-that-fit .ensures, closed k .0) in
     let q = clock-12 (g .chart) (g .self .state) (g .table .now) (g .instant) (in-time (r .before)) h in
     let p = parts (q .0) in
-    (p .0, k .close .ensures .1 ∙ q .1 ∙ p .1)
+    (p .0, closed k .1 ∙ q .1 ∙ p .1)
 
 returns-3 : tie.Need-returns-3
 returns-3 c =
@@ -52,9 +60,9 @@ returns-3 c =
     let r = k .before .before in
     let s = r .before .before .before .before .before in
     let g = s .args in
-    let h : closedNumber (g .chart) (g .self .state) (g .table .now) ≤ roomIn (g .table .now) = omega (arith, m .before .if2 .left, r .rows-that-fit .ensures, k .close .ensures .0) in
+    let h : closedNumber (g .chart) (g .self .state) (g .instant) (g .table .now) ≤ roomIn (g .table .now) = omega (arith, m .before .if2 .left, r .rows-that-fit .ensures, closed k .0) in
     let p = parts (clock-taken (g .chart) (g .self .state) (g .table .now) (g .instant) (in-time (r .before)) h) in
-    (c .taken .ensures ∙ ap (answered 0) (m .marked .ensures ∙ ap₂ (λ a n. marked (g .self .state) a n) (same32 _ (s .fits .instant)) (k .close .ensures .0)) ∙ p .0, k .close .ensures .1 ∙ p .1)
+    (c .taken .ensures ∙ ap (answered 0) (m .marked .ensures ∙ ap₂ (λ a n. marked (g .self .state) a n) (same32 _ (s .fits .instant)) (closed k .0)) ∙ p .0, closed k .1 ∙ p .1)
 
 pub clock-unchecked-spec : {M : Type 1} → statement M
 clock-unchecked-spec =

@@ -1,0 +1,120 @@
+-- The next due end of one delay: that of the first row of its operand whose wait has not ended; and the ends that the delays of several entries make.
+use Prim.Native.Nat.{ℕ, _+_, _≤_, _<_}
+use native.Mathlib.Omega.{arith}
+use mathlib.Core.Path.{_≡_, refl, sym, ap, _∙_, subst}
+use mathlib.Core.Bool.{Bool, true, false}
+use mathlib.Core.List.{List, [], _∷_, _++_, map, List·Memᴰ, Memᴰ·of-map, Memᴰ·map}
+use borrow.Author.Tests.{leb-true, leb-false}
+use lib.Dec.{T, eqb, leb}
+use lib.IntN.{ℤ, pos, natAbs, _+ℤ_, _-ℤ_}
+use lib.Signed.{leZ, ltZ}
+use Rattle.interval.specs.Instants.{eqZ, least}
+use Rattle.interval.proofs.Signed.{_≤ᶻ_, _<ᶻ_, never, eq-fact, holds→, →holds, le-true, le-false, ltZ→, →leZ, leZ→, least-is, least-most, add-fact, sub-fact}
+use Rattle.interval.proofs.Machine.{pos-of}
+use Rattle.chart.specs.Charts.{entryAt, isUsable}
+use Rattle.chart.specs.declared.Chart.{Chart}
+use Rattle.model.specs.Lists.{keep, each, numbers}
+use Rattle.model.specs.Recognitions.{after}
+use Rattle.model.specs.Order.{Row}
+use Rattle.model.specs.RowSteps.{delayedEnds, dueEnds}
+use Rattle.model.specs.Statements.{NextDue}
+use Rattle.model.proofs.Sorted.{keep-mem, mem-keep}
+use Rattle.model.proofs.Due.{due-delayed, delayed-kept}
+use Rattle.table.specs.Table.{cell, rowsIn}
+use Rattle.table.specs.Ends.{countEnding}
+use Rattle.table.specs.Operators.{operatorsOf, entryOperator}
+use Rattle.table.proofs.Operators.{operators-all}
+use Rattle.table.proofs.Lower.{lower-entry}
+use Rattle.table.proofs.Rows.{rows-mem, mem-rows}
+use Rattle.table.proofs.Ends.{counted-passes, counted-fails}
+use Rattle.table.proofs.EndParts.{ends-few}
+use Rattle.closing.specs.Added.{Settled, nextRow}
+use Rattle.closing.proofs.Spans.{each-same, each-last}
+use Rattle.closing.proofs.Searches.{next-least, next-none, next-is}
+use Rattle.closing.proofs.Derived.{eq-entry}
+
+module _ (last limit a : ℤ) (d n : ℕ) (t : List ℤ) (s : Settled (last +ℤ pos 1) n t) (h : last <ᶻ limit) (above : leZ (pos 0) a ≡ true) where
+  -- the first row whose wait ends behind `last`, and the first of a from there on
+  abbrev first : ℕ
+  first = countEnding true n (last -ℤ pos d) t
+
+  abbrev i : ℕ
+  i = nextRow a first n t
+
+  abbrev ends : List ℤ
+  ends = delayedEnds (rowsIn n t) (after (natAbs a) d)
+
+  -- the end of the wait that row j began
+  abbrev due : ℕ → ℤ
+  due j = cell t j 4 +ℤ pos d
+
+  is-of : (j : ℕ) → j < n → eqb (natAbs (cell t j 0)) (natAbs a) ≡ eqZ (cell t j 0) a
+  is-of j l = eq-entry (cell t j 0) (natAbs a) (s .above j l) ∙ ap (eqZ (cell t j 0)) (pos-of a above)
+
+  row-due : (x : ℤ) → List·Memᴰ x ends → (j : ℕ) × (j < n) × (eqZ (cell t j 0) a ≡ true) × (due j ≡ x)
+  row-due x m =
+      let p = Memᴰ·of-map (λ r. r .end +ℤ pos d) (keep (λ r. eqb (r .entry) (natAbs a)) (rowsIn n t)) m in
+      let k = keep-mem (λ r. eqb (r .entry) (natAbs a)) (rowsIn n t) (p .1) in
+      let q = rows-mem n t (p .0) (k .0) in
+      (q .0, q .1, sym (is-of (q .0) (q .1)) ∙ holds→ _ (subst (λ r. T (eqb (r .entry) (natAbs a))) (q .2) (k .1)), ap (λ r. r .end +ℤ pos d) (sym (q .2)) ∙ p .2)
+
+  due-row : (j : ℕ) → j < n → eqZ (cell t j 0) a ≡ true → List·Memᴰ (due j) ends
+  due-row j l e = Memᴰ·map (λ r. r .end +ℤ pos d) (mem-keep (λ r. eqb (r .entry) (natAbs a)) (rowsIn n t) (mem-rows n t j l) (→holds _ (is-of j l ∙ e)))
+
+  -- a row of a whose wait ends behind `last` is no earlier than row i
+  none-earlier : (j : ℕ) → j < n → eqZ (cell t j 0) a ≡ true → (last +ℤ pos 1) ≤ᶻ due j → i ≤ j
+  none-earlier j l e w = go (leb first j) refl (leb i j) refl
+    where
+      go : (x : Bool) → leb first j ≡ x → (y : Bool) → leb i j ≡ y → i ≤ j
+      go x p true q = leb-true i j q
+      go true p false q = never (sym (next-none a t first n j (leb-true first j p) (leb-false i j q)) ∙ e)
+      go false p false q = absurd (omega (arith, le-true (cell t j 4) (last -ℤ pos d) (counted-passes true n (last -ℤ pos d) t (s .ordered) j (leb-false first j p)), add-fact (cell t j 4) (pos d), sub-fact last (pos d), add-fact last (pos 1)))
+
+  few : first ≤ n
+  few = ends-few (last -ℤ pos d) n t
+
+  -- there is such a row
+  pub some-due : i < n → NextDue ends (last +ℤ pos 1) limit (least (due i) limit)
+  some-due l =
+      let w = least-is (due i) limit in
+      let behind : last <ᶻ due i = omega (arith, le-false (cell t i 4) (last -ℤ pos d) (counted-fails true n (last -ℤ pos d) t (s .ordered) i (next-least a t first n) l), add-fact (cell t i 4) (pos d), sub-fact last (pos d)) in
+      record {
+        from = →leZ (last +ℤ pos 1) (least (due i) limit) (least-most (λ z. (last +ℤ pos 1) ≤ᶻ z) (due i) limit (omega (arith, add-fact last (pos 1))) (omega (arith, add-fact last (pos 1))));
+        most = →leZ (least (due i) limit) limit (omega (arith, w));
+        none = λ x m e.
+            let p = row-due x m in
+            let k : i ≤ p .0 = none-earlier (p .0) (p .1) (p .2) (omega (arith, leZ→ (last +ℤ pos 1) x e, eq-fact (p .3))) in
+            →leZ (least (due i) limit) x (omega (arith, w, eq-fact (p .3), le-true (cell t i 4) (cell t (p .0) 4) (s .ordered i (p .0) k (p .1)), add-fact (cell t i 4) (pos d), add-fact (cell t (p .0) 4) (pos d)));
+        due = λ e. least-most (λ z. z <ᶻ limit → List·Memᴰ z ends) (due i) limit (λ z. due-row i l (next-is a t first n few l)) (λ z. absurd (omega arith)) (ltZ→ (least (due i) limit) limit e);
+      }
+
+  -- there is none
+  pub none-due : n ≤ i → NextDue ends (last +ℤ pos 1) limit limit
+  none-due l = record {
+    from = →leZ (last +ℤ pos 1) limit (omega (arith, add-fact last (pos 1)));
+    most = →leZ limit limit (omega arith);
+    none = λ x m e.
+        let p = row-due x m in
+        let k : i ≤ p .0 = none-earlier (p .0) (p .1) (p .2) (omega (arith, leZ→ (last +ℤ pos 1) x e, eq-fact (p .3))) in
+        absurd (omega (arith, p .1));
+    due = λ e. absurd (let z : limit <ᶻ limit = ltZ→ limit limit e in omega arith);
+  }
+
+-- the ends that the first k entries make
+abbrev pub entryEnds : Chart → List Row → ℕ → List ℤ
+entryEnds chart rs k = each (λ j. delayedEnds rs (entryOperator (entryAt chart j))) (numbers 0 k)
+
+each-map : {A B C : Type 0} (f : B → List C) (g : A → B) (xs : List A) → each f (map g xs) ≡ each (λ x. f (g x)) xs
+each-map f g [] = refl
+each-map f g (x ∷ xs) = ap (λ l. f (g x) ++ l) (each-map f g xs)
+
+pub ends-all : (chart : Chart) (rs : List Row) → entryEnds chart rs (chart .count) ≡ dueEnds [] (operatorsOf chart) rs
+ends-all chart rs = sym (due-delayed (operatorsOf chart) rs ∙ ap (each (delayedEnds rs)) (operators-all chart) ∙ each-map (delayedEnds rs) (λ n. entryOperator (entryAt chart n)) (numbers 0 (chart .count)))
+
+-- one entry more, whose rows were then appended: they change nothing of this
+module _ (chart : Chart) (usable : isUsable chart ≡ true) (rs news : List Row) (i : ℕ) (h : i < chart .count) (of : (r : Row) → List·Memᴰ r news → r .entry ≡ i) where
+  kept : (j : ℕ) → j ≤ i → delayedEnds (rs ++ news) (entryOperator (entryAt chart j)) ≡ delayedEnds rs (entryOperator (entryAt chart j))
+  kept j l = delayed-kept rs news i j (entryOperator (entryAt chart j)) (lower-entry chart usable j (omega arith)) l of
+
+  pub ends-more : entryEnds chart (rs ++ news) (i + 1) ≡ entryEnds chart rs i ++ delayedEnds rs (entryOperator (entryAt chart i))
+  ends-more = each-same (λ j. delayedEnds (rs ++ news) (entryOperator (entryAt chart j))) (λ j. delayedEnds rs (entryOperator (entryAt chart j))) 0 (i + 1) (λ j p q. kept j (omega arith)) ∙ each-last (λ j. delayedEnds rs (entryOperator (entryAt chart j))) i

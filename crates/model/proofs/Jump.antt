@@ -1,0 +1,196 @@
+-- Closing an instant at which nothing is due changes nothing; closing only the due ones closes all.
+use Prim.Native.Nat.{ℕ, zero, suc, _+_, _<_, _≤_}
+use native.Mathlib.Omega.{arith}
+use mathlib.Core.Path.{_≡_, refl, sym, ap, _∙_, subst}
+use mathlib.Core.Logic.{_⊎_, inl, inr}
+use mathlib.Core.Bool.{Bool, true, false, cond, not}
+use mathlib.Core.List.{List, [], _∷_, _++_, map, append-nil, List·Memᴰ, List·Memᴰ·head, List·Memᴰ·tail, List·Memᴰ·not-nil, List·Memᴰ·cases-cons, List·Memᴰ·append-cases, Memᴰ·append-left, Memᴰ·append-right, Memᴰ·cast, Memᴰ·map, Memᴰ·of-map}
+use lib.Dec.{T, eqb, eqb-refl}
+use lib.IntN.{ℤ, pos, _+ℤ_}
+use lib.ListN.{length}
+use lib.Signed.{ltZ, leZ}
+use Rattle.interval.specs.Instants.{least}
+use Rattle.interval.proofs.Signed.{_≤ᶻ_, _<ᶻ_, eq-fact, eqZ→, ltZ→, leZ→, →leZ, nleZ→, lt-false, lt-true, least-is, least-most, greatest-most, add-fact, add-none, add-one-more}
+use Rattle.model.specs.Lists.{keep, each, numbers, sortStably}
+use Rattle.model.specs.Recognitions.{Event, Operator, event, related, or, absence, lasting, after}
+use Rattle.model.specs.Order.{Row, row}
+use Rattle.model.specs.RowSteps.{Node, leaf, part, pair, leaves, make, nodeEnd, Rule, rules, rowAt, places, nodeRow, startsLater, derivedRows, extendRows, endsAt, closeRows, closeInstants, instantsTo, delayedEnds, dueEnds, firstFrom, nextDue, closeDue}
+use Rattle.model.specs.Statements.{NextDue}
+use Rattle.model.proofs.Sorted.{keep-mem, mem-keep, mem-each, stably-mem}
+use Rattle.model.proofs.Made.{Made, make-made}
+use Rattle.model.proofs.Place.{keep-none, getD-mem}
+use Rattle.model.proofs.Rows.{numbers-mem}
+use Rattle.model.proofs.Windows.{leaves-mem}
+use Rattle.model.proofs.History.{instants-to}
+
+-- no row ends at o
+abbrev NoneAt : ℤ → List Row → Type 0
+NoneAt o rs = (r : Row) → List·Memᴰ r rs → r .end ≡ o → ⊥
+
+abbrev pub EndBefore : ℤ → List Row → Type 0
+EndBefore o rs = (r : Row) → List·Memᴰ r rs → r .end <ᶻ o
+
+node-end : (rs : List Row) (n : ℕ) (x : Node ℕ) → (nodeRow rs n x) .end ≡ nodeEnd (places rs) x
+node-end rs n (leaf s i) = refl
+node-end rs n (part m i) = refl
+node-end rs n (pair i j) = refl
+
+module _ (o : ℤ) (es : List Event) (rs : List Row) (none : NoneAt o rs) (still : (e : Event) → List·Memᴰ e es → e .instant ≡ o → ⊥) where
+  abbrev nums : List ℕ
+  nums = numbers 0 (length rs)
+
+  row-there : (i : ℕ) → List·Memᴰ i nums → List·Memᴰ (rowAt rs i) rs
+  row-there i m = getD-mem (row 0 (pos 0) (pos 0) (pos 0) (pos 0)) rs i (let l : i < 0 + length rs = numbers-mem 0 (length rs) i m in omega arith)
+
+  abbrev Off : Node ℕ → Type 0
+  Off x = nodeEnd (places rs) x ≡ o → ⊥
+
+  -- an operator makes nothing that ends at o
+  off : (op : Operator) → (List·Memᴰ o (delayedEnds rs op) → ⊥) → (x : Node ℕ) → Made (places rs) op es nums x → Off x
+  off (event k) d x m = let q = leaves-mem k es x m in subst Off (sym (q .is)) (still (q .e) (q .there))
+  off (related c a b) d x m = subst Off (sym (m .is)) (greatest-most (λ z. z ≡ o → ⊥) ((rowAt rs (m .l)) .end) ((rowAt rs (m .r)) .end) (none (rowAt rs (m .l)) (row-there (m .l) (m .hasl .there))) (none (rowAt rs (m .r)) (row-there (m .r) (m .hasr .there))))
+  off (or a b) d x (inl m) = subst Off (sym (m .is)) (none (rowAt rs (m .r)) (row-there (m .r) (m .hasr .there)))
+  off (or a b) d x (inr m) = subst Off (sym (m .is)) (none (rowAt rs (m .r)) (row-there (m .r) (m .hasr .there)))
+  off (absence c a b) d x m = subst Off (sym (m .is)) (none (rowAt rs (m .r)) (row-there (m .r) (m .hasr .there)))
+  off (lasting c a k) d x m = subst Off (sym (m .is)) (none (rowAt rs (m .r)) (row-there (m .r) (m .hasr .there)))
+  off (after a k) d x m = subst Off (sym (m .is)) (λ e. d (Memᴰ·cast (sym e) (Memᴰ·map (λ r. r .end +ℤ pos k) (mem-keep (λ r. eqb (r .entry) a) rs (row-there (m .r) (m .hasr .there)) (subst (λ z. T (eqb ((rowAt rs (m .r)) .entry) z)) (m .hasr .entry) (eqb-refl ((rowAt rs (m .r)) .entry)))))))
+
+  nothing : (n : ℕ) (op : Operator) → (List·Memᴰ o (delayedEnds rs op) → ⊥) → derivedRows (record { entry = n; operator = op; test = endsAt o }) es rs ≡ []
+  nothing n op d = ap (sortStably startsLater) (keep-none (λ r. endsAt o (r .start) (r .end)) (map (nodeRow rs n) (make (places rs) op es nums)) (λ r m t.
+      let p = Memᴰ·of-map (nodeRow rs n) (make (places rs) op es nums) m in
+      off op d (p .0) (make-made (places rs) op es nums (p .0) (p .1)) (sym (node-end rs n (p .0)) ∙ ap (λ z. z .end) (p .2) ∙ eqZ→ (r .end) o t)))
+
+  idle-from : (ops : List Operator) (n : ℕ) → ((op : Operator) → List·Memᴰ op ops → List·Memᴰ o (delayedEnds rs op) → ⊥) → extendRows es (rules (endsAt o) n ops) rs ≡ rs
+  unfolding extendRows
+  idle-from [] n d = refl
+  idle-from (op ∷ ops) n d = ap (λ z. extendRows es (rules (endsAt o) (suc n) ops) (rs ++ z)) (nothing n op (d op (List·Memᴰ·head refl))) ∙ ap (extendRows es (rules (endsAt o) (suc n) ops)) (append-nil rs) ∙ idle-from ops (suc n) (λ p m. d p (List·Memᴰ·tail m))
+
+pub idle : (chart : List Operator) (es : List Event) (rs : List Row) (o : ℤ) → (List·Memᴰ o (dueEnds es chart rs) → ⊥) → NoneAt o rs → closeRows o es chart rs ≡ rs
+unfolding closeRows dueEnds
+idle chart es rs o due none = idle-from o es rs none (λ e m i. due (Memᴰ·append-left (each (delayedEnds rs) chart) (Memᴰ·cast (sym i) (Memᴰ·map (λ e. e .instant) m)))) chart 0 (λ op m d. due (Memᴰ·append-right (map (λ e. e .instant) es) (mem-each (delayedEnds rs) chart m d)))
+
+-- events at other instants do not count
+module _ (o : ℤ) (es : List Event) (still : (e : Event) → List·Memᴰ e es → e .instant ≡ o → ⊥) where
+  no-event : (n : ℕ) (op : Operator) (rs : List Row) → derivedRows (record { entry = n; operator = op; test = endsAt o }) es rs ≡ derivedRows (record { entry = n; operator = op; test = endsAt o }) [] rs
+  no-event n (event k) rs = ap (sortStably startsLater) (keep-none (λ r. endsAt o (r .start) (r .end)) (map (nodeRow rs n) (leaves k es)) (λ r m t.
+      let p = Memᴰ·of-map (nodeRow rs n) (leaves k es) m in
+      let q = leaves-mem k es (p .0) (p .1) in
+      still (q .e) (q .there) (sym (ap (λ z. (nodeRow rs n z) .end) (q .is)) ∙ ap (λ z. z .end) (p .2) ∙ eqZ→ (r .end) o t)))
+  no-event n (related c a b) rs = refl
+  no-event n (or a b) rs = refl
+  no-event n (absence c a b) rs = refl
+  no-event n (lasting c a d) rs = refl
+  no-event n (after a d) rs = refl
+
+  no-events : (ops : List Operator) (n : ℕ) (rs : List Row) → extendRows es (rules (endsAt o) n ops) rs ≡ extendRows [] (rules (endsAt o) n ops) rs
+  unfolding extendRows
+  no-events [] n rs = refl
+  no-events (op ∷ ops) n rs = ap (λ z. extendRows es (rules (endsAt o) (suc n) ops) (rs ++ z)) (no-event n op rs) ∙ no-events ops (suc n) (rs ++ derivedRows (record { entry = n; operator = op; test = endsAt o }) [] rs)
+
+pub close-without : (chart : List Operator) (es : List Event) (rs : List Row) (o : ℤ) → ((e : Event) → List·Memᴰ e es → e .instant ≡ o → ⊥) → closeRows o es chart rs ≡ closeRows o [] chart rs
+unfolding closeRows
+close-without chart es rs o still = no-events o es still chart 0 rs
+
+-- what is closed at o ends at o
+close-ends : (o : ℤ) (es : List Event) (ops : List Operator) (n : ℕ) (rs : List Row) (r : Row) → List·Memᴰ r (extendRows es (rules (endsAt o) n ops) rs) → List·Memᴰ r rs ⊎ (r .end ≡ o)
+unfolding extendRows
+close-ends o es [] n rs r m = inl m
+close-ends o es (op ∷ ops) n rs r m = elim (close-ends o es ops (suc n) (rs ++ derivedRows j es rs) r m) as (λ z. List·Memᴰ r rs ⊎ (r .end ≡ o)) [ inl k ↦ first (List·Memᴰ·append-cases rs k) | inr k ↦ inr k ]
+  where
+    j : Rule
+    j = record { entry = n; operator = op; test = endsAt o }
+
+    first : List·Memᴰ r rs ⊎ List·Memᴰ r (derivedRows j es rs) → List·Memᴰ r rs ⊎ (r .end ≡ o)
+    first (inl k) = inl k
+    first (inr k) = inr (eqZ→ (r .end) o (keep-mem (λ r. endsAt o (r .start) (r .end)) (map (nodeRow rs n) (make (places rs) op es (numbers 0 (length rs)))) (stably-mem startsLater (keep (λ r. endsAt o (r .start) (r .end)) (map (nodeRow rs n) (make (places rs) op es (numbers 0 (length rs))))) k) .1))
+
+pub closed-ends : (chart : List Operator) (es : List Event) (rs : List Row) (o : ℤ) → EndBefore o rs → EndBefore (o +ℤ pos 1) (closeRows o es chart rs)
+unfolding closeRows
+closed-ends chart es rs o h r m = elim (close-ends o es chart 0 rs r m) as (λ z. r .end <ᶻ (o +ℤ pos 1)) [ inl k ↦ omega (arith, h r k, add-fact o (pos 1)) | inr k ↦ omega (arith, eq-fact k, add-fact o (pos 1)) ]
+
+-- the first instant of a list
+module _ (o t : ℤ) (ot : o ≤ᶻ t) where
+  record First (ds : List ℤ) (e : ℤ) : Type 0 where
+    from : o ≤ᶻ e
+    most : e ≤ᶻ t
+    none : (d : ℤ) → List·Memᴰ d ds → o ≤ᶻ d → e ≤ᶻ d
+    due : (e ≡ t) ⊎ List·Memᴰ e ds
+
+  first-from : (ds : List ℤ) → First ds (firstFrom o t ds)
+  first-from [] = record { from = ot; most = omega arith; none = λ d m. absurd (List·Memᴰ·not-nil m); due = inl refl }
+  first-from (d ∷ ds) = go (leZ o d) (λ h. leZ→ o d h) (λ h. nleZ→ o d h) (first-from ds)
+    where
+      go : (b : Bool) → (T b → o ≤ᶻ d) → (T (not b) → d <ᶻ o) → First ds (firstFrom o t ds) → First (d ∷ ds) (cond b (least d (firstFrom o t ds)) (firstFrom o t ds))
+      go true y n ih =
+          let i = ih .from in
+          let m = ih .most in
+          let l = least-is d (firstFrom o t ds) in
+          record {
+            from = least-most (λ z. o ≤ᶻ z) d (firstFrom o t ds) (y tt) i;
+            most = omega arith;
+            none = λ x k h. elim (List·Memᴰ·cases-cons k) as (λ z. least d (firstFrom o t ds) ≤ᶻ x) [ inl q ↦ omega (arith, eq-fact q) | inr q ↦ omega (arith, ih .none x q h) ];
+            due = least-most (λ z. (z ≡ t) ⊎ List·Memᴰ z (d ∷ ds)) d (firstFrom o t ds) (inr (List·Memᴰ·head refl)) (elim (ih .due) as (λ z. (firstFrom o t ds ≡ t) ⊎ List·Memᴰ (firstFrom o t ds) (d ∷ ds)) [ inl q ↦ inl q | inr q ↦ inr (List·Memᴰ·tail q) ]);
+          }
+      go false y n ih = record {
+        from = ih .from;
+        most = ih .most;
+        none = λ x k h. elim (List·Memᴰ·cases-cons k) as (λ z. firstFrom o t ds ≤ᶻ x) [ inl q ↦ absurd (omega (arith, eq-fact q, n tt)) | inr q ↦ ih .none x q h ];
+        due = elim (ih .due) as (λ z. (firstFrom o t ds ≡ t) ⊎ List·Memᴰ (firstFrom o t ds) (d ∷ ds)) [ inl q ↦ inl q | inr q ↦ inr (List·Memᴰ·tail q) ];
+      }
+
+module _ (chart : List Operator) (es : List Event) where
+  pub next-due : (rs : List Row) (o t : ℤ) → o ≤ᶻ t → NextDue (dueEnds es chart rs) o t (nextDue o t es chart rs)
+  unfolding nextDue
+  next-due rs o t ot =
+      let ds : List ℤ = dueEnds es chart rs in
+      let e : ℤ = firstFrom o t ds in
+      let f : First o t ot ds e = first-from o t ot ds in
+      record {
+        from = →leZ o e (f .from);
+        most = →leZ e t (f .most);
+        none = λ d m h. →leZ e d (f .none d m (leZ→ o d h));
+        due = λ l. elim (f .due) [ inl q ↦ absurd (omega (arith, eq-fact q, ltZ→ e t l)) | inr q ↦ q ];
+      }
+
+  -- of a instants the first k, at which nothing is due, before m others
+  pub skip : (rs : List Row) (k m a : ℕ) (o : ℤ) → a ≡ k + m → EndBefore o rs → ((d : ℤ) → List·Memᴰ d (dueEnds es chart rs) → o ≤ᶻ d → d <ᶻ (o +ℤ pos k) → ⊥) → closeInstants a o es chart rs ≡ closeInstants m (o +ℤ pos k) es chart rs
+  unfolding closeInstants
+  skip rs zero m a o size h none = ap (λ z. closeInstants z o es chart rs) (let s : a ≡ m = omega arith in s) ∙ ap (λ z. closeInstants m z es chart rs) (sym (add-none o))
+  skip rs (suc k) m zero o size h none = absurd (omega arith)
+  skip rs (suc k) m (suc a) o size h none =
+      ap (closeInstants a (o +ℤ pos 1) es chart) (idle chart es rs o (λ d. none o d (omega arith) (omega (arith, add-fact o (pos (suc k))))) (λ r n e. omega (arith, h r n, eq-fact e)))
+      ∙ skip rs k m a (o +ℤ pos 1) (omega arith) (λ r n. omega (arith, h r n, add-fact o (pos 1))) (λ d n l u. none d n (omega (arith, add-fact o (pos 1))) (omega (arith, eq-fact (add-one-more o k)))) ∙ ap (λ z. closeInstants m z es chart rs) (add-one-more o k)
+
+  pub jump : (n k : ℕ) (rs : List Row) (o t : ℤ) → EndBefore o rs → o +ℤ pos k ≡ t → k ≤ n → closeDue n o t es chart rs ≡ closeInstants k o es chart rs
+  unfolding closeDue closeInstants
+  jump zero zero rs o t h e l = refl
+  jump zero (suc k) rs o t h e l = absurd (omega arith)
+  jump (suc n) k rs o t h e l = go (jump n) (ltZ i t) refl
+    where
+      ot : o ≤ᶻ t
+      ot = omega (arith, eq-fact e, add-fact o (pos k))
+
+      i : ℤ
+      i = nextDue o t es chart rs
+
+      f : NextDue (dueEnds es chart rs) o t i
+      f = next-due rs o t ot
+
+      j : ℕ
+      j = instantsTo o i
+
+      is-i : o +ℤ pos j ≡ i
+      is-i = instants-to o i (leZ→ o i (f .from))
+
+      quiet : (d : ℤ) → List·Memᴰ d (dueEnds es chart rs) → o ≤ᶻ d → d <ᶻ i → ⊥
+      quiet d m p q = let z : i ≤ᶻ d = leZ→ i d (f .none d m (→leZ o d p)) in omega arith
+
+      go : ((k : ℕ) (rs : List Row) (o t : ℤ) → EndBefore o rs → o +ℤ pos k ≡ t → k ≤ n → closeDue n o t es chart rs ≡ closeInstants k o es chart rs) → (b : Bool) → ltZ i t ≡ b → cond b (closeDue n (i +ℤ pos 1) t es chart (closeRows i es chart rs)) rs ≡ closeInstants k o es chart rs
+      go ih true b =
+          let q : ℕ = instantsTo (i +ℤ pos 1) t in
+          let it : i <ᶻ t = lt-true i t b in
+          let w : i +ℤ pos 1 +ℤ pos q ≡ t = instants-to (i +ℤ pos 1) t (omega (arith, add-fact i (pos 1))) in
+          let size : k ≡ j + suc q = omega (arith, eq-fact w, eq-fact e, eq-fact is-i, add-fact o (pos k), add-fact o (pos j), add-fact i (pos 1), add-fact (i +ℤ pos 1) (pos q)) in
+          ih q (closeRows i es chart rs) (i +ℤ pos 1) t (closed-ends chart es rs i (λ r m. omega (arith, h r m, leZ→ o i (f .from)))) w (omega arith)
+          ∙ sym (skip rs j (suc q) k o size h (λ d m p u. quiet d m p (omega (arith, eq-fact is-i))) ∙ ap (λ z. closeInstants (suc q) z es chart rs) is-i)
+      go ih false b = sym (skip rs k 0 k o (omega arith) h (λ d m p u. quiet d m p (omega (arith, eq-fact e, lt-false i t b))))

@@ -311,9 +311,10 @@ struct chronicle_answer chronicle_event(struct chronicle_watch watch, struct chr
  * The new rows of an entry are then put in order, the later start first. Time for k of them: one look at each where they
  * stand so already, two writes of each where no start is before the one above it, otherwise k log k steps.
  *
- * At each of these instants an after also finds when its next row is due: by a binary search, and one look at each row
- * from there to the next one of a. Every later instant gives a new row, so that the rows that fit bound how many there
- * are. Where no event is pending and nothing is due, rows are looked at for after alone.
+ * At each of these instants an after also finds when its next row is due: by one or two binary searches, and one look at
+ * each row that ended d before an instant between this one and the mark, up to the first one of a. Every later instant
+ * gives a new row, so that the rows that fit bound how many there are. Where no event is pending and nothing is due, rows
+ * are looked at for after alone, each by one mark.
  */
 CHRONICLE_CALL
 struct chronicle_answer chronicle_clock(struct chronicle_watch watch, struct chronicle_chart chart, int32_t *table,

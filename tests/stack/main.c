@@ -158,8 +158,10 @@ static void measure(size_t of_thread)
         size_t used = used_by(calls[i].make) - of_thread;
         if (used > calls[i].most)
             calls[i].most = used;
-        if (calls[i].make == event)
+        if (calls[i].make == event || calls[i].make == mark)
             s.watch = s.answer.watch;
+        if (s.answer.refusal != 0)
+            fail("a call that alters the watch was refused");
     }
     if (s.verdict.refusal != 0 || s.refusal != 0 || s.tree.refusal != 0 || s.tree.length == 0 || s.listed == 0 ||
         s.fitting != ROWS)

@@ -9,7 +9,7 @@ use lib.Dec.{T, eqb, leb}
 use lib.IntN.{ℤ, pos, natAbs, _+ℤ_, _-ℤ_}
 use lib.Signed.{leZ, ltZ}
 use Rattle.interval.specs.Instants.{eqZ, least}
-use Rattle.interval.proofs.Signed.{_≤ᶻ_, _<ᶻ_, never, eq-fact, holds→, →holds, le-true, le-false, ltZ→, →leZ, leZ→, least-is, least-most, add-fact, sub-fact}
+use Rattle.interval.proofs.Signed.{_≤ᶻ_, _<ᶻ_, never, eq-fact, holds→, →holds, lt-false, le-true, le-false, ltZ→, →leZ, leZ→, least-is, least-most, add-fact, sub-fact}
 use Rattle.interval.proofs.Machine.{pos-of}
 use Rattle.chart.specs.Charts.{entryAt, isUsable}
 use Rattle.chart.specs.declared.Chart.{Chart}
@@ -27,19 +27,19 @@ use Rattle.table.proofs.Operators.{operators-all}
 use Rattle.table.proofs.Lower.{lower-entry}
 use Rattle.table.proofs.Rows.{rows-mem, mem-rows}
 use Rattle.table.proofs.Ends.{counted-passes, counted-fails}
-use Rattle.table.proofs.EndParts.{ends-few}
+use Rattle.table.proofs.EndParts.{ends-low, ends-few}
 use Rattle.closing.specs.Added.{Settled, nextRow}
 use Rattle.closing.proofs.Spans.{each-same, each-last}
 use Rattle.closing.proofs.Searches.{next-least, next-none, next-is}
 use Rattle.closing.proofs.Derived.{eq-entry}
 
 module _ (last limit a : ℤ) (d n : ℕ) (t : List ℤ) (s : Settled (last +ℤ pos 1) n t) (h : last <ᶻ limit) (above : leZ (pos 0) a ≡ true) where
-  -- the first row whose wait ends behind `last`, and the first of a from there on
+  -- the rows at whose ends a wait would end behind `last` and before the limit
   abbrev first : ℕ
   first = countEnding true n (last -ℤ pos d) t
 
-  abbrev i : ℕ
-  i = nextRow a first n t
+  abbrev end : ℕ
+  end = countEnding false n (limit -ℤ pos d) t
 
   abbrev ends : List ℤ
   ends = delayedEnds (rowsIn n t) (after (natAbs a) d)
@@ -61,44 +61,82 @@ module _ (last limit a : ℤ) (d n : ℕ) (t : List ℤ) (s : Settled (last +ℤ
   due-row : (j : ℕ) → j < n → eqZ (cell t j 0) a ≡ true → List·Memᴰ (due j) ends
   due-row j l e = Memᴰ·map (λ r. r .end +ℤ pos d) (mem-keep (λ r. eqb (r .entry) (natAbs a)) (rowsIn n t) (mem-rows n t j l) (→holds _ (is-of j l ∙ e)))
 
-  -- a row of a whose wait ends behind `last` is no earlier than row i
-  none-earlier : (j : ℕ) → j < n → eqZ (cell t j 0) a ≡ true → (last +ℤ pos 1) ≤ᶻ due j → i ≤ j
-  none-earlier j l e w = go (leb first j) refl (leb i j) refl
+  -- a wait that begins with row `first` or a later one ends behind `last`, and one that begins with row `end` or a later one, at the limit or later
+  due-behind : (j : ℕ) → first ≤ j → j < n → last <ᶻ due j
+  due-behind j g l = omega (arith, le-false (cell t j 4) (last -ℤ pos d) (counted-fails true n (last -ℤ pos d) t (s .ordered) j g l), add-fact (cell t j 4) (pos d), sub-fact last (pos d))
+
+  due-limit : (j : ℕ) → end ≤ j → j < n → limit ≤ᶻ due j
+  due-limit j g l = omega (arith, lt-false (cell t j 4) (limit -ℤ pos d) (counted-fails false n (limit -ℤ pos d) t (s .ordered) j g l), add-fact (cell t j 4) (pos d), sub-fact limit (pos d))
+
+  pub inside : end ≤ n
+  inside = let low : end ≤ countEnding true n (limit -ℤ pos d) t = ends-low (limit -ℤ pos d) n t in omega (arith, ends-few (limit -ℤ pos d) n t)
+
+  pub few : first ≤ end
+  few = go (leb first end) refl
     where
-      go : (x : Bool) → leb first j ≡ x → (y : Bool) → leb i j ≡ y → i ≤ j
-      go x p true q = leb-true i j q
-      go true p false q = never (sym (next-none a t first n j (leb-true first j p) (leb-false i j q)) ∙ e)
-      go false p false q = absurd (omega (arith, le-true (cell t j 4) (last -ℤ pos d) (counted-passes true n (last -ℤ pos d) t (s .ordered) j (leb-false first j p)), add-fact (cell t j 4) (pos d), sub-fact last (pos d), add-fact last (pos 1)))
+      go : (x : Bool) → leb first end ≡ x → first ≤ end
+      go true p = leb-true first end p
+      go false p =
+          let l : end < first = leb-false first end p in
+          absurd (omega (arith, due-limit end (omega arith) (omega (arith, ends-few (last -ℤ pos d) n t)), le-true (cell t end 4) (last -ℤ pos d) (counted-passes true n (last -ℤ pos d) t (s .ordered) end l), add-fact (cell t end 4) (pos d), sub-fact last (pos d)))
 
-  few : first ≤ n
-  few = ends-few (last -ℤ pos d) n t
+  -- from `first` to before i no row is one of a
+  module _ (i : ℕ) (from : first ≤ i) (skipped : (j : ℕ) → first ≤ j → j < i → eqZ (cell t j 0) a ≡ false) where
+    -- so a row of a whose wait ends behind `last` is no earlier than row i
+    none-earlier : (j : ℕ) → j < n → eqZ (cell t j 0) a ≡ true → (last +ℤ pos 1) ≤ᶻ due j → i ≤ j
+    none-earlier j l e w = go (leb first j) refl (leb i j) refl
+      where
+        go : (x : Bool) → leb first j ≡ x → (y : Bool) → leb i j ≡ y → i ≤ j
+        go x p true q = leb-true i j q
+        go true p false q = never (sym (skipped j (leb-true first j p) (leb-false i j q)) ∙ e)
+        go false p false q = absurd (omega (arith, le-true (cell t j 4) (last -ℤ pos d) (counted-passes true n (last -ℤ pos d) t (s .ordered) j (leb-false first j p)), add-fact (cell t j 4) (pos d), sub-fact last (pos d), add-fact last (pos 1)))
 
-  -- there is such a row
-  pub some-due : i < n → NextDue ends (last +ℤ pos 1) limit (least (due i) limit)
-  some-due l =
-      let w = least-is (due i) limit in
-      let behind : last <ᶻ due i = omega (arith, le-false (cell t i 4) (last -ℤ pos d) (counted-fails true n (last -ℤ pos d) t (s .ordered) i (next-least a t first n) l), add-fact (cell t i 4) (pos d), sub-fact last (pos d)) in
-      record {
-        from = →leZ (last +ℤ pos 1) (least (due i) limit) (least-most (λ z. (last +ℤ pos 1) ≤ᶻ z) (due i) limit (omega (arith, add-fact last (pos 1))) (omega (arith, add-fact last (pos 1))));
-        most = →leZ (least (due i) limit) limit (omega (arith, w));
-        none = λ x m e.
-            let p = row-due x m in
-            let k : i ≤ p .0 = none-earlier (p .0) (p .1) (p .2) (omega (arith, leZ→ (last +ℤ pos 1) x e, eq-fact (p .3))) in
-            →leZ (least (due i) limit) x (omega (arith, w, eq-fact (p .3), le-true (cell t i 4) (cell t (p .0) 4) (s .ordered i (p .0) k (p .1)), add-fact (cell t i 4) (pos d), add-fact (cell t (p .0) 4) (pos d)));
-        due = λ e. least-most (λ z. z <ᶻ limit → List·Memᴰ z ends) (due i) limit (λ z. due-row i l (next-is a t first n few l)) (λ z. absurd (omega arith)) (ltZ→ (least (due i) limit) limit e);
-      }
-
-  -- there is none
-  pub none-due : n ≤ i → NextDue ends (last +ℤ pos 1) limit limit
-  none-due l = record {
-    from = →leZ (last +ℤ pos 1) limit (omega (arith, add-fact last (pos 1)));
-    most = →leZ limit limit (omega arith);
-    none = λ x m e.
+    -- nor does its wait end earlier than that of row i would
+    none-before : (x : ℤ) → List·Memᴰ x ends → T (leZ (last +ℤ pos 1) x) → (i < n) × (due i ≤ᶻ x)
+    none-before x m e =
         let p = row-due x m in
         let k : i ≤ p .0 = none-earlier (p .0) (p .1) (p .2) (omega (arith, leZ→ (last +ℤ pos 1) x e, eq-fact (p .3))) in
-        absurd (omega (arith, p .1));
-    due = λ e. absurd (let z : limit <ᶻ limit = ltZ→ limit limit e in omega arith);
-  }
+        (omega (arith, p .1), omega (arith, eq-fact (p .3), le-true (cell t i 4) (cell t (p .0) 4) (s .ordered i (p .0) k (p .1)), add-fact (cell t i 4) (pos d), add-fact (cell t (p .0) 4) (pos d)))
+
+    -- row i is the next one of a
+    pub some-due : i < n → eqZ (cell t i 0) a ≡ true → NextDue ends (last +ℤ pos 1) limit (least (due i) limit)
+    some-due l of =
+        let w = least-is (due i) limit in
+        let behind : last <ᶻ due i = due-behind i from l in
+        record {
+          from = →leZ (last +ℤ pos 1) (least (due i) limit) (least-most (λ z. (last +ℤ pos 1) ≤ᶻ z) (due i) limit (omega (arith, add-fact last (pos 1))) (omega (arith, add-fact last (pos 1))));
+          most = →leZ (least (due i) limit) limit (omega (arith, w));
+          none = λ x m e. →leZ (least (due i) limit) x (omega (arith, w, none-before x m e .1));
+          due = λ e. least-most (λ z. z <ᶻ limit → List·Memᴰ z ends) (due i) limit (λ z. due-row i l of) (λ z. absurd (omega arith)) (ltZ→ (least (due i) limit) limit e);
+        }
+
+    -- there is no row i, or it would wait to the limit
+    pub none-due : (i < n → limit ≤ᶻ due i) → NextDue ends (last +ℤ pos 1) limit limit
+    none-due long = record {
+      from = →leZ (last +ℤ pos 1) limit (omega (arith, add-fact last (pos 1)));
+      most = →leZ limit limit (omega arith);
+      none = λ x m e. let k = none-before x m e in →leZ limit x (omega (arith, k .1, long (k .0)));
+      due = λ e. absurd (let z : limit <ᶻ limit = ltZ→ limit limit e in omega arith);
+    }
+
+  -- for row `first` itself, and for the first one of a from there to before `end`
+  none : (j : ℕ) → first ≤ j → j < first → eqZ (cell t j 0) a ≡ false
+  none j p q = absurd (omega arith)
+
+  pub first-due : first < n → eqZ (cell t first 0) a ≡ true → NextDue ends (last +ℤ pos 1) limit (least (due first) limit)
+  first-due = some-due first (omega arith) none
+
+  pub first-long : (first < n → limit ≤ᶻ due first) → NextDue ends (last +ℤ pos 1) limit limit
+  first-long = none-due first (omega arith) none
+
+  abbrev i : ℕ
+  i = nextRow a first end t
+
+  pub found-due : i < end → NextDue ends (last +ℤ pos 1) limit (least (due i) limit)
+  found-due l = some-due i (next-least a t first end) (next-none a t first end) (omega (arith, inside)) (next-is a t first end few l)
+
+  pub none-found : end ≤ i → NextDue ends (last +ℤ pos 1) limit limit
+  none-found l = none-due i (next-least a t first end) (next-none a t first end) (due-limit i l)
 
 -- the ends that the first k entries make
 abbrev pub entryEnds : Chart → List Row → ℕ → List ℤ

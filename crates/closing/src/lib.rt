@@ -10,7 +10,7 @@ ghost use lib.IntN.{pos, natAbs, _+ℤ_};
 ghost use lib.ListN.{length, drop};
 ghost use lib.Signed.{leZ, ltZ};
 ghost use mathlib.Core.Bool.{true};
-ghost use Rattle.interval.specs.Instants.{eqZ};
+ghost use Rattle.interval.specs.Instants.{eqZ, least};
 ghost use Rattle.interval.specs.Conditions.{endingOf};
 ghost use Rattle.chart.specs.Charts.{isUsable, entryFits};
 ghost use Rattle.model.specs.Capacity.{capacity};
@@ -229,20 +229,39 @@ fn delayed_rows(t: &mut [i32], n: usize, f: Frame, a: i32, d: u32) -> usize
     taken_rows(t, n, waited, a, Taken::All, false)
 }
 
-// The first end behind `last` of a wait of d that a row of a began, or the limit if none is before it. A binary search, and one look at each row
-// from there to the next one of a.
+// The end of a wait of d that row i began, or the limit where that is no later.
+fn due_of(t: &[i32], i: usize, d: u32, limit: i32) -> i32
+    requires { ⌜ i * 5 + 5 ≤ length (now t) ⌝ }
+    ensures { λ r. ⌜ r ≡ least (cell (now (t .entry)) i 4 +ℤ pos d) limit ⌝ }
+{
+    let row = table::row_at(t, i);
+    interval::least_delayed(row.end, d, limit)
+}
+
+// The first end behind `last` of a wait of d that a row of a began, or the limit if none is before it. A binary search finds the first row at whose end a wait
+// of d would end behind `last`: mostly it is one of a, or its wait would reach the limit, and so those of all rows behind it. Otherwise a second search, and one
+// look at each row whose wait would end before the limit, up to the first one of a.
 fn next_end(t: &[i32], n: usize, a: i32, d: u32, last: i32, limit: i32) -> i32
     requires { ⌜ Settled (last +ℤ pos 1) n (now t) × (n * 5 ≤ length (now t)) × (ltZ last limit ≡ true) × (leZ (pos 0) a ≡ true) ⌝ }
     ensures { λ r. ⌜ NextDue (delayedEnds (rowsIn n (now (t .entry))) (after (natAbs a) d)) (last +ℤ pos 1) limit r ⌝ }
 {
-    let from = interval::earlier_by(last, d);
-    let first = table::count_ending(t, n, from, true);
-    let i = next_of(t, first, n, a);
-    if i < n {
-        let row = table::row_at(t, i);
-        return interval::least_delayed(row.end, d, limit);
+    let first = table::count_ending(t, n, interval::earlier_by(last, d), true);
+    if n <= first {
+        return limit;
     }
-    limit
+    let due = due_of(t, first, d, limit);
+    if is_of(t, first, a) {
+        return due;
+    }
+    if interval::is_same(due, limit) {
+        return limit;
+    }
+    let end = table::count_ending(t, n, interval::earlier_by(limit, d), false);
+    let i = next_of(t, first, end, a);
+    if end <= i {
+        return limit;
+    }
+    due_of(t, i, d, limit)
 }
 
 // Whether row j is one of entry b and forbids the interval of row r.

@@ -5,21 +5,22 @@ use mathlib.Core.Path.{_≡_, refl, sym, ap, _∙_, subst}
 use mathlib.Core.Logic.{_⊎_, inl, inr}
 use mathlib.Core.Bool.{Bool, true, false, cond, not}
 use mathlib.Core.List.{List, [], _∷_, _++_, map, append-nil, List·Memᴰ, List·Memᴰ·head, List·Memᴰ·tail, List·Memᴰ·not-nil, List·Memᴰ·cases-cons, List·Memᴰ·append-cases, Memᴰ·append-left, Memᴰ·append-right, Memᴰ·cast, Memᴰ·map, Memᴰ·of-map}
-use lib.Dec.{T, eqb, eqb-refl}
+use lib.Dec.{T, eqb, eqb→eq, eqb-refl}
 use lib.IntN.{ℤ, pos, _+ℤ_}
-use lib.ListN.{length}
+use lib.ListN.{length, length-append}
 use lib.Signed.{ltZ, leZ}
-use Rattle.interval.specs.Instants.{least}
-use Rattle.interval.proofs.Signed.{_≤ᶻ_, _<ᶻ_, eq-fact, eqZ→, ltZ→, leZ→, →leZ, nleZ→, lt-false, lt-true, least-is, least-most, greatest-most, add-fact, add-none, add-one-more}
+use Rattle.interval.specs.Instants.{eqZ, least}
+use Rattle.interval.proofs.Signed.{_≤ᶻ_, _<ᶻ_, eq-fact, eqZ→, eqZ-refl, ltZ→, leZ→, →leZ, nleZ→, lt-false, lt-true, least-is, least-most, greatest-most, add-fact, add-none, add-one-more}
 use Rattle.model.specs.Lists.{keep, each, numbers, sortStably}
-use Rattle.model.specs.Recognitions.{Event, Operator, event, related, or, absence, lasting, after}
+use Rattle.model.specs.Recognitions.{Event, Operator, event, related, or, absence, lasting, after, delayed}
 use Rattle.model.specs.Order.{Row, row}
-use Rattle.model.specs.RowSteps.{Node, leaf, part, pair, leaves, make, nodeEnd, Rule, rules, rowAt, places, nodeRow, startsLater, derivedRows, extendRows, endsAt, closeRows, closeInstants, instantsTo, delayedEnds, dueEnds, firstFrom, nextDue, closeDue}
+use Rattle.model.specs.RowSteps.{Node, leaf, part, pair, leaves, make, nodeEnd, Rule, rules, rowAt, places, nodeRow, startsLater, madeRows, derivedRows, extendRows, endsAt, closeRows, closeInstants, instantsTo, delayedEnds, dueEnds, firstFrom, nextDue, closeDue}
 use Rattle.model.specs.Statements.{NextDue}
-use Rattle.model.proofs.Sorted.{keep-mem, mem-keep, mem-each, stably-mem}
-use Rattle.model.proofs.Made.{Made, make-made}
-use Rattle.model.proofs.Place.{keep-none, getD-mem}
-use Rattle.model.proofs.Rows.{numbers-mem}
+use Rattle.model.proofs.Sorted.{keep-mem, mem-keep, keep-append, each-mem, mem-each, stably-mem, mem-stably}
+use Rattle.model.proofs.Made.{Made, make-made, made-make}
+use Rattle.model.proofs.Place.{keep-none, getD-mem, mem-getD}
+use Rattle.model.proofs.Rows.{map-numbers, numbers-mem}
+use Rattle.model.proofs.Steps.{extend-more}
 use Rattle.model.proofs.Windows.{leaves-mem}
 use Rattle.model.proofs.History.{instants-to}
 
@@ -107,6 +108,64 @@ close-ends o es (op ∷ ops) n rs r m = elim (close-ends o es ops (suc n) (rs ++
 pub closed-ends : (chart : List Operator) (es : List Event) (rs : List Row) (o : ℤ) → EndBefore o rs → EndBefore (o +ℤ pos 1) (closeRows o es chart rs)
 unfolding closeRows
 closed-ends chart es rs o h r m = elim (close-ends o es chart 0 rs r m) as (λ z. r .end <ᶻ (o +ℤ pos 1)) [ inl k ↦ omega (arith, h r k, add-fact o (pos 1)) | inr k ↦ omega (arith, eq-fact k, add-fact o (pos 1)) ]
+
+-- a delayed end brings a row
+module _ (e : ℤ) (es : List Event) where
+  abbrev rule : ℕ → Operator → Rule
+  rule n op = record { entry = n; operator = op; test = endsAt e }
+
+  -- the delayed row of row i
+  brought-by : (n a d : ℕ) (rs : List Row) (i : ℕ) → List·Memᴰ i (numbers 0 (length rs)) → (rowAt rs i) .entry ≡ a → (rowAt rs i) .end +ℤ pos d ≡ e → 0 < length (derivedRows (rule n (after a d)) es rs)
+  brought-by n a d rs i there entry due =
+      let made = made-make (places rs) (after a d) es (numbers 0 (length rs)) (part (delayed d) i) (record { r = i; is = refl; hasr = record { there = there; entry = entry } }) in
+      let kept = mem-keep (λ r. endsAt e (r .start) (r .end)) (map (nodeRow rs n) (make (places rs) (after a d) es (numbers 0 (length rs)))) (Memᴰ·map (nodeRow rs n) made) (subst (λ z. T (eqZ ((rowAt rs i) .end +ℤ pos d) z)) due (eqZ-refl ((rowAt rs i) .end +ℤ pos d))) in
+      let at = mem-getD (rowAt rs i) (derivedRows (rule n (after a d)) es rs) (nodeRow rs n (part (delayed d) i)) (mem-stably startsLater (madeRows (rule n (after a d)) es rs) kept) in
+      omega (arith, at .low)
+
+  brought : (n : ℕ) (op : Operator) (rs : List Row) → List·Memᴰ e (delayedEnds rs op) → 0 < length (derivedRows (rule n op) es rs)
+  brought n (event k) rs m = absurd (List·Memᴰ·not-nil m)
+  brought n (related c a b) rs m = absurd (List·Memᴰ·not-nil m)
+  brought n (or a b) rs m = absurd (List·Memᴰ·not-nil m)
+  brought n (absence c a b) rs m = absurd (List·Memᴰ·not-nil m)
+  brought n (lasting c a d) rs m = absurd (List·Memᴰ·not-nil m)
+  brought n (after a d) rs m =
+      let p = Memᴰ·of-map (λ r. r .end +ℤ pos d) (keep (λ r. eqb (r .entry) a) rs) m in
+      let k = keep-mem (λ r. eqb (r .entry) a) rs (p .1) in
+      let q = Memᴰ·of-map (rowAt rs) (numbers 0 (length rs)) (subst (List·Memᴰ (p .0)) (sym (map-numbers (row 0 (pos 0) (pos 0) (pos 0) (pos 0)) rs)) (k .0)) in
+      brought-by n a d rs (q .0) (q .1) (subst (λ r. r .entry ≡ a) (sym (q .2)) (eqb→eq (p .0 .entry) a (k .1))) (subst (λ r. r .end +ℤ pos d ≡ e) (sym (q .2)) (p .2))
+
+  -- more rows have these ends too
+  delayed-more : (op : Operator) (rs news : List Row) → List·Memᴰ e (delayedEnds rs op) → List·Memᴰ e (delayedEnds (rs ++ news) op)
+  delayed-more (event k) rs news m = m
+  delayed-more (related c a b) rs news m = m
+  delayed-more (or a b) rs news m = m
+  delayed-more (absence c a b) rs news m = m
+  delayed-more (lasting c a d) rs news m = m
+  delayed-more (after a d) rs news m =
+      let p = Memᴰ·of-map (λ r. r .end +ℤ pos d) (keep (λ r. eqb (r .entry) a) rs) m in
+      Memᴰ·cast (sym (p .2)) (Memᴰ·map (λ r. r .end +ℤ pos d) (subst (List·Memᴰ (p .0)) (sym (keep-append (λ r. eqb (r .entry) a) rs news)) (Memᴰ·append-left (keep (λ r. eqb (r .entry) a) news) (p .1))))
+
+  grown-from : (ops : List Operator) (n : ℕ) (rs : List Row) (op : Operator) → List·Memᴰ op ops → List·Memᴰ e (delayedEnds rs op) → length rs < length (extendRows es (rules (endsAt e) n ops) rs)
+  unfolding extendRows
+  grown-from [] n rs op m d = absurd (List·Memᴰ·not-nil m)
+  grown-from (x ∷ ops) n rs op m d = go (grown-from ops (suc n) (rs ++ news)) (List·Memᴰ·cases-cons m)
+    where
+      news : List Row
+      news = derivedRows (rule n x) es rs
+
+      size : length (rs ++ news) ≡ length rs + length news
+      size = length-append rs news
+
+      go : ((op : Operator) → List·Memᴰ op ops → List·Memᴰ e (delayedEnds (rs ++ news) op) → length (rs ++ news) < length (extendRows es (rules (endsAt e) (suc n) ops) (rs ++ news))) → (op ≡ x) ⊎ List·Memᴰ op ops → length rs < length (extendRows es (rules (endsAt e) (suc n) ops) (rs ++ news))
+      go ih (inl q) =
+          let p = extend-more es (rules (endsAt e) (suc n) ops) (rs ++ news) in
+          let some : 0 < length news = brought n x rs (subst (λ z. List·Memᴰ e (delayedEnds rs z)) q d) in
+          omega (arith, size, ap length (p .1), length-append (rs ++ news) (p .0))
+      go ih (inr k) = omega (arith, size, ih op k (delayed-more op rs news d))
+
+pub grown : (chart : List Operator) (es : List Event) (rs : List Row) (e : ℤ) → List·Memᴰ e (dueEnds [] chart rs) → length rs < length (closeRows e es chart rs)
+unfolding closeRows dueEnds
+grown chart es rs e m = let p = each-mem (delayedEnds rs) chart m in grown-from e es chart 0 rs (p .0) (p .1) (p .2)
 
 -- the first instant of a list
 module _ (o t : ℤ) (ot : o ≤ᶻ t) where

@@ -87,7 +87,7 @@ map-shift : {A : Type 0} (f : ℕ → A) (a n : ℕ) → map f (numbers (suc a) 
 map-shift f a zero = refl
 map-shift f a (suc n) = ap (_∷_ (f (suc a))) (map-shift f (suc a) n)
 
-map-numbers : {A : Type 0} (d : A) (xs : List A) → map (λ i. getD xs i d) (numbers 0 (length xs)) ≡ xs
+pub map-numbers : {A : Type 0} (d : A) (xs : List A) → map (λ i. getD xs i d) (numbers 0 (length xs)) ≡ xs
 map-numbers d [] = refl
 map-numbers d (x ∷ xs) = ap (_∷_ x) (map-shift (λ i. getD (x ∷ xs) i d) 0 (length xs) ∙ map-numbers d xs)
 

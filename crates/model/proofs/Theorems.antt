@@ -14,7 +14,7 @@ use Rattle.model.specs.Order.{before, listing, place, asRows}
 use Rattle.model.specs.Reference.{opening, step, run, numbersOf}
 use Rattle.model.specs.RowSteps.{instantsTo, watchStep}
 use Rattle.model.specs.Consistency.{isConsistent}
-use Rattle.model.specs.Statements.{Reads, RecognitionHolds, RecognitionUnique, StrictOrder, ListingHolds, ListingUnique, FloorHolds, LaterEventHolds, ReferencesHold, SerialsHold, HistoryHolds, IdleHolds, NextDueHolds, JumpHolds, ConsistencyHolds}
+use Rattle.model.specs.Statements.{Reads, RecognitionHolds, RecognitionUnique, StrictOrder, ListingHolds, ListingUnique, FloorHolds, LaterEventHolds, ReferencesHold, SerialsHold, HistoryHolds, IdleHolds, NextDueHolds, JumpHolds, GrowthHolds, ConsistencyHolds}
 use Rattle.model.proofs.Sorted.{same, T-em}
 use Rattle.model.proofs.Order.{before-irrefl, before-trans, before-total}
 use Rattle.model.proofs.Local.{Chart, chart-lower}
@@ -25,7 +25,7 @@ use Rattle.model.proofs.Rows.{nil}
 use Rattle.model.proofs.Closing.{listing-lists}
 use Rattle.model.proofs.Listing.{listing-floor}
 use Rattle.model.proofs.History.{good-run, good-opening, opening-shown, history-from, instants-to}
-use Rattle.model.proofs.Jump.{idle, next-due, jump}
+use Rattle.model.proofs.Jump.{idle, next-due, jump, grown}
 use Rattle.model.proofs.Follow.{reads}
 use Rattle.model.proofs.Consistency.{good-consistent}
 
@@ -91,6 +91,9 @@ next-due-instant chart es rs o t h = next-due chart es rs o t (leZ→ o t h)
 
 pub jumps : JumpHolds
 jumps chart es rs o t h ot n l = jump chart es n (instantsTo o t) rs o t (λ r m. ltZ→ (r .end) o (h r m)) (instants-to o t (leZ→ o t ot)) l
+
+pub delayed-end-grows : GrowthHolds
+delayed-end-grows chart es rs e m = grown chart es rs e m
 
 pub consistent : ConsistencyHolds
 consistent chart h capacity o calls =

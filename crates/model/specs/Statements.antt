@@ -136,6 +136,10 @@ NextDueHolds = (chart : List Operator) (es : List Event) (rs : List Row) (o t : 
 abbrev pub JumpHolds : Type 0
 JumpHolds = (chart : List Operator) (es : List Event) (rs : List Row) (o t : ℤ) → ((r : Row) → r ∈ rs → T (ltZ (r .end) o)) → T (leZ o t) → (n : ℕ) → instantsTo o t ≤ n → closeDue n o t es chart rs ≡ closeInstants (instantsTo o t) o es chart rs
 
+-- A delayed end brings a row: so the rows that a table can hold bound how many of them a mark closes, however far away it is.
+abbrev pub GrowthHolds : Type 0
+GrowthHolds = (chart : List Operator) (es : List Event) (rs : List Row) (e : ℤ) → e ∈ dueEnds [] chart rs → length rs < length (closeRows e es chart rs)
+
 -- The watch on rows of every history is consistent.
 abbrev pub ConsistencyHolds : Type 0
 ConsistencyHolds = (chart : List Operator) → T (areLower 0 chart) → (capacity : ℕ) (o : ℤ) (calls : List Call) → T (isConsistent chart capacity (run (watchStep chart capacity) ((watchOpening o) .state) calls))

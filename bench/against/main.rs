@@ -6,7 +6,8 @@ use std::collections::HashMap;
 use std::process::Command;
 
 /// The parts, the arguments of each, and how many columns of a row stand behind its ratio.
-const PARTS: [(&str, &[&str], usize); 2] = [("chart", &[], 0), ("watch", &["--any-order"], 2)];
+const PARTS: [(&str, &[&str], usize); 2] =
+    [("chart", &["--without-after"], 0), ("watch", &["--any-order", "--without-after"], 2)];
 const SIDES: [&str; 2] = ["before", "now"];
 const PLACES: [&str; 4] = ["0", "16", "32", "48"];
 

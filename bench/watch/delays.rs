@@ -22,12 +22,13 @@ const MARKS: [(&str, &[u8], usize, bool); 7] = [
     ("2,000 ends, last", DELAYS, 1_000, true),
 ];
 
-pub fn time_marks() {
+pub fn time_marks(order: Order, without_after: bool) {
     println!("\nmark at the next     rows     new    plain   proved          plain  proved");
     println!("or last instant    in use    rows       us       us  ratio  ns/row  ns/row");
-    for (name, chart, waits, far) in MARKS {
+    let marks = MARKS.iter().filter(|(_, chart, ..)| !without_after || *chart == NO_DELAY);
+    for &(name, chart, waits, far) in marks {
         for rows in ROWS_IN_USE {
-            print_line(&workload(name, chart, rows, waits, far), Order::Same, |in_use, _| in_use);
+            print_line(&workload(name, chart, rows, waits, far), order, |in_use, _| in_use);
         }
     }
     print_method();

@@ -1,6 +1,7 @@
 //! Times the proved watch beside the unproved one, both release builds, on the same watches and tables in one run. With
 //! --any-order the two may have the rows of one end and entry in different orders, as a proved watch from before request N7
-//! has them, and marks that are to put many in order, and those that jump, are left out.
+//! has them, and marks that are to put many in order are left out. With --without-after those under a chart with that word
+//! are, which one from before request N1 does not know.
 
 mod blocks;
 mod delays;
@@ -17,7 +18,8 @@ const CHART: &[u8] = b"0\tevent\t1\n1\tevent\t2\n2\tevent\t3\n3\tevent\t4\n4\tev
     5\tseq\t0\t1\n6\t-[]\t5\t2\n7\tor\t2\t3\n8\tatmost\t7\t5\n9\tequals\t0\t0\n";
 
 fn main() {
-    let order = if std::env::args().any(|argument| argument == "--any-order") { Order::Any } else { Order::Same };
+    let has_argument = |wanted: &str| std::env::args().any(|argument| argument == wanted);
+    let order = if has_argument("--any-order") { Order::Any } else { Order::Same };
     println!("                     rows     new    plain   proved          plain  proved");
     println!("call               in use    rows       us       us  ratio  ns/row  ns/row");
     for name in ["check", "mark, none pending", "mark, few new", "mark, many new", "forget a tenth", "forget half"] {
@@ -29,8 +31,8 @@ fn main() {
     println!("ns/row: time over the rows in use before the call");
     if order == Order::Same {
         blocks::time_marks();
-        delays::time_marks();
     }
+    delays::time_marks(order, has_argument("--without-after"));
 }
 
 fn workload(name: &'static str, rows: usize) -> Workload {

@@ -95,6 +95,9 @@ lengthTestOf op = cond (eqb op 14) Lasts (cond (eqb op 15) AtMost AtLeast)
 
 -- what a code stands for, in the order of the operator table: event, seq, or, and; 4 to 7 absences; 8 to 13 interval relations;
 -- 14 to 16 length tests; behind it, 17 after (request N1)
+abbrev pub laterKindOf : ℕ → Kind
+laterKindOf op = cond (eqb op 17) After Unknown
+
 unfoldable pub kindOf : ℕ → Kind
 kindOf op =
     cond (eqb op 0) Event
@@ -104,7 +107,7 @@ kindOf op =
     (cond (ltb op 8) (Absence (edgesOf op))
     (cond (ltb op 14) (Pair (relationOf op))
     (cond (ltb op 17) (Length (lengthTestOf op))
-    (cond (eqb op 17) After Unknown)))))))
+    (laterKindOf op)))))))
 
 -- The column "left, right" of the operator table: "serial, -1" of an event; "r, -1; or -1, s" of or; "r, s" of seq, and, meets to equals;
 -- "r, -1" of the absences and the length tests; "left r, right -1" of after, whose row ends later than r (request N1). An unknown code stands in

@@ -230,18 +230,25 @@ fn is_pair_row(kind: Kind, a: u32, b: u32, t: &[i32], i: usize, row: Row) -> boo
     spans_parts(row, p, q) && meets_condition(kind, b, p, q)
 }
 
+// Whether a row starts as its one part p does.
+fn starts_with(row: Row, p: Row) -> bool
+    ensures { λ r. ⌜ r ≡ eqZ (row .start) (p .start) ⌝ }
+{
+    interval::is_same(row.start, p.start)
+}
+
 // Whether a row's start and end are those of its one part p.
 fn spans_part(row: Row, p: Row) -> bool
     ensures { λ r. ⌜ r ≡ spansPart row p ⌝ }
 {
-    interval::is_same(row.start, p.start) && interval::is_same(row.end, p.end)
+    starts_with(row, p) && interval::is_same(row.end, p.end)
 }
 
 // Whether a row starts as its one part p does, and ends d later.
 fn waits_for(d: u32, row: Row, p: Row) -> bool
     ensures { λ r. ⌜ r ≡ waitsFor d row p ⌝ }
 {
-    interval::is_same(row.start, p.start) && interval::is_delayed(p.end, d, row.end)
+    starts_with(row, p) && interval::is_delayed(p.end, d, row.end)
 }
 
 // Whether a row's start and end are those of the rows p and q together.

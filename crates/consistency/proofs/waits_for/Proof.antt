@@ -1,29 +1,21 @@
 -- `waits_for` meets its contract: start and end are tested in the definition's order.
-use mathlib.Core.Path.{_≡_, sym, _∙_}
+use mathlib.Core.Path.{sym, _∙_}
 use borrow.Author.Needs.{needs}
-use Rattle.interval.specs.Instants.{eqZ}
 use Rattle.interval.proofs.Machine.{same32}
 use Rattle.consistency.specs.Rows.{waitsFor}
 use Rattle.consistency.proofs.Tests.{numbers}
 use Rattle.consistency.proofs.waits_for.Statement.{statement}
 use Rattle.consistency.proofs.waits_for.Tie as tie
 
-starts : (c : tie.After-is-same) → let g = c .before .before .before .args in eqZ (g .row .start) (g .p .start) ≡ c .is-same .result
-starts c =
-    let g = c .before .before .before .args in
-    let r = numbers (g .row) (c .before .before .struct-told .given) in
-    let p = numbers (g .p) (c .before .struct-told2 .given) in
-    sym (simp (same32, r .start, p .start) at (c .is-same .ensures))
-
 returns : tie.Need-returns
 unfolding waitsFor
 returns c =
     let e = c .before .before .before in
-    let g = e .before .before .before .before .args in
-    let r = numbers (g .row) (c .before .struct-told4 .given) in
-    let p = numbers (g .p) (c .before .before .struct-told3 .given) in
-    simp (starts (e .before) ∙ e .if1 .taken, c .is-delayed .ensures, same32, r .end, p .end)
+    let g = e .before .before .args in
+    let r = numbers (g .row) (c .before .struct-told2 .given) in
+    let p = numbers (g .p) (c .before .before .struct-told .given) in
+    simp (sym (e .before .starts-with .ensures) ∙ e .if1 .taken, c .is-delayed .ensures, same32, r .end, p .end)
 
 pub waits-for-spec : {M : Type 1} → statement M
 unfolding waitsFor
-waits-for-spec = tie.close (tie.spec (λ c κs. search needs) (λ c κs. search needs) returns (λ c. simp (starts (c .before) ∙ c .if1 .left, c .if1 .left)))
+waits-for-spec = tie.close (tie.spec (λ c κs. search needs) (λ c κs. search needs) returns (λ c. simp (sym (c .before .starts-with .ensures) ∙ c .if1 .left, c .if1 .left)))

@@ -93,11 +93,12 @@ relationOf op =
 unfoldable pub lengthTestOf : ℕ → LengthTest
 lengthTestOf op = cond (eqb op 14) Lasts (cond (eqb op 15) AtMost AtLeast)
 
--- what a code stands for, in the order of the operator table: event, seq, or, and; 4 to 7 absences; 8 to 13 interval relations;
--- 14 to 16 length tests; behind it, 17 after (request N1)
+-- what a code behind the operator table stands for: 17 after (request N1)
 abbrev pub laterKindOf : ℕ → Kind
 laterKindOf op = cond (eqb op 17) After Unknown
 
+-- what a code stands for, in the order of the operator table: event, seq, or, and; 4 to 7 absences; 8 to 13 interval relations;
+-- 14 to 16 length tests; then those behind it
 unfoldable pub kindOf : ℕ → Kind
 kindOf op =
     cond (eqb op 0) Event

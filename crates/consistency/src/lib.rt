@@ -231,7 +231,7 @@ fn is_pair_row(kind: Kind, a: u32, b: u32, t: &[i32], i: usize, row: Row) -> boo
 }
 
 // Whether a row starts as its one part p does.
-fn starts_with(row: Row, p: Row) -> bool
+fn starts_as(row: Row, p: Row) -> bool
     ensures { λ r. ⌜ r ≡ eqZ (row .start) (p .start) ⌝ }
 {
     interval::is_same(row.start, p.start)
@@ -241,14 +241,14 @@ fn starts_with(row: Row, p: Row) -> bool
 fn spans_part(row: Row, p: Row) -> bool
     ensures { λ r. ⌜ r ≡ spansPart row p ⌝ }
 {
-    starts_with(row, p) && interval::is_same(row.end, p.end)
+    starts_as(row, p) && interval::is_same(row.end, p.end)
 }
 
 // Whether a row starts as its one part p does, and ends d later.
 fn waits_for(d: u32, row: Row, p: Row) -> bool
     ensures { λ r. ⌜ r ≡ waitsFor d row p ⌝ }
 {
-    starts_with(row, p) && interval::is_delayed(p.end, d, row.end)
+    starts_as(row, p) && interval::is_delayed(p.end, d, row.end)
 }
 
 // Whether a row's start and end are those of the rows p and q together.

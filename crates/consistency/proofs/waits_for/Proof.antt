@@ -14,8 +14,8 @@ returns c =
     let g = e .before .before .args in
     let r = numbers (g .row) (c .before .struct-told2 .given) in
     let p = numbers (g .p) (c .before .before .struct-told .given) in
-    simp (sym (e .before .starts-with .ensures) ∙ e .if1 .taken, c .is-delayed .ensures, same32, r .end, p .end)
+    simp (sym (e .before .starts-as .ensures) ∙ e .if1 .taken, c .is-delayed .ensures, same32, r .end, p .end)
 
 pub waits-for-spec : {M : Type 1} → statement M
 unfolding waitsFor
-waits-for-spec = tie.close (tie.spec (λ c κs. search needs) (λ c κs. search needs) returns (λ c. simp (sym (c .before .starts-with .ensures) ∙ c .if1 .left, c .if1 .left)))
+waits-for-spec = tie.close (tie.spec (λ c κs. search needs) (λ c κs. search needs) returns (λ c. simp (sym (c .before .starts-as .ensures) ∙ c .if1 .left, c .if1 .left)))

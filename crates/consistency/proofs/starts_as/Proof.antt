@@ -1,9 +1,9 @@
--- `starts_with` meets its contract.
+-- `starts_as` meets its contract.
 use borrow.Author.Needs.{needs}
 use Rattle.interval.proofs.Machine.{same32}
 use Rattle.consistency.proofs.Tests.{numbers}
-use Rattle.consistency.proofs.starts_with.Statement.{statement}
-use Rattle.consistency.proofs.starts_with.Tie as tie
+use Rattle.consistency.proofs.starts_as.Statement.{statement}
+use Rattle.consistency.proofs.starts_as.Tie as tie
 
 returns : tie.Need-returns
 returns c =
@@ -12,5 +12,5 @@ returns c =
     let p = numbers (g .p) (c .before .struct-told2 .given) in
     simp (c .is-same .ensures, same32, r .start, p .start)
 
-pub starts-with-spec : {M : Type 1} → statement M
-starts-with-spec = tie.close (tie.spec (λ c κs. search needs) returns)
+pub starts-as-spec : {M : Type 1} → statement M
+starts-as-spec = tie.close (tie.spec (λ c κs. search needs) returns)

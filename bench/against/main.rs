@@ -1,13 +1,12 @@
 //! Runs the benchmarks of two builds of the proved code in turns and prints how they compare. Each build is linked at
-//! several places in memory; a program is named PART.SIDE.PLACE.
+//! several places in memory; a program is named PART.SIDE.PLACE. No chart has a word that one of the two does not know.
 
 use common::timing::median;
 use std::collections::HashMap;
 use std::process::Command;
 
 /// The parts, the arguments of each, and how many columns of a row stand behind its ratio.
-const PARTS: [(&str, &[&str], usize); 2] =
-    [("chart", &["--without-after"], 0), ("watch", &["--any-order", "--without-after"], 2)];
+const PARTS: [(&str, &[&str], usize); 2] = [("chart", &[], 0), ("watch", &["--any-order"], 2)];
 const SIDES: [&str; 2] = ["before", "now"];
 const PLACES: [&str; 4] = ["0", "16", "32", "48"];
 
@@ -20,7 +19,7 @@ struct Ratios {
 
 fn main() {
     let arguments: Vec<String> = std::env::args().skip(1).collect();
-    let [folder, rounds] = arguments.as_slice() else { panic!("use: against FOLDER ROUNDS") };
+    let [folder, rounds, left_out] = arguments.as_slice() else { panic!("use: against FOLDER ROUNDS WORDS") };
     let rounds: usize = rounds.parse().expect("a number of rounds");
     println!("{:<40} {:>8} {:>8} {:>12}", "proved : plain", "before", "now", "now : before");
     for (part, arguments, behind) in PARTS {
@@ -28,7 +27,8 @@ fn main() {
         for _ in 0..rounds {
             for place in PLACES {
                 for side in SIDES {
-                    let printed = run(&format!("{folder}/{part}.{side}.{place}"), arguments);
+                    let arguments = [arguments, &["--without", left_out]].concat();
+                    let printed = run(&format!("{folder}/{part}.{side}.{place}"), &arguments);
                     ratios.add(side, place, &printed, behind);
                 }
             }

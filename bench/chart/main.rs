@@ -1,9 +1,11 @@
 //! Times the proved chart check beside the plain Rust reader, both release builds, on the same charts in one run. With
-//! --without-after no chart has that word, which a proved reader from before request N1 does not know.
+//! --without WORDS, parted by commas, no chart has one of these: a proved reader from before request N1 does not know
+//! `after`, one from before N5 neither `cut` nor `change`.
 
 #[path = "../../tests/common/proved.rs"]
 mod proved;
 
+use common::left_out::LeftOut;
 use common::plain_chart::{check, Verdict};
 use common::random::Random;
 use common::random_charts::valid;
@@ -21,9 +23,9 @@ struct Workload {
 }
 
 fn main() {
-    let without_after = std::env::args().any(|argument| argument == "--without-after");
+    let left_out = LeftOut::of_arguments();
     println!("{:<38} {:>12} {:>12} {:>7}", "charts", "plain ns", "proved ns", "ratio");
-    for workload in workloads(|chart| !(without_after && has_after(chart))) {
+    for workload in workloads(|chart| !left_out.is_in(chart)) {
         assert!(workload.charts.iter().all(|chart| check(chart) == proved::check_chart(chart)));
         let (plain, proved) = median_times(&workload.charts);
         println!("{:<38} {plain:>12.0} {proved:>12.0} {:>7.3}", workload.name, proved / plain);
@@ -31,10 +33,6 @@ fn main() {
     println!(
         "ns of processor time a chart, medians of {ROUNDS} rounds over {CHARTS} charts, the two readers taking turns"
     );
-}
-
-fn has_after(chart: &[u8]) -> bool {
-    chart.split(|byte| *byte == b'\t').any(|field| field == b"after")
 }
 
 fn workloads(is_wanted: impl Fn(&[u8]) -> bool) -> [Workload; 3] {

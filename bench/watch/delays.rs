@@ -3,6 +3,7 @@
 
 use crate::measure::{print_line, print_method, taken, Call, Order, Workload};
 use common::interface::Watch;
+use common::left_out::LeftOut;
 use common::plain_watch::{self, Plain, PlainWatch};
 
 const ROWS_IN_USE: [usize; 3] = [100, 3_000, 60_000];
@@ -22,10 +23,10 @@ const MARKS: [(&str, &[u8], usize, bool); 7] = [
     ("2,000 ends, last", DELAYS, 1_000, true),
 ];
 
-pub fn time_marks(order: Order, without_after: bool) {
+pub fn time_marks(order: Order, left_out: &LeftOut) {
     println!("\nmark at the next     rows     new    plain   proved          plain  proved");
     println!("or last instant    in use    rows       us       us  ratio  ns/row  ns/row");
-    let marks = MARKS.iter().filter(|(_, chart, ..)| !without_after || *chart == NO_DELAY);
+    let marks = MARKS.iter().filter(|(_, chart, ..)| !left_out.is_in(chart));
     for &(name, chart, waits, far) in marks {
         for rows in ROWS_IN_USE {
             print_line(&workload(name, chart, rows, waits, far), order, |in_use, _| in_use);

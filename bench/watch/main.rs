@@ -1,13 +1,15 @@
 //! Times the proved watch beside the unproved one, both release builds, on the same watches and tables in one run. With
-//! --any-order the two may have the rows of one end and entry in different orders, as a proved watch from before request N7
-//! has them, and marks that are to put many in order are left out. With --without-after those under a chart with that word
-//! are, which one from before request N1 does not know.
+//! --any-order the two may have the rows of one end and entry in different orders, as a proved watch from before
+//! request N7 has them, and marks that are to put many in order are left out. With --without WORDS, parted by commas,
+//! those under a chart with one of these are: `after` is not known to one from before request N1, `cut` and `change`
+//! not before N5.
 
 mod blocks;
 mod delays;
 mod measure;
 
 use common::interface::{Chart, Watch};
+use common::left_out::LeftOut;
 use common::plain_watch::{self, Plain, PlainWatch};
 use measure::{print_line, print_method, taken, Call, Order, Workload};
 
@@ -32,7 +34,7 @@ fn main() {
     if order == Order::Same {
         blocks::time_marks();
     }
-    delays::time_marks(order, has_argument("--without-after"));
+    delays::time_marks(order, &LeftOut::of_arguments());
 }
 
 fn workload(name: &'static str, rows: usize) -> Workload {

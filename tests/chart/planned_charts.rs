@@ -51,6 +51,10 @@ fn entry_numbers() -> Charts {
                 "after\t0\n",
                 "after\t99\t5\n",
                 "after\t0\t2000000001\n",
+                "cut\t0\n",
+                "cut\t99\t0\n",
+                "change\t0\t99\n",
+                "change\t0\t0\n",
             ];
             rests.map(|rest| [events(index), format!("{number}\t{rest}").into_bytes()].concat())
         })
@@ -74,7 +78,7 @@ fn line_lengths() -> Charts {
 /// A chart of every kind of operator with each byte in turn replaced by every other.
 fn changed_bytes() -> Charts {
     let chart = b"0\tevent\t255\n1\tseq\t0\t0\n2\t-[]\t1\t0\n3\toverlaps\t2\t0\n4\tlasts\t3\t2000000000\n\
-        5\tafter\t4\t2000000000\n";
+        5\tafter\t4\t2000000000\n6\tcut\t5\t0\n7\tchange\t6\t6\n";
     Box::new((0..chart.len()).flat_map(move |place| {
         (0..=u8::MAX).map(move |byte| {
             let mut changed = chart.to_vec();

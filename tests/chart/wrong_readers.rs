@@ -4,9 +4,9 @@
 use common::careless::{with_last_byte, without_carriage_returns};
 use common::harness::Named;
 use common::paper::lines;
-use common::plain_chart::{check, has_lower_operands, record, Entry, Operator, Verdict, TAKEN};
+use common::plain_chart::{check, has_lower_operands, record, Entry, Nearest, Operator, Verdict, TAKEN};
 
-pub const ALL: [Named<fn(&[u8]) -> Verdict>; 12] = [
+pub const ALL: [Named<fn(&[u8]) -> Verdict>; 18] = [
     ("refusal 5 before 6", operand_before_range),
     ("lines counted from 0", lines_from_0),
     ("a last line taken without byte 10", |bytes| check(&with_last_byte(bytes))),
@@ -15,10 +15,16 @@ pub const ALL: [Named<fn(&[u8]) -> Verdict>; 12] = [
     ("empty lines skipped", empty_lines_skipped),
     ("spaces taken for tabs", spaces_as_tabs),
     ("all after a byte 0 left out", text_before_0),
-    ("after: not known", |bytes| with_delays_as(bytes, b"later")),
-    ("after: its length taken for an operand", |bytes| with_delays_as(bytes, b"and")),
+    ("after: not known", |bytes| with_word_as(bytes, b"after", b"later")),
+    ("after: its length taken for an operand", |bytes| with_word_as(bytes, b"after", b"and")),
     ("after: a length above 2,000,000,000 taken", any_delay),
     ("after: 5 before 6", delay_before_range),
+    ("cut: not known", |bytes| with_word_as(bytes, b"cut", b"!")),
+    ("cut: its second operand taken for a length", |bytes| with_word_as(bytes, b"cut", b"lasts")),
+    ("cut: one operand only", |bytes| with_word_as(bytes, b"cut", b"event")),
+    ("change: not known", |bytes| with_word_as(bytes, b"change", b"!!")),
+    ("change: its second operand taken for a length", |bytes| with_word_as(bytes, b"change", b"lasts")),
+    ("change: one entry as both operands refused", different_operands),
 ];
 
 fn operand_before_range(bytes: &[u8]) -> Verdict {
@@ -33,9 +39,9 @@ fn operand_before_range(bytes: &[u8]) -> Verdict {
     }
 }
 
-/// Every `after` read as another word.
-fn with_delays_as(bytes: &[u8], word: &[u8]) -> Verdict {
-    let field = |field: &[u8]| if field == b"after" { word.to_vec() } else { field.to_vec() };
+/// Every such word read as another.
+fn with_word_as(bytes: &[u8], word: &[u8], other: &[u8]) -> Verdict {
+    let field = |field: &[u8]| if field == word { other.to_vec() } else { field.to_vec() };
     let line = |line: &[u8]| line.split(|byte| *byte == b'\t').map(field).collect::<Vec<_>>().join(&b'\t');
     check(&lines(bytes).flat_map(line).collect::<Vec<u8>>())
 }
@@ -61,6 +67,21 @@ fn delay_before_range(bytes: &[u8]) -> Verdict {
     match refused_delay(bytes, verdict) {
         Some((entry, index)) if verdict.refusal == 6 && !has_lower_operands(&entry, index) => {
             Verdict { refusal: 5, ..verdict }
+        }
+        _ => verdict,
+    }
+}
+
+/// Refuses the first `change` of one entry that it comes to, where nothing before it is refused.
+fn different_operands(bytes: &[u8]) -> Verdict {
+    let verdict = check(bytes);
+    let is_refused = |line| {
+        let change = record(line).filter(|(_, entry)| entry.operator == Operator::Nearest(Nearest::Change));
+        change.is_some_and(|(_, entry)| entry.first == entry.second)
+    };
+    match lines(bytes).position(is_refused) {
+        Some(index) if verdict == TAKEN || (index as u32) < verdict.line => {
+            Verdict { refusal: 5, line: index as u32 + 1 }
         }
         _ => verdict,
     }

@@ -1,4 +1,5 @@
-//! Charts as the C interface passes them: operator codes in the order of document 01's operator table, then `after`.
+//! Charts as the C interface passes them: operator codes in the order of document 01's operator table, then `after`,
+//! `cut` and `change`.
 
 use crate::interface::{self, Chart};
 use crate::plain_chart::{has_lower_operands, is_in_range, operator, Entry, Operator, MOST_ENTRIES, WORDS};

@@ -6,6 +6,7 @@ pub mod careless;
 pub mod chart_value;
 pub mod harness;
 pub mod interface;
+pub mod left_out;
 pub mod paper;
 pub mod plain_chart;
 pub mod plain_watch;

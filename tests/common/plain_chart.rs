@@ -19,6 +19,13 @@ pub enum Relation {
     Equals,
 }
 
+/// The operators that pair r with the first rows s behind it; of `change`, r is also the last before s.
+#[derive(Clone, Copy, Debug, PartialEq)]
+pub enum Nearest {
+    Cut,
+    Change,
+}
+
 /// An edge of an absence: a closed one forbids at the very instant too.
 #[derive(Clone, Copy, Debug, PartialEq)]
 pub enum Edge {
@@ -42,6 +49,7 @@ pub enum Operator {
     Absence(Edge, Edge),
     Length(LengthTest),
     After,
+    Nearest(Nearest),
 }
 
 /// An entry: `first` is the code or the operand a, `second` the operand b or the length d, 0 for `event`.
@@ -62,10 +70,10 @@ pub struct Verdict {
 
 pub const TAKEN: Verdict = Verdict { refusal: 0, line: 0 };
 
-/// Every operator word, in the order of document 01's table; request N1's stands behind them.
-pub const WORDS: [&str; 18] = [
+/// Every operator word, in the order of document 01's table; those of requests N1 and N5 stand behind them.
+pub const WORDS: [&str; 20] = [
     "event", "seq", "or", "and", "-[]", "-][", "-[[", "-]]", "meets", "overlaps", "starts", "during", "finishes",
-    "equals", "lasts", "atmost", "atleast", "after",
+    "equals", "lasts", "atmost", "atleast", "after", "cut", "change",
 ];
 
 /// "In the four absences the first sign is the early edge and the second the late one": an early `[` and a late `]` are
@@ -90,6 +98,8 @@ pub fn operator(word: &[u8]) -> Option<Operator> {
         b"atmost" => Operator::Length(LengthTest::AtMost),
         b"atleast" => Operator::Length(LengthTest::AtLeast),
         b"after" => Operator::After,
+        b"cut" => Operator::Nearest(Nearest::Cut),
+        b"change" => Operator::Nearest(Nearest::Change),
         _ => return None,
     })
 }

@@ -19,9 +19,10 @@ pub const SPELLINGS: [&str; 30] = [
 ];
 
 /// Words that are no operator, most of them close to one.
-const WRONG_WORDS: [&str; 22] = [
+const WRONG_WORDS: [&str; 29] = [
     "", "Event", "EVENT", "even", "events", "event ", " seq", "-[", "-[]]", "[]", "-()", "-[)", "-", "atmos", "atleas",
-    "at most", "afte", "afters", "After", "cut", "x", "\u{e9}vent",
+    "at most", "afte", "afters", "After", "cu", "cuts", "Cut", "cut ", "chang", "changes", "Change", "!", "x",
+    "\u{e9}vent",
 ];
 
 /// Bytes that mean something to a reader of text, or that a careless one takes for something else.

@@ -6,6 +6,9 @@ use crate::random::Random;
 
 /// The most leaves of a recognition's tree in `any`.
 const MOST_LEAVES: usize = 3;
+/// What searches for rows by their end; those with an edge of their own twice.
+const SEARCHED: [&str; 11] =
+    ["meets", "overlaps", "starts", "during", "meets", "overlaps", "starts", "during", "seq", "cut", "change"];
 const LENGTHS: [u32; 5] = [7, 999_999_999, 1_000_000_000, 1_999_999_999, 2_000_000_000];
 
 /// Draws an entry over earlier ones with the leaves given, as its line's operator and operands, and its own leaves.
@@ -14,7 +17,7 @@ type DrawEntry = fn(&mut Random, &[usize], usize) -> (String, usize);
 /// A sound chart and a log of up to 30 lines, in which a mark or a forget is refused now and then.
 pub fn any(random: &mut Random) -> Vec<u8> {
     let operators = random.below(8);
-    let draw = random.pick(&[chart, delay_chart]);
+    let draw = random.pick(&[chart, delay_chart, nearest_chart]);
     format!("{}\n{}", draw(random, operators, MOST_LEAVES), log(random)).into_bytes()
 }
 
@@ -31,6 +34,16 @@ pub fn delay_chart(random: &mut Random, operators: usize, most_leaves: usize) ->
     let event_entries = 1 + random.below(3);
     let others = (0..operators).map(|_| random.pick(&[delay, entry, entry_over_last]));
     let draws: Vec<DrawEntry> = std::iter::once(delay as DrawEntry).chain(others).collect();
+    chart_of(random, event_entries, &draws, most_leaves)
+}
+
+/// A sound chart of one to three events, intervals, mostly others among these, a `cut` or a `change`, and so many
+/// operators more, many of them such too or over their rows.
+pub fn nearest_chart(random: &mut Random, operators: usize, most_leaves: usize) -> String {
+    let event_entries = 1 + random.below(3);
+    let others = (0..operators).map(|_| random.pick(&[nearest, nearest, nearest, entry, entry_over_last, delay]));
+    let draws: Vec<DrawEntry> = [interval as DrawEntry, mixed, nearest].into_iter().chain(others).collect();
+    let draws = if random.one_in(3) { [&draws[..1], &draws[2..]].concat() } else { draws };
     chart_of(random, event_entries, &draws, most_leaves)
 }
 
@@ -67,10 +80,22 @@ pub fn short_interval_chart(random: &mut Random, operators: usize) -> String {
     let longest = 1 + random.below(6);
     let mut text = format!("0\tevent\t1\n1\tevent\t2\n2\tseq\t0\t1\n3\tatmost\t2\t{longest}\n");
     for index in 4..4 + operators {
-        let word =
-            random.pick(&["meets", "overlaps", "starts", "during", "meets", "overlaps", "starts", "during", "seq"]);
+        let word = random.pick(&SEARCHED);
         let (a, b) = (random.pick(&[2, 3, 3, 0, 1, index - 1]), random.pick(&[3, 3, 3, 3, 3, 2, index - 1]));
         text += &format!("{index}\t{word}\t{a}\t{b}\n");
+    }
+    text
+}
+
+/// A sound chart of three events, waits of two of them, and so many `cut` and `change` of these: a long wait begins
+/// before a short one and ends after it.
+pub fn crossing_chart(random: &mut Random, operators: usize) -> String {
+    let (long, short) = (2 + random.below(8), random.below(4));
+    let events = "0\tevent\t1\n1\tevent\t2\n2\tevent\t3\n";
+    let mut text = format!("{events}3\tafter\t0\t{long}\n4\tafter\t1\t{short}\n5\tor\t3\t4\n");
+    for index in 6..6 + operators {
+        let (word, a) = (random.pick(&["cut", "change", "change"]), random.pick(&[5, 5, 5, 0, index - 1]));
+        text += &format!("{index}\t{word}\t{a}\t{}\n", random.pick(&[2, 2, 1, 5, index - 1]));
     }
     text
 }
@@ -102,7 +127,7 @@ fn entry_over(random: &mut Random, (a, b): (usize, usize), leaves: &[usize], mos
             (format!("{word}\t{a}\t{length}"), leaves[a])
         }
         Some(Operator::Absence(..)) => (format!("{word}\t{a}\t{b}"), leaves[a]),
-        Some(Operator::Pair(_)) if leaves[a] + leaves[b] <= most_leaves => {
+        Some(Operator::Pair(_) | Operator::Nearest(_)) if leaves[a] + leaves[b] <= most_leaves => {
             (format!("{word}\t{a}\t{b}"), leaves[a] + leaves[b])
         }
         _ => (format!("or\t{a}\t{b}"), leaves[a].max(leaves[b])),
@@ -113,6 +138,30 @@ fn entry_over(random: &mut Random, (a, b): (usize, usize), leaves: &[usize], mos
 fn delay(random: &mut Random, leaves: &[usize], _: usize) -> (String, usize) {
     let a = if random.one_in(2) { leaves.len() - 1 } else { random.below(leaves.len()) };
     (format!("after\t{a}\t{}", delay_length(random)), leaves[a])
+}
+
+/// Rows that last, of events: pairs, or delayed ones.
+fn interval(random: &mut Random, leaves: &[usize], _: usize) -> (String, usize) {
+    let (a, b) = (random.below(leaves.len()), random.below(leaves.len()));
+    match random.below(4) {
+        0 => (format!("after\t{a}\t{}", 1 + random.below(6)), 1),
+        1 => (format!("and\t{a}\t{b}"), 2),
+        _ => (format!("seq\t{a}\t{b}"), 2),
+    }
+}
+
+/// The last entry's rows among those of another, which may begin and end within them.
+fn mixed(random: &mut Random, leaves: &[usize], _: usize) -> (String, usize) {
+    let (last, other) = (leaves.len() - 1, random.below(leaves.len()));
+    (format!("or\t{last}\t{other}"), leaves[last].max(leaves[other]))
+}
+
+/// A `cut` or a `change`, rather of later entries than of events; of events where too many leaves are drawn.
+fn nearest(random: &mut Random, leaves: &[usize], most_leaves: usize) -> (String, usize) {
+    let mut operand = || random.below(leaves.len()).max(random.below(leaves.len()));
+    let mut drawn = (0..4).map(|_| (operand(), operand()));
+    let (a, b) = drawn.find(|(a, b)| leaves[*a] + leaves[*b] <= most_leaves).unwrap_or((0, 0));
+    (format!("{}\t{a}\t{b}", random.pick(&["cut", "change"])), leaves[a] + leaves[b])
 }
 
 fn delay_length(random: &mut Random) -> u32 {

@@ -11,9 +11,9 @@ type Damage = fn(&mut Random, &mut Lines, usize);
 const TELLING_BYTES: [u8; 16] =
     [0, 8, b'\t', b'\n', 11, b'\r', b' ', b'-', b'+', b'0', b'1', b'9', b'/', b':', 0x7f, 0xff];
 
-const WORDS: [&str; 15] = [
+const WORDS: [&str; 17] = [
     "open", "event", "clock", "forget", "Open", "opens", "even", "event ", "clocks", "cloc", "forge", "seq", "", "-[]",
-    "after",
+    "after", "cut", "change",
 ];
 
 const DAMAGES: [Damage; 18] = [

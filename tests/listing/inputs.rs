@@ -32,11 +32,13 @@ pub struct Kind {
     pub draw: fn(&mut Random) -> Case,
 }
 
-const KINDS: [Kind; 11] = [
+const KINDS: [Kind; 13] = [
     Kind { name: "sound", share: 20, draw: |random| on_full_table(sound(random)) },
     Kind { name: "small table", share: 10, draw: on_small_table },
     Kind { name: "delays", share: 16, draw: |random| on_full_table(with_delays(random)) },
     Kind { name: "delays, small table", share: 6, draw: with_delays_on_small_table },
+    Kind { name: "cut and change", share: 16, draw: |random| on_full_table(with_nearest(random)) },
+    Kind { name: "cut and change, small table", share: 6, draw: with_nearest_on_small_table },
     Kind { name: "damaged", share: 34, draw: |random| on_full_table(damaged(random)) },
     Kind { name: "damaged chart", share: 12, draw: |random| on_full_table(damaged_chart(random)) },
     Kind { name: "edge of the range", share: 12, draw: |random| on_full_table(at_an_edge(random)) },
@@ -87,6 +89,20 @@ fn with_delays(random: &mut Random) -> Vec<u8> {
 fn with_delays_on_small_table(random: &mut Random) -> Case {
     let table_rows = random.below(60);
     Case { input: with_delays(random), table_rows }
+}
+
+/// The same with a `cut` or `change` among the operators.
+fn with_nearest(random: &mut Random) -> Vec<u8> {
+    let opening = opening(random);
+    let (length, longest_step) = (random.below(40), random.pick(&[2, 3, 12]));
+    let log = log(random, opening, length, longest_step);
+    let (operators, most_leaves) = (random.below(7), random.pick(&[3, 4]));
+    format!("{}\n{log}", random_inputs::nearest_chart(random, operators, most_leaves)).into_bytes()
+}
+
+fn with_nearest_on_small_table(random: &mut Random) -> Case {
+    let table_rows = random.below(60);
+    Case { input: with_nearest(random), table_rows }
 }
 
 fn chart(random: &mut Random) -> String {

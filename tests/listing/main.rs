@@ -10,7 +10,7 @@ mod wrong_programs;
 
 use common::harness::{self, Compared, Met as _, Named, Test, LEAST_MET};
 use common::paper::{self, lines};
-use common::plain_chart::{self, Operator};
+use common::plain_chart::{self, Entry, Nearest, Operator};
 use common::random::Random;
 use inputs::Case;
 use oracle::listing::{listing, TABLE_ROWS};
@@ -28,6 +28,7 @@ const SELF_TEST_INPUTS: usize = 4_000;
 const LONG_EVENTS: usize = 100_000;
 const LONG_FILLINGS: [usize; 2] = [100, 2_900];
 const FULL_TABLE_EVENTS: usize = 10_000;
+const NEAREST: [Nearest; 2] = [Nearest::Cut, Nearest::Change];
 
 /// What a program prints for an input on a table of so many rows, or what else is wrong.
 type Program<'a> = dyn FnMut(&[u8], usize) -> Result<Vec<u8>, String> + 'a;
@@ -74,6 +75,8 @@ struct Met {
     by_start: [usize; 2],
     /// How many had delayed rows, of which none, one or many ends have no other row, without a forget and with one.
     delayed: [[usize; 3]; 2],
+    /// How many had rows of `cut` and of `change`, without a forget and with one.
+    nearest: [[usize; NEAREST.len()]; 2],
 }
 
 impl Met {
@@ -88,9 +91,18 @@ impl Met {
             self.full_tables += usize::from(rows == case.table_rows);
             let has_forget = lines(&case.input).any(|line| line.starts_with(b"forget"));
             self.by_start[usize::from(has_forget)] += usize::from(has_rows_by_start(printed));
-            if let Some(ends) = ends_of_delays_alone(&case.input, printed) {
-                self.delayed[usize::from(has_forget)][ends.min(2)] += 1;
+            if let Some(entries) = entries_of(&case.input) {
+                self.count_operators(&entries, usize::from(has_forget), printed);
             }
+        }
+    }
+
+    fn count_operators(&mut self, entries: &[Entry], has_forget: usize, printed: &[u8]) {
+        if let Some(ends) = ends_of_delays_alone(entries, printed) {
+            self.delayed[has_forget][ends.min(2)] += 1;
+        }
+        for (operator, count) in NEAREST.into_iter().zip(&mut self.nearest[has_forget]) {
+            *count += usize::from(!ends_of(Operator::Nearest(operator), entries, &rows_of(printed)).is_empty());
         }
     }
 }
@@ -101,21 +113,27 @@ fn rows_of(printed: &[u8]) -> Vec<Vec<&[u8]>> {
     lines(printed).skip(1).map(fields).collect()
 }
 
-/// How many ends a listing has at which no event happened; none where it has no delayed row.
-fn ends_of_delays_alone(input: &[u8], printed: &[u8]) -> Option<usize> {
+/// The entries of an input's chart; none where it is refused.
+fn entries_of(input: &[u8]) -> Option<Vec<Entry>> {
     let chart: Vec<&[u8]> = lines(input).take_while(|line| *line != b"\n").collect();
-    let entries = plain_chart::read(&chart.concat()).ok()?;
+    plain_chart::read(&chart.concat()).ok()
+}
+
+/// How many ends a listing has at which no event happened; none where it has no delayed row.
+fn ends_of_delays_alone(entries: &[Entry], printed: &[u8]) -> Option<usize> {
     let rows = rows_of(printed);
-    let of = |operator: Operator| {
-        let is_of = |row: &&Vec<&[u8]>| operator_at(&entries, row[1]) == Some(operator);
-        rows.iter().filter(is_of).map(|row| row[5]).collect::<BTreeSet<&[u8]>>()
-    };
-    let delayed = of(Operator::After);
-    (!delayed.is_empty()).then(|| delayed.difference(&of(Operator::Event)).count())
+    let delayed = ends_of(Operator::After, entries, &rows);
+    (!delayed.is_empty()).then(|| delayed.difference(&ends_of(Operator::Event, entries, &rows)).count())
+}
+
+/// The ends of an operator's rows.
+fn ends_of<'a>(operator: Operator, entries: &[Entry], rows: &[Vec<&'a [u8]>]) -> BTreeSet<&'a [u8]> {
+    let is_of = |row: &&Vec<&[u8]>| operator_at(entries, row[1]) == Some(operator);
+    rows.iter().filter(is_of).map(|row| row[5]).collect()
 }
 
 /// The operator of the entry that a field names.
-fn operator_at(entries: &[plain_chart::Entry], field: &[u8]) -> Option<Operator> {
+fn operator_at(entries: &[Entry], field: &[u8]) -> Option<Operator> {
     entries.get(paper::number(field)? as usize).map(|entry| entry.operator)
 }
 
@@ -129,20 +147,29 @@ fn has_rows_by_start(printed: &[u8]) -> bool {
 impl harness::Met for Met {
     fn nothing() -> Met {
         let refusals = (0..=12).map(|number| (number, 0)).collect();
-        Met { refusals, kinds: BTreeMap::new(), rows: 0, full_tables: 0, by_start: [0; 2], delayed: [[0; 3]; 2] }
+        Met {
+            refusals,
+            kinds: BTreeMap::new(),
+            rows: 0,
+            full_tables: 0,
+            by_start: [0; 2],
+            delayed: [[0; 3]; 2],
+            nearest: [[0; NEAREST.len()]; 2],
+        }
     }
 
     /// 10 takes a million events and is met once.
     fn is_enough(&self) -> bool {
         let least = |number: u32| if number == 10 { 1 } else { LEAST_MET };
-        let mut listings = self.by_start.iter().chain([&self.full_tables]).chain(self.delayed.as_flattened());
+        let operators = self.delayed.as_flattened().iter().chain(self.nearest.as_flattened());
+        let mut listings = self.by_start.iter().chain([&self.full_tables]).chain(operators);
         self.refusals.iter().all(|(number, count)| *count >= least(*number))
             && listings.all(|count| *count >= LEAST_MET)
     }
 
     fn print(&self) {
         println!("{} inputs, no difference", self.kinds.values().sum::<usize>());
-        self.kinds.iter().for_each(|(kind, count)| println!("  {kind:<19} {count:>7}"));
+        self.kinds.iter().for_each(|(kind, count)| println!("  {kind:<27} {count:>7}"));
         let counts: Vec<String> = self.refusals.iter().map(|(number, count)| format!("{number}: {count}")).collect();
         println!("refused with each number (0: not refused)\n  {}", counts.join("  "));
         println!("{} rows listed, {} tables full to the last row", self.rows, self.full_tables);
@@ -151,6 +178,10 @@ impl harness::Met for Met {
         println!("listings with delayed rows that alone have no end, one or many ends of theirs");
         for (forget, [none, one, many]) in ["no forget", "a forget"].iter().zip(self.delayed) {
             println!("  {forget:<9}  none: {none}  one: {one}  many: {many}");
+        }
+        println!("listings with rows of cut and of change");
+        for (forget, [cut, change]) in ["no forget", "a forget"].iter().zip(self.nearest) {
+            println!("  {forget:<9}  cut: {cut}  change: {change}");
         }
     }
 }
@@ -191,7 +222,7 @@ fn compare_short(program: &mut Program, per_seed: usize, met: &mut Met) -> Compa
         met.count(kind, &case, &expected);
         compare(program, &case, &expected)
     };
-    planned::all().try_for_each(|case| compare_case("P1 damaged", case))?;
+    planned::all().try_for_each(|(kind, case)| compare_case(kind, case))?;
     for seed in SEEDS {
         let mut random = Random::new(seed);
         for _ in 0..per_seed {

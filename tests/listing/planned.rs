@@ -1,27 +1,35 @@
-//! Inputs by plan: document 01's P1 with every small damage.
+//! Inputs by plan, with every small damage: document 01's P1, and one with `cut` and `change`.
 
 use crate::inputs::Case;
 use oracle::listing::TABLE_ROWS;
 
 pub const P1: &[u8] = b"0\tevent\t1\n1\tevent\t2\n2\tevent\t3\n3\tseq\t0\t1\n4\t-[[\t3\t2\n\n\
     open\t-2\nevent\t1\nclock\t0\nevent\t2\nclock\t3\nevent\t3\nevent\t2\nclock\t4\n";
-/// P1 has 8 rows.
-const P1_ROWS: usize = 8;
+/// Document 003's `A!((B D)||F)` over a at 1, b at 2, f at 3 and d at 4, as a `cut` and as a `change`.
+const FIRST_AFTER: &[u8] = b"0\tevent\t1\n1\tevent\t2\n2\tevent\t3\n3\tevent\t4\n4\tseq\t1\t2\n5\tor\t4\t3\n\
+    6\tcut\t0\t5\n7\tchange\t0\t5\n\n\
+    open\t1\nevent\t1\nclock\t2\nevent\t2\nclock\t3\nevent\t4\nclock\t4\nevent\t3\nclock\t5\n";
+/// By name, and how many rows it has.
+const INPUTS: [(&str, &[u8], usize); 2] = [("P1 damaged", P1, 8), ("cut and change damaged", FIRST_AFTER, 9)];
 
-/// P1 cut at each place, with each byte left out, doubled, and changed to each value; and on each small table.
-pub fn all() -> impl Iterator<Item = Case> {
-    let places = || 0..P1.len();
-    let cut = places().map(|place| P1[..place].to_vec());
-    let without = places().map(|place| [&P1[..place], &P1[place + 1..]].concat());
-    let doubled = places().map(|place| [&P1[..=place], &P1[place..]].concat());
-    let changed = places().flat_map(|place| (0..=255).map(move |byte| with_byte(place, byte)));
+/// Each input cut at each place, with each byte left out, doubled, and changed to each value; and on each small table.
+pub fn all() -> impl Iterator<Item = (&'static str, Case)> {
+    INPUTS.into_iter().flat_map(|(name, input, rows)| of(input, rows).map(move |case| (name, case)))
+}
+
+fn of(input: &'static [u8], rows: usize) -> impl Iterator<Item = Case> {
+    let places = || 0..input.len();
+    let cut = places().map(|place| input[..place].to_vec());
+    let without = places().map(|place| [&input[..place], &input[place + 1..]].concat());
+    let doubled = places().map(|place| [&input[..=place], &input[place..]].concat());
+    let changed = places().flat_map(move |place| (0..=255).map(move |byte| with_byte(input, place, byte)));
     let damaged = cut.chain(without).chain(doubled).chain(changed);
-    let on_tables = (0..=P1_ROWS + 1).map(|table_rows| Case { input: P1.to_vec(), table_rows });
+    let on_tables = (0..=rows + 1).map(|table_rows| Case { input: input.to_vec(), table_rows });
     damaged.map(|input| Case { input, table_rows: TABLE_ROWS }).chain(on_tables)
 }
 
-fn with_byte(place: usize, byte: u8) -> Vec<u8> {
-    let mut input = P1.to_vec();
-    input[place] = byte;
-    input
+fn with_byte(input: &[u8], place: usize, byte: u8) -> Vec<u8> {
+    let mut changed = input.to_vec();
+    changed[place] = byte;
+    changed
 }

@@ -9,7 +9,7 @@ use plain_listing::list;
 /// What a program prints for an input on a table of so many rows.
 pub type Listing = fn(&[u8], usize) -> Vec<u8>;
 
-pub const ALL: [Named<Listing>; 24] = [
+pub const ALL: [Named<Listing>; 29] = [
     ("line number one too high in the log", |i, n| log_line_moved(i, n, 1)),
     ("empty line not counted", |i, n| log_line_moved(i, n, -1)),
     ("log lines counted from the log's first", counted_from_log),
@@ -32,6 +32,11 @@ pub const ALL: [Named<Listing>; 24] = [
     ("one row more than the table holds", |i, n| list_all(i, n + 1)),
     ("after not known", |i, n| list_all(&with_word(i, b"after", b"later"), n)),
     ("after taken for a length test", |i, n| list_all(&with_word(i, b"after", b"atleast"), n)),
+    ("cut not known", |i, n| list_all(&with_word(i, b"cut", b"!"), n)),
+    ("change not known", |i, n| list_all(&with_word(i, b"change", b"!!"), n)),
+    ("cut taken for seq", |i, n| list_all(&with_word(i, b"cut", b"seq"), n)),
+    ("change taken for cut", |i, n| list_all(&with_word(i, b"change", b"cut"), n)),
+    ("cut taken for change", |i, n| list_all(&with_word(i, b"cut", b"change"), n)),
     ("one fixed listing", |_, _| b"row\tentry\tleft\tright\tstart\tend\n".to_vec()),
     ("everything refused", |_, _| b"refused\t7\t1\n".to_vec()),
 ];

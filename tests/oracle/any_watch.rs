@@ -2,14 +2,14 @@
 //! that no history made: refusals 14 and 13 first, then the step on the rows of the table, by set-building over row
 //! numbers.
 
-use crate::conditions::{has_length, is_forbidding, is_related, Interval};
+use crate::conditions::{has_length, is_forbidding, is_related, is_rival_of_first, is_rival_of_second, Interval};
 use crate::consistency;
 use crate::layout::{self, flat, rows_held, rows_in_use};
 use crate::model::{Call, INSTANTS, MOST_EVENTS, MOST_PENDING};
 use crate::recognitions::Row;
 use common::chart_value;
 use common::interface::{Answer, Chart, Watch};
-use common::plain_chart::{Entry, Operator};
+use common::plain_chart::{Entry, Nearest, Operator, Relation};
 use std::cmp::Reverse;
 use std::ops::Range;
 
@@ -179,7 +179,23 @@ fn rows_of<'a>(
             Box::new(a.filter(move |r| has_length(test, interval(*r), entry.second as i64)).map(one))
         }
         Operator::After => Box::new(a.map(move |r| row(r as i64, NONE, interval(r).delayed(entry.second as i64)))),
+        Operator::Nearest(nearest) => {
+            let pairs = a.flat_map(move |r| b.clone().map(move |s| (r, s)));
+            let nearest = pairs.filter(move |(r, s)| is_nearest(nearest, entry, interval(*r), interval(*s), rows));
+            Box::new(nearest.map(move |(r, s)| row(r as i64, s as i64, Interval::spanning(interval(r), interval(s)))))
+        }
     }
+}
+
+/// Whether r and s, rows of the operands of a `cut` or `change`, are a pair of it among these rows.
+fn is_nearest(nearest: Nearest, entry: &Entry, r: Interval, s: Interval, rows: &[Row]) -> bool {
+    let of = |operand: u64| {
+        let rows = rows.iter().filter(move |row| row.entry as u64 == operand);
+        rows.map(|row| Interval { start: row.start, end: row.end })
+    };
+    is_related(Relation::Seq, r, s)
+        && !of(entry.second).any(|other| is_rival_of_second(r, s, other))
+        && !(nearest == Nearest::Change && of(entry.first).any(|other| is_rival_of_first(r, s, other)))
 }
 
 /// The serials of the pending events of a code. The last of them is the count.
@@ -213,7 +229,9 @@ fn tree_lengths(chart: &[Entry], rows: &[Row]) -> Vec<u64> {
         let part = |reference: i64| if reference == NONE { 1 } else { lengths[reference as usize] };
         let length = match chart[row.entry].operator {
             Operator::Event => 1 + row.left.to_string().len() as u64,
-            Operator::Or | Operator::Pair(_) => part(row.left).saturating_add(part(row.right)).saturating_add(3),
+            Operator::Or | Operator::Pair(_) | Operator::Nearest(_) => {
+                part(row.left).saturating_add(part(row.right)).saturating_add(3)
+            }
             Operator::Absence(..) | Operator::Length(_) | Operator::After => part(row.left).saturating_add(2),
         };
         lengths.push(length);
@@ -229,7 +247,7 @@ fn tree_text(chart: &[Entry], rows: &[Row], reference: i64) -> String {
     let part = |reference: i64| tree_text(chart, rows, reference);
     match chart[row.entry].operator {
         Operator::Event => format!("e{}", row.left),
-        Operator::Or | Operator::Pair(_) => format!("<{},{}>", part(row.left), part(row.right)),
+        Operator::Or | Operator::Pair(_) | Operator::Nearest(_) => format!("<{},{}>", part(row.left), part(row.right)),
         Operator::Absence(..) | Operator::Length(_) | Operator::After => format!("<{}>", part(row.left)),
     }
 }

@@ -40,6 +40,16 @@ pub fn is_forbidding(early: Edge, late: Edge, r: Interval, s: Interval) -> bool 
     from && to
 }
 
+/// Request N5, of `cut` and `change`: "no other row s' of b starts after end r and ends before end s"; s is none.
+pub fn is_rival_of_second(r: Interval, s: Interval, other: Interval) -> bool {
+    other.start > r.end && other.end < s.end
+}
+
+/// Request N5, of `change`: "no r' of a has start r' >= start r and end r < end r' < start s".
+pub fn is_rival_of_first(r: Interval, s: Interval, other: Interval) -> bool {
+    other.start >= r.start && r.end < other.end && other.end < s.start
+}
+
 /// With the limits that request N2 includes.
 pub fn has_length(test: LengthTest, r: Interval, length: i64) -> bool {
     match test {

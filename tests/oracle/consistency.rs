@@ -4,7 +4,7 @@ use crate::conditions::{has_length, is_related, Interval};
 use crate::layout::rows_held;
 use crate::model::{INSTANTS, MOST_EVENTS, MOST_PENDING};
 use common::interface::Watch;
-use common::plain_chart::{Entry, Operator};
+use common::plain_chart::{Entry, Operator, Relation};
 use std::collections::BTreeSet;
 
 /// A cause of that paragraph.
@@ -147,7 +147,9 @@ fn operands(entry: &Entry, row: Numbers, lower: &[Numbers]) -> Result<(Interval,
         of_operand.map(|named| named.interval).ok_or(Cause::ReferenceNotLowerRowOfOperand)
     };
     match (entry.operator, row.left != -1, row.right != -1) {
-        (Operator::Pair(_), true, true) => Ok((operand(row.left, entry.first)?, operand(row.right, entry.second)?)),
+        (Operator::Pair(_) | Operator::Nearest(_), true, true) => {
+            Ok((operand(row.left, entry.first)?, operand(row.right, entry.second)?))
+        }
         (Operator::Or | Operator::Absence(..) | Operator::Length(_) | Operator::After, true, false) => {
             operand(row.left, entry.first).map(|r| (r, r))
         }
@@ -157,7 +159,7 @@ fn operands(entry: &Entry, row: Numbers, lower: &[Numbers]) -> Result<(Interval,
 }
 
 /// "Or whose start, end or non-absence condition disagrees with them"; of a delay, "the same start and end = end r +
-/// d".
+/// d"; of `cut` and `change`, "the out-of-joint rule checks only end r < start s".
 fn add_disagreements(entry: &Entry, interval: Interval, r: Interval, s: Interval, found: &mut BTreeSet<Cause>) {
     let delay = if entry.operator == Operator::After { entry.second as i64 } else { 0 };
     let made = Interval::spanning(r, s).delayed(delay);
@@ -169,6 +171,7 @@ fn add_disagreements(entry: &Entry, interval: Interval, r: Interval, s: Interval
     }
     let fulfilled = match entry.operator {
         Operator::Pair(relation) => is_related(relation, r, s),
+        Operator::Nearest(_) => is_related(Relation::Seq, r, s),
         Operator::Length(test) => has_length(test, r, entry.second as i64),
         Operator::Event | Operator::Or | Operator::Absence(..) | Operator::After => true,
     };

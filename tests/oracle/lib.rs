@@ -4,7 +4,7 @@
 //! uses proved code.
 
 pub mod any_watch;
-mod conditions;
+pub mod conditions;
 pub mod consistency;
 pub mod history;
 pub mod layout;

@@ -15,8 +15,8 @@ pub enum Over {
     AllEvents,
     /// Those at the floor or later and before the instant asked for, and only recognitions that end before it. The same
     /// rows come out, since "the events of a recognition that starts at the floor or later are all at the floor or
-    /// later, and so are those that could forbid it" (tests.rs compares the two), and no more are enumerated than the
-    /// table can hold, and one.
+    /// later, and so are those that could forbid it"; the rivals of `cut` and `change` start no earlier than r either.
+    /// tests.rs compares the two. No more are enumerated than the table can hold, and one.
     EventsFromFloor,
 }
 

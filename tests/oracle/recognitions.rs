@@ -1,8 +1,9 @@
 //! The recognitions of a chart over a list of events, by set-building. Document 01, "Operators of a chart" and "The
-//! book behind demand 3"; source document 003, definition 16; request N1 for `after`.
+//! book behind demand 3"; source document 003, definition 16; request N1 for `after`, request N5 for `cut` and
+//! `change`.
 
-use crate::conditions::{has_length, is_forbidding, is_related, Interval};
-use common::plain_chart::{Entry, Operator, Relation};
+use crate::conditions::{has_length, is_forbidding, is_related, is_rival_of_first, is_rival_of_second, Interval};
+use common::plain_chart::{Entry, Nearest, Operator, Relation};
 use std::cmp::Ordering;
 use std::ops::Range;
 
@@ -64,8 +65,8 @@ pub struct Limits {
 
 pub const NO_LIMITS: Limits = Limits { end_before: i64::MAX, most: usize::MAX };
 
-/// The recognitions of a chart over some events. What a recognition is made of, and what could forbid it, ends no later
-/// than it does, so that those left out by their end are missed by none.
+/// The recognitions of a chart over some events. What a recognition is made of, and what could forbid it or be a rival
+/// of its parts, ends no later than it does, so that those left out by their end are missed by none.
 pub fn enumerate(chart: &[Entry], events: &[Event], Limits { end_before, most }: Limits) -> Option<Recognitions> {
     let mut found = Recognitions { all: Vec::new(), of_entry: Vec::new() };
     for (number, entry) in chart.iter().enumerate() {
@@ -106,6 +107,7 @@ impl Recognitions {
             Operator::After => {
                 return Box::new(self.a(entry).map(move |r| self.delayed(number, r, entry.second as i64)))
             }
+            Operator::Nearest(nearest) => Box::new(self.nearest_pairs(nearest, entry)),
         };
         Box::new(parts.map(move |parts| self.recognition(number, parts)))
     }
@@ -125,6 +127,19 @@ impl Recognitions {
         self.a(entry).flat_map(move |r| {
             let related = move |s: &usize| is_related(relation, self.interval(r), self.interval(*s));
             self.b(entry).filter(related).map(move |s| Parts::Both(r, s))
+        })
+    }
+
+    /// "r and s with end r < start s", without a rival of s and, for `change`, without one of r.
+    fn nearest_pairs<'a>(&'a self, nearest: Nearest, entry: &'a Entry) -> impl Iterator<Item = Parts> + 'a {
+        let intervals = |of: Range<usize>| of.map(|index| self.interval(index));
+        let has_rival = move |r: Interval, s: Interval| {
+            intervals(self.b(entry)).any(|other| is_rival_of_second(r, s, other))
+                || nearest == Nearest::Change && intervals(self.a(entry)).any(|other| is_rival_of_first(r, s, other))
+        };
+        self.a(entry).flat_map(move |r| {
+            let is_pair = move |r: Interval, s: Interval| is_related(Relation::Seq, r, s) && !has_rival(r, s);
+            self.b(entry).filter(move |s| is_pair(self.interval(r), self.interval(*s))).map(move |s| Parts::Both(r, s))
         })
     }
 

@@ -15,7 +15,7 @@ use std::cmp::Reverse;
 use std::collections::BTreeSet;
 
 const INPUTS: usize = 30_000;
-const HISTORIES: usize = 5_000;
+const HISTORIES: usize = 8_000;
 const P1: &str = "0\tevent\t1\n1\tevent\t2\n2\tevent\t3\n3\tseq\t0\t1\n4\t-[[\t3\t2\n";
 
 fn chart(text: &str) -> Vec<Entry> {
@@ -195,6 +195,173 @@ fn delays_on_any_table() {
     assert_eq!(play(1, 5), (0, 1, [event, [0; 5], [0; 5]].concat()));
 }
 
+/// The trees of one entry's rows after events of these codes at these instants and a mark an instant later.
+fn trees_of(chart: &[Entry], entry: usize, log: &[(i64, &[u8])]) -> Vec<String> {
+    let mut model = opened(chart, log[0].0);
+    for (instant, codes) in log {
+        if *instant > model.open_instant {
+            model.clock(*instant).unwrap();
+        }
+        codes.iter().for_each(|code| model.event(*code).unwrap());
+    }
+    model.clock(model.open_instant + 1).unwrap();
+    trees_in(&model, entry)
+}
+
+fn trees_in(model: &Model, entry: usize) -> Vec<String> {
+    let of_entry = model.rows().into_iter().zip(model.trees()).filter(|(row, _)| row.entry == entry);
+    of_entry.map(|(_, tree)| tree).collect()
+}
+
+/// A `cut` and a `change` of two events.
+const OF_EVENTS: &str = "0\tevent\t1\n1\tevent\t2\n2\tcut\t0\t1\n3\tchange\t0\t1\n";
+
+/// The first s after each r: e3 comes second after e1. Of several r with one s `cut` has each, the later start first,
+/// and `change` the last.
+#[test]
+fn first_after_and_last_before() {
+    let chart = chart(OF_EVENTS);
+    let one_by_one: &[(i64, &[u8])] = &[(0, &[1]), (1, &[2]), (2, &[2]), (3, &[1]), (4, &[2])];
+    assert_eq!(trees_of(&chart, 2, one_by_one), ["<e1,e2>", "<e4,e5>"]);
+    assert_eq!(trees_of(&chart, 3, one_by_one), ["<e1,e2>", "<e4,e5>"]);
+    let two_before: &[(i64, &[u8])] = &[(0, &[1]), (1, &[1]), (2, &[2]), (3, &[2])];
+    assert_eq!(trees_of(&chart, 2, two_before), ["<e2,e3>", "<e1,e3>"]);
+    assert_eq!(trees_of(&chart, 3, two_before), ["<e2,e3>"]);
+}
+
+/// "Ties all count": two r of one instant, and two s of another.
+#[test]
+fn ties_of_events() {
+    let chart = chart(OF_EVENTS);
+    for entry in [2, 3] {
+        let trees = trees_of(&chart, entry, &[(0, &[1, 1]), (1, &[2, 2]), (2, &[2])]);
+        assert_eq!(trees, ["<e1,e3>", "<e1,e4>", "<e2,e3>", "<e2,e4>"]);
+    }
+}
+
+/// "End r < end r' < start s": r' at the instant of s is no rival of e1, r' an instant before is.
+#[test]
+fn last_before_the_start_of_s() {
+    let chart = chart(OF_EVENTS);
+    assert_eq!(trees_of(&chart, 3, &[(1, &[1]), (3, &[1, 2])]), ["<e1,e3>"]);
+    assert_eq!(trees_of(&chart, 3, &[(1, &[1]), (2, &[1]), (3, &[2])]), ["<e2,e3>"]);
+    assert_eq!(trees_of(&chart, 3, &[(1, &[1]), (2, &[2])]), ["<e1,e2>"], "r itself is no rival of r");
+}
+
+/// "Starts after end r": r is at 5. An s' from 5 to 7 is none that r could have, and keeps no later one from it; one
+/// from 6 to 7 is the first.
+#[test]
+fn rivals_start_after_the_end_of_r() {
+    let chart = chart("0\tevent\t1\n1\tevent\t2\n2\tevent\t3\n3\tseq\t1\t2\n4\tcut\t0\t3\n5\tchange\t0\t3\n");
+    for entry in [4, 5] {
+        let trees = trees_of(&chart, entry, &[(5, &[1, 2]), (7, &[3]), (8, &[2]), (9, &[3])]);
+        assert_eq!(trees, ["<e1,<e4,e5>>"], "s from 8 to 9, not from 5 to 9");
+        let trees = trees_of(&chart, entry, &[(5, &[1]), (6, &[2]), (7, &[3]), (8, &[2]), (9, &[3])]);
+        assert_eq!(trees, ["<e1,<e2,e3>>"], "s from 6 to 7, neither from 6 nor from 8 to 9");
+    }
+}
+
+/// "Ends before end s": what ends with s is no rival, whether it starts earlier or later; what ends an instant before
+/// is.
+#[test]
+fn rivals_end_before_the_end_of_s() {
+    let chart = chart("0\tevent\t1\n1\tevent\t2\n2\tevent\t3\n3\tseq\t1\t2\n4\tcut\t0\t3\n5\tchange\t0\t3\n");
+    for entry in [4, 5] {
+        let log: &[(i64, &[u8])] = &[(5, &[1]), (6, &[2]), (8, &[2]), (9, &[3])];
+        assert_eq!(trees_of(&chart, entry, log), ["<e1,<e3,e4>>", "<e1,<e2,e4>>"]);
+        let log: &[(i64, &[u8])] = &[(5, &[1]), (6, &[2]), (7, &[2]), (8, &[3]), (9, &[3])];
+        assert_eq!(trees_of(&chart, entry, log), ["<e1,<e3,e4>>", "<e1,<e2,e4>>"], "none that ends at 9");
+    }
+}
+
+/// "Start r' >= start r": r is from 1 to 2, r' ends at 3 and s is at 5. From 0 on it is no rival, from 1 on and from 2
+/// on it is.
+#[test]
+fn last_before_starts_no_earlier() {
+    let events = "0\tevent\t1\n1\tevent\t2\n2\tevent\t3\n3\tevent\t4\n4\tevent\t5\n";
+    let chart = chart(&format!("{events}5\tseq\t0\t1\n6\tseq\t3\t4\n7\tor\t5\t6\n8\tchange\t7\t2\n9\tcut\t7\t2\n"));
+    let from_0: &[(i64, &[u8])] = &[(0, &[4]), (1, &[1]), (2, &[2]), (3, &[5]), (5, &[3])];
+    assert_eq!(trees_of(&chart, 8, from_0), ["<<<e2,e3>,_>,e5>", "<<_,<e1,e4>>,e5>"]);
+    let from_1: &[(i64, &[u8])] = &[(1, &[4, 1]), (2, &[2]), (3, &[5]), (5, &[3])];
+    assert_eq!(trees_of(&chart, 8, from_1), ["<<_,<e1,e4>>,e5>"]);
+    assert_eq!(trees_of(&chart, 9, from_1), ["<<<e2,e3>,_>,e5>", "<<_,<e1,e4>>,e5>"], "cut has both");
+    let from_2: &[(i64, &[u8])] = &[(1, &[1]), (2, &[4, 2]), (3, &[5]), (5, &[3])];
+    assert_eq!(trees_of(&chart, 8, from_2), ["<<_,<e2,e4>>,e5>"]);
+}
+
+/// `A!((B D)||F)` of document 003 over a at 1, b at 2, f at 3 and d at 4. It ranks by start: b and d, which are
+/// complete at 4 only, would take f's place. Here the first by end stays what it was.
+#[test]
+fn nothing_shown_is_withdrawn() {
+    let events = "0\tevent\t1\n1\tevent\t2\n2\tevent\t3\n3\tevent\t4\n";
+    let chart = chart(&format!("{events}4\tseq\t1\t2\n5\tor\t4\t3\n6\tcut\t0\t5\n7\tchange\t0\t5\n"));
+    let log: &[(i64, &[u8])] = &[(1, &[1]), (2, &[2]), (3, &[4]), (4, &[3])];
+    for entry in [6, 7] {
+        assert!(trees_of(&chart, entry, &log[..2]).is_empty());
+        assert_eq!(trees_of(&chart, entry, &log[..3]), ["<e1,<_,e3>>"]);
+        assert_eq!(trees_of(&chart, entry, log), ["<e1,<_,e3>>"]);
+    }
+}
+
+/// One entry as both operands: each event with those of the next instant that has one.
+#[test]
+fn nearest_of_one_entry() {
+    let chart = chart("0\tevent\t1\n1\tcut\t0\t0\n2\tchange\t0\t0\n");
+    for entry in [1, 2] {
+        let trees = trees_of(&chart, entry, &[(1, &[1]), (2, &[1, 1]), (4, &[1])]);
+        assert_eq!(trees, ["<e1,e2>", "<e1,e3>", "<e2,e4>", "<e3,e4>"]);
+    }
+}
+
+/// Delayed rows as s, from 1 to 4 and from 2 to 5, by one mark: the first ends first. As r they part e1 from what
+/// follows them.
+#[test]
+fn nearest_over_delays() {
+    let chart = chart("0\tevent\t1\n1\tevent\t2\n2\tafter\t1\t3\n3\tcut\t0\t2\n4\tor\t0\t2\n5\tchange\t4\t0\n");
+    let mut model = opened(&chart, 0);
+    for (code, mark) in [(1, 1), (2, 2), (2, 10), (1, 11)] {
+        model.event(code).unwrap();
+        model.clock(mark).unwrap();
+    }
+    assert_eq!(trees_in(&model, 3), ["<e1,<e2>>"]);
+    assert_eq!(trees_in(&model, 5), ["<<_,<e3>>,e4>"], "neither e1 nor the delay that ends at 4");
+}
+
+/// A forget that takes r and keeps s takes their pair; what starts at the floor or later is as it was, and so is what
+/// comes.
+#[test]
+fn forget_between_r_and_its_rival() {
+    let chart = chart(OF_EVENTS);
+    let mut model = opened(&chart, 0);
+    for (code, mark) in [(1, 1), (1, 2), (2, 3)] {
+        model.event(code).unwrap();
+        model.clock(mark).unwrap();
+    }
+    assert_eq!(model.trees(), ["e1", "e2", "e3", "<e2,e3>", "<e1,e3>", "<e2,e3>"]);
+    model.forget(1).unwrap();
+    assert_eq!(model.trees(), ["e2", "e3", "<e2,e3>", "<e2,e3>"]);
+    model.forget(2).unwrap();
+    model.event(2).unwrap();
+    model.clock(4).unwrap();
+    assert_eq!(model.trees(), ["e3", "e4"], "no r is left");
+}
+
+/// On a table that no history made: of 0 and 2 the pair is not there, and 2 is a rival all the same.
+#[test]
+fn nearest_on_any_table() {
+    let chart = chart_value::of(&chart(OF_EVENTS));
+    let rows =
+        [[0, 1, -1, 0, 0], [1, 2, -1, 2, 2], [0, 3, -1, 3, 3], [1, 4, -1, 6, 6], [2, 2, 3, 3, 6], [3, 2, 3, 3, 6]];
+    let codes = std::array::from_fn(|place| if place == 0 { 2 } else { 0 });
+    let watch = Watch { instant: 6, events: 4, rows: 3, pending: 1, codes, ..Watch::empty(0) };
+    for (held, refusal) in [(6, 0), (5, 12), (4, 12), (3, 12)] {
+        let before: Vec<i32> = rows[..3].concat().into_iter().chain([0; 15]).take(held * 5).collect();
+        let (answer, after) = any_watch::play(&watch, &chart, &before, Call::Clock(7));
+        assert_eq!(answer.refusal, refusal, "a table of {held} rows");
+        assert_eq!(after, if refusal == 0 { rows.concat() } else { before });
+    }
+}
+
 /// "10 an event after serial 1,000,000", checked "10 before 9".
 #[test]
 fn serials_run_out() {
@@ -341,7 +508,7 @@ fn ends_from((answer, table): &any_watch::Outcome, instant: i32) -> usize {
 
 fn any_chart(random: &mut Random) -> Vec<Entry> {
     let operators = random.below(8);
-    let draw = random.pick(&[random_inputs::chart, random_inputs::delay_chart]);
+    let draw = random.pick(&[random_inputs::chart, random_inputs::delay_chart, random_inputs::nearest_chart]);
     chart(&draw(random, operators, 3))
 }
 
@@ -451,6 +618,34 @@ fn each_cause_of_13_in_a_delay() {
     assert_eq!(causes(&[(3, [2, 3, -1, 0, 5])]), [Cause::ReferenceNotLowerRowOfOperand], "its own number");
     assert_eq!(causes(&[(3, [3, 4, -1, 5, 5])]), [Cause::ReferenceNotLowerRowOfOperand], "a row behind it");
     assert_eq!(causes(&[(4, [3, 0, -1, 0, 5])]), [Cause::EndDisagrees], "a delay of 0 with another end");
+}
+
+/// A row of `cut` or `change` by itself out of joint: "the out-of-joint rule checks only end r < start s", beside
+/// references, start and end. Rivals are none of its causes.
+#[test]
+fn each_cause_of_13_in_a_cut() {
+    let chart = chart(OF_EVENTS);
+    let watch = Watch { instant: 9, events: 5, rows: 6, ..Watch::empty(0) };
+    let events = [[0, 1, -1, 0, 0], [0, 2, -1, 1, 1], [1, 3, -1, 2, 2], [0, 4, -1, 3, 3], [1, 5, -1, 3, 3]];
+    for entry in [2, 3] {
+        let causes = |[left, right, start, end]: [i32; 4]| {
+            let table = [events.concat(), vec![entry, left, right, start, end]].concat();
+            Vec::from_iter(consistency::causes(&watch, &chart, &table))
+        };
+        let none: Vec<Cause> = vec![];
+        assert_eq!(causes([1, 4, 1, 3]), none, "a rival of s, at 2");
+        assert_eq!(causes([0, 4, 0, 3]), none, "one of r too, at 1");
+        assert_eq!(causes([3, 4, 3, 3]), [Cause::ConditionDisagrees], "end r = start s");
+        assert_eq!(causes([3, 2, 2, 3]), [Cause::ConditionDisagrees], "end r > start s");
+        assert_eq!(causes([1, 4, 0, 3]), [Cause::StartDisagrees]);
+        assert_eq!(causes([1, 4, 3, 3]), [Cause::StartDisagrees], "the start of s");
+        assert_eq!(causes([1, 4, 1, 4]), [Cause::EndDisagrees]);
+        assert_eq!(causes([1, -1, 1, 3]), [Cause::NoneMisplaced]);
+        assert_eq!(causes([-1, 4, 3, 3]), [Cause::NoneMisplaced]);
+        assert_eq!(causes([4, 1, 1, 3]), [Cause::ReferenceNotLowerRowOfOperand], "the operands exchanged");
+        assert_eq!(causes([5, 4, 3, 3]), [Cause::ReferenceNotLowerRowOfOperand], "its own number");
+        assert_eq!(causes([1, 5, 1, 3]), [Cause::ReferenceNotLowerRowOfOperand], "its own number");
+    }
 }
 
 /// Where a row stands among others, read off the row alone: end, entry, the later start first, arm, then serial or left

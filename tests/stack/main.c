@@ -223,8 +223,8 @@ int main(void)
 {
     static const struct {
         const char *word, *second;
-    } charts[] = {{"lasts", "0"}, {"-[]", "1"}, {"equals", "0"}, {"or", "1"},
-                  {"and", "1"},   {"seq", "1"}, {"after", "0"},  {"after", "1"}};
+    } charts[] = {{"lasts", "0"}, {"-[]", "1"},   {"equals", "0"}, {"or", "1"},  {"and", "1"},
+                  {"seq", "1"},   {"after", "0"}, {"after", "1"},  {"cut", "0"}, {"change", "0"}};
     static const size_t rows[] = {1, 2000};
     used_by(no_call);
     size_t of_thread = used_by(no_call);

@@ -5,12 +5,14 @@ use crate::blocks::On;
 use crate::delays::{delays, Fault, Mark, FAULTS};
 use crate::histories::{any_row, compare_check_and_rows, compare_tree, count_full};
 use crate::met::Met;
+use crate::nearest::{nearest, Damage, Pair, DAMAGES};
 use crate::random_calls::{self, near_instant_of_row, number, Frequencies, OUT_OF_RANGE};
 use crate::subject::{lent_table, name, Subject};
 use common::chart_value;
 use common::harness::Compared;
 use common::interface::{Answer, Calls, Chart, Entry};
 use common::random::Random;
+use oracle::conditions::Interval;
 use oracle::layout::{flat, rows_in_use};
 use oracle::model::Call;
 use oracle::recognitions::Row;
@@ -46,13 +48,17 @@ const CHANGES: [Change; 21] = [
 pub fn compare(calls: &Calls, last: &Subject, random: &mut Random, met: &mut Met) -> Compared {
     let mut changed = last.clone();
     let fault = if random.one_in(4) { append_faulty_delay(random, &mut changed) } else { None };
-    if fault.is_none() {
+    let damage = if fault.is_none() && random.one_in(3) { append_nearest(random, &mut changed) } else { None };
+    if fault.is_none() && damage.is_none() {
         change(random, &mut changed);
     }
     if let Some(entries) = chart_value::entries(&changed.chart) {
         let causes = consistency::causes(&changed.watch, &entries, changed.table.part());
         met.count_causes(&causes);
         fault.filter(|_| causes.len() == 1).into_iter().for_each(|fault| met.delays.count_fault(fault));
+        if let Some((op, damage)) = damage.filter(|(_, damage)| causes.len() == usize::from(!damage.is_consistent())) {
+            met.nearest.count_damage(op, damage);
+        }
     }
     let compared =
         compare_plays(calls, &changed, random, met).and_then(|()| compare_reads(calls, &changed, random, met));
@@ -89,9 +95,11 @@ fn compare_plays(calls: &Calls, given: &Subject, random: &mut Random, met: &mut 
             (Call::Clock(instant), 0) => {
                 let rows = &rows_in_use(&expected.watch, &table);
                 met.blocks.count(On::NoHistory, chart, rows, watch.instant.into());
-                met.delays.count_mark(On::NoHistory, &Mark { watch, chart, rows, instant });
+                let mark = Mark { watch, chart, rows, instant };
+                met.delays.count_mark(On::NoHistory, &mark);
+                met.nearest.count_mark(On::NoHistory, &mark);
             }
-            (Call::Clock(_), 12) => count_full(given, false, met),
+            (Call::Clock(_), 12) => count_full(given, call, false, met),
             _ => {}
         }
         compare_outcome(&format!("{call:?}"), (answer, &subject), (expected, &table))?;
@@ -338,6 +346,69 @@ fn with_fault(random: &mut Random, fault: Fault, row: Row, rows: &[Row]) -> Opti
     })
 }
 
+/// A row of a `cut` or `change` behind the last that no mark made: with a rival, or wrong in one thing; none where the
+/// rows there are give no such row that stands in its place by its end.
+fn append_nearest(random: &mut Random, subject: &mut Subject) -> Option<(u8, Damage)> {
+    let Subject { watch, chart, table } = subject;
+    let entries: Vec<(usize, Entry)> = nearest(chart).map(|(number, entry)| (number, *entry)).collect();
+    let held = table.part().len() / 5;
+    if entries.is_empty() || watch.rows == 0 || watch.rows + 2 > held.min(65_535) {
+        return None;
+    }
+    let (number, entry) = random.pick(&entries);
+    let rows = rows_in_use(watch, table.part());
+    let (damage, _) = random.pick(&DAMAGES);
+    let pairs = damaged_pairs(&entry, damage, &rows);
+    let (left, right) = *pairs.get(random.below(pairs.len().max(1)))?;
+    let (r, s) = (rows[left], rows[right]);
+    let (start, end) = (r.start.min(s.start), r.end.max(s.end));
+    let row =
+        with_damage(damage, Row { entry: number, left: left as i64, right: right as i64, start, end }, rows.len());
+    let added = if damage == Damage::RightNotLower { vec![row, s] } else { vec![row] };
+    let all = [rows, added].concat();
+    let numbers = flat(&all, table.part());
+    table.part_mut().copy_from_slice(&numbers);
+    watch.rows = all.len();
+    watch.instant = watch.instant.max(row.end as i32 + 1);
+    Some((entry.op, damage))
+}
+
+/// The places of r and s that a row with such a damage may be made of, where it ends with the last row or behind it.
+fn damaged_pairs(entry: &Entry, damage: Damage, rows: &[Row]) -> Vec<(usize, usize)> {
+    let interval = |row: &Row| Interval { start: row.start, end: row.end };
+    let of = |operand: u32| (0..rows.len()).filter(move |place| rows[*place].entry == operand as usize);
+    let [of_a, of_b] =
+        [entry.a, entry.b].map(|operand| of(operand).map(|place| interval(&rows[place])).collect::<Vec<_>>());
+    let last_end = rows[rows.len() - 1].end;
+    let is_wanted = |(left, right): &(usize, usize)| {
+        let (r, s) = (interval(&rows[*left]), interval(&rows[*right]));
+        let pair = Pair { is_change: true, r, s, of_a: &of_a, of_b: &of_b };
+        let is_last = r.end.max(s.end) == last_end;
+        is_last
+            && match damage {
+                Damage::EndAtStart => r.end == s.start,
+                Damage::EndAfterStart => r.end > s.start,
+                Damage::RivalOfSecond => r.end < s.start && pair.has_rival_of_second(),
+                Damage::RivalOfFirst => r.end < s.start && pair.has_rival_of_first(),
+                _ => r.end < s.start,
+            }
+    };
+    of(entry.a).flat_map(|left| of(entry.b).map(move |right| (left, right))).filter(is_wanted).collect()
+}
+
+/// The row with what is wrong with it; `place` is its own.
+fn with_damage(damage: Damage, row: Row, place: usize) -> Row {
+    match damage {
+        Damage::Start => Row { start: row.start + 1, ..row },
+        Damage::End => Row { end: row.end + 1, ..row },
+        Damage::NoLeft => Row { left: -1, ..row },
+        Damage::NoRight => Row { right: -1, ..row },
+        Damage::Exchanged => Row { left: row.right, right: row.left, ..row },
+        Damage::RightNotLower => Row { right: place as i64 + 1, ..row },
+        _ => row,
+    }
+}
+
 // What can be changed in a chart.
 
 /// Another operator, mostly one that a watch may use too, another operand, code or length.
@@ -348,7 +419,7 @@ fn change_entry(random: &mut Random, subject: &mut Subject) {
     match (random.below(4), entry.op) {
         (0 | 1, 4..=7) => entry.op = 4 + random.below(4) as u8,
         (0 | 1, 14..=17) => entry.op = 14 + random.below(4) as u8,
-        (0 | 1, 1 | 3 | 8..=13) => entry.op = random.pick(&[1, 3, 8, 9, 10, 11, 12, 13]),
+        (0 | 1, 1 | 3 | 8..=13 | 18 | 19) => entry.op = random.pick(&[1, 3, 8, 9, 10, 11, 12, 13, 18, 19]),
         (2, _) => entry.a = random.below(index.max(1)) as u32,
         (3, _) => entry.b = random.below(index.max(6)) as u32,
         _ => chart.count = chart.count.clamp(2, 32) - 1,
@@ -371,11 +442,11 @@ fn break_chart(random: &mut Random, chart: &mut Chart) {
     let entry = &mut chart.entries[index];
     match random.below(6) {
         0 => chart.count = random.pick(&[0, 33, 34, 1 << 32, usize::MAX]),
-        1 => entry.op = random.pick(&[18, 18, 19, 128, 255]),
+        1 => entry.op = random.pick(&[20, 20, 21, 128, 255]),
         2 => entry.a = random.pick(&[index as u32, index as u32 + 1, 32, 255, 256, 257, 1 << 31, u32::MAX]),
         3 => entry.b = random.pick(&[index as u32, 1, 32, 2_000_000_000, 2_000_000_001, u32::MAX]),
         4 => *entry = another,
-        _ => entry.op = random.below(18) as u8,
+        _ => entry.op = random.below(20) as u8,
     }
 }
 

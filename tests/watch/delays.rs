@@ -3,7 +3,7 @@
 
 use crate::blocks::{On, TABLES};
 use common::interface::{Chart, Entry, Watch};
-use common::plain_watch::closing::{Closing, AFTER, AND, CLOSED_CLOSED, OPEN_CLOSED, SEQ};
+use common::plain_watch::closing::{Closing, AFTER, AND, CLOSED_CLOSED, NONE, OPEN_CLOSED, SEQ};
 use common::plain_watch::storage::Span;
 use common::plain_watch::Plain;
 use oracle::recognitions::Row;
@@ -111,7 +111,7 @@ impl Mark<'_> {
     }
 
     /// The rows of the instants closed.
-    fn new_rows(&self) -> &[Row] {
+    pub fn new_rows(&self) -> &[Row] {
         &self.rows[self.rows.partition_point(|row| row.end < self.open_instant())..]
     }
 
@@ -145,11 +145,7 @@ impl Mark<'_> {
 
     /// Whether there is a row r of an absence's operand that such a row forbids.
     fn has_forbidden(&self) -> bool {
-        let span = |place: usize| Span {
-            row: place as i32,
-            start: self.rows[place].start as i32,
-            end: self.rows[place].end as i32,
-        };
+        let span = |place: usize| self.span(&self.rows[place]);
         let new = || self.rows.len() - self.new_rows().len()..self.rows.len();
         let of = |entry: u32| new().filter(move |place| self.rows[*place].entry == entry as usize);
         let mut absences = self.chart.entries[..self.chart.count].iter().filter(|entry| is_absence(entry));
@@ -157,6 +153,11 @@ impl Mark<'_> {
             let mut forbidding = of(absence.b).filter(|s| self.is_new_and_delayed(*s as i64));
             forbidding.any(|s| of(absence.a).any(|r| Plain::is_forbidding(absence.op, &span(r), &span(s))))
         })
+    }
+
+    /// A row's interval, as the plain watch takes it; its number is left out.
+    pub fn span(&self, row: &Row) -> Span {
+        Span { row: NONE, start: row.start as i32, end: row.end as i32 }
     }
 
     fn lengths(&self) -> [bool; LENGTHS.len()] {
@@ -176,11 +177,11 @@ impl Mark<'_> {
     }
 }
 
-fn is_absence(entry: &Entry) -> bool {
+pub fn is_absence(entry: &Entry) -> bool {
     (CLOSED_CLOSED..=OPEN_CLOSED).contains(&entry.op)
 }
 
-fn add<const N: usize>(counts: &mut [usize; N], met: [bool; N]) {
+pub fn add<const N: usize>(counts: &mut [usize; N], met: [bool; N]) {
     counts.iter_mut().zip(met).for_each(|(count, met)| *count += usize::from(met));
 }
 
@@ -238,6 +239,6 @@ impl Delays {
     }
 }
 
-fn named(names: &[&str], counts: &[usize]) -> String {
+pub fn named(names: &[&str], counts: &[usize]) -> String {
     names.iter().zip(counts).map(|(name, count)| format!("{name}: {count}")).collect::<Vec<_>>().join("  ")
 }

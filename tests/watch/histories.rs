@@ -5,6 +5,7 @@ use crate::blocks::On;
 use crate::damage;
 use crate::delays::{self, due_ends, Mark};
 use crate::met::Met;
+use crate::nearest;
 use crate::random_calls::{self, Frequencies};
 use crate::subject::{lent_table, name, Lent, Subject};
 use common::chart_value;
@@ -15,12 +16,15 @@ use common::random::Random;
 use common::random_inputs;
 use oracle::any_watch;
 use oracle::history::History;
+use oracle::layout::rows_held;
 use oracle::model::{Call, MOST_EVENTS};
 use oracle::recognitions::Row;
 use std::ops::Range;
 
 /// The floor while nothing was forgotten.
 const FIRST_FLOOR: i32 = -1_000_000_000;
+/// By how many rows a table is made longer, to see which one did not fit.
+const ROWS_MORE: usize = 300;
 
 /// A history in the making: the watch under test beside what it must show.
 pub struct Run<'a> {
@@ -29,6 +33,8 @@ pub struct Run<'a> {
     played: Vec<Call>,
     /// The ends that delayed rows of forgotten ones would have had, as far as no mark went past them.
     missed_ends: Vec<i64>,
+    /// The operand and the end after which a row of it would have been a pair with a forgotten one.
+    missed_pairs: Vec<(usize, i64)>,
     pub subject: Subject,
     pub history: History<'a>,
 }
@@ -46,6 +52,20 @@ pub fn with_delays(calls: &Calls, random: &mut Random, met: &mut Met) -> Compare
     let operators = if random.one_in(40) { MOST_ENTRIES - 4 } else { random.below(8) };
     let most_leaves = random.pick(&[2, 3]);
     let entries = sound(&random_inputs::delay_chart(random, operators, most_leaves));
+    short_on(calls, random, met, &entries, frequencies)
+}
+
+/// The same with a `cut` or a `change` among the operators, and steps so short that rows often end together.
+pub fn with_nearest(calls: &Calls, random: &mut Random, met: &mut Met) -> Compared {
+    let longest_step = random.pick(&[2, 3, 8]);
+    let frequencies = Frequencies { events: 10, clocks: 8, forgets: 1, longest_step, clocks_to_a_jump: 30 };
+    let operators = if random.one_in(40) { MOST_ENTRIES - 6 } else { random.below(7) };
+    let most_leaves = random.pick(&[3, 4]);
+    let text = match random.below(3) {
+        0 => random_inputs::crossing_chart(random, 1 + operators % 4),
+        _ => random_inputs::nearest_chart(random, operators, most_leaves),
+    };
+    let entries = sound(&text);
     short_on(calls, random, met, &entries, frequencies)
 }
 
@@ -149,7 +169,8 @@ impl<'a> Run<'a> {
         let mut watch = answer.watch;
         watch.events += unlisted_events;
         let subject = Subject { watch, chart, table };
-        let run = Run { calls, opening, played: Vec::new(), missed_ends: Vec::new(), subject, history };
+        let (missed_ends, missed_pairs) = (Vec::new(), Vec::new());
+        let run = Run { calls, opening, played: Vec::new(), missed_ends, missed_pairs, subject, history };
         run.compare_state(0, answer.refusal)?;
         Ok(run)
     }
@@ -162,7 +183,7 @@ impl<'a> Run<'a> {
         let expected = self.history.play(call).err().unwrap_or(0);
         match (call, expected) {
             (Call::Clock(instant), 0) => self.count_mark(&before, instant, met),
-            (Call::Clock(_), 12) => count_full(&self.subject, true, met),
+            (Call::Clock(_), 12) => count_full(&self.subject, call, true, met),
             _ => {}
         }
         let answer = self.subject.play(self.calls, call);
@@ -178,7 +199,15 @@ impl<'a> Run<'a> {
         let on = if has_forgotten { On::AfterForget } else { On::NothingForgotten };
         met.searches.count(chart, rows, closed, has_forgotten);
         met.blocks.count(on, chart, rows, closed);
-        met.delays.count_mark(on, &Mark { watch: before, chart, rows, instant });
+        let mark = Mark { watch: before, chart, rows, instant };
+        met.delays.count_mark(on, &mark);
+        met.nearest.count_mark(on, &mark);
+        let new = mark.new_rows();
+        let is_missed = |(b, end): &(usize, i64)| new.iter().any(|s| s.entry == *b && s.start > *end);
+        if self.missed_pairs.iter().any(is_missed) {
+            met.nearest.count_missed_pair();
+            self.missed_pairs.retain(|missed| !is_missed(missed));
+        }
         if self.missed_ends.iter().any(|end| *end < instant) {
             met.delays.count_missed_end();
             self.missed_ends.retain(|end| *end >= instant);
@@ -193,6 +222,8 @@ impl<'a> Run<'a> {
         }
         let dropped: Vec<Row> = rows.iter().filter(|row| row.start < floor).copied().collect();
         self.missed_ends.extend(due_ends(chart, &dropped).filter(|end| *end >= i64::from(watch.instant)));
+        self.missed_pairs.extend(nearest::waiting(chart, rows, floor));
+        met.nearest.count_forget(chart, rows, floor);
         if delays::delays(chart).any(|(number, _)| dropped.iter().any(|row| row.entry == number)) {
             met.delays.count_forgotten();
         }
@@ -259,12 +290,25 @@ impl<'a> Run<'a> {
     }
 }
 
-/// Counts a mark that is refused with 12 where the open instant alone would have fitted.
-pub fn count_full(Subject { watch, chart, table }: &Subject, is_history: bool, met: &mut Met) {
+/// Counts a mark that is refused with 12 where the open instant alone would have fitted, and one whose first row too
+/// many is of a `cut` or `change`.
+pub fn count_full(subject: &Subject, mark: Call, is_history: bool, met: &mut Met) {
+    let Subject { watch, chart, table } = subject;
     let next = Call::Clock(i64::from(watch.instant) + 1);
     if delays::delays(chart).next().is_some() && any_watch::play(watch, chart, table.part(), next).0.refusal == 0 {
         met.delays.count_full(is_history);
     }
+    if nearest::nearest(chart).next().is_some() && is_full_at_nearest(subject, mark) {
+        met.nearest.count_full(is_history);
+    }
+}
+
+/// Whether the first row that does not fit is of a `cut` or `change`: a longer table has it in that place.
+fn is_full_at_nearest(Subject { watch, chart, table }: &Subject, mark: Call) -> bool {
+    let held = rows_held(table.part().len()) * 5;
+    let longer = [&table.part()[..held], &[0; ROWS_MORE * 5]].concat();
+    let (answer, after) = any_watch::play(watch, chart, &longer, mark);
+    answer.refusal == 0 && nearest::is_nearest(&chart.entries[after[held] as usize])
 }
 
 /// A row in use, mostly, or a number that is none.

@@ -7,6 +7,7 @@ mod damage;
 mod delays;
 mod histories;
 mod met;
+mod nearest;
 mod planned;
 #[path = "../common/proved_watch.rs"]
 mod proved_watch;
@@ -25,15 +26,26 @@ use std::process::ExitCode;
 struct Extent {
     short_histories: usize,
     with_delays: usize,
+    with_nearest: usize,
     long_histories: usize,
     of_short_intervals: usize,
 }
 
-const FULL: Extent =
-    Extent { short_histories: 100_000, with_delays: 100_000, long_histories: 300, of_short_intervals: 2_500 };
+const FULL: Extent = Extent {
+    short_histories: 100_000,
+    with_delays: 100_000,
+    with_nearest: 80_000,
+    long_histories: 300,
+    of_short_intervals: 2_500,
+};
 /// Enough to find a wrong watch.
-const SELF_TEST: Extent =
-    Extent { short_histories: 20_000, with_delays: 20_000, long_histories: 20, of_short_intervals: 200 };
+const SELF_TEST: Extent = Extent {
+    short_histories: 20_000,
+    with_delays: 20_000,
+    with_nearest: 10_000,
+    long_histories: 20,
+    of_short_intervals: 200,
+};
 
 fn main() -> ExitCode {
     harness::main::<WatchTest>()
@@ -69,9 +81,12 @@ fn compare(calls: &Calls, extent: &Extent, met: &mut Met) -> Compared {
     planned::long_trees(calls, met)?;
     planned::delays(calls, met)?;
     planned::long_jumps(calls, met)?;
+    planned::nearest(calls, met)?;
+    planned::many_nearest(calls, met)?;
     let mut random = Random::new(41);
     (0..extent.short_histories).try_for_each(|_| histories::short(calls, &mut random, met))?;
     (0..extent.with_delays).try_for_each(|_| histories::with_delays(calls, &mut random, met))?;
+    (0..extent.with_nearest).try_for_each(|_| histories::with_nearest(calls, &mut random, met))?;
     (0..extent.long_histories).try_for_each(|_| histories::long(calls, &mut random, met))?;
     (0..extent.of_short_intervals).try_for_each(|_| histories::of_short_intervals(calls, &mut random, met))?;
     planned::blocks(calls, met)?;

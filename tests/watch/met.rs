@@ -1,8 +1,9 @@
 //! What a run reached: answers of each call, causes of 13, operators of rows, edges of searches, blocks of rows,
-//! delays.
+//! delays, `cut` and `change`.
 
 use crate::blocks::Blocks;
 use crate::delays::{self, Delays};
+use crate::nearest::Nearest;
 use crate::searches::Searches;
 use common::harness::{self, LEAST_MET};
 use common::interface::{Chart, Watch};
@@ -22,6 +23,7 @@ const ANSWERS: [(&str, &[u32]); 7] = [
 ];
 
 const LEAST_HISTORIES_WITH_DELAYS: usize = 100_000;
+const LEAST_HISTORIES_WITH_NEAREST: usize = 100_000;
 
 pub struct Met {
     pub histories: usize,
@@ -38,6 +40,7 @@ pub struct Met {
     pub searches: Searches,
     pub blocks: Blocks,
     pub delays: Delays,
+    pub nearest: Nearest,
 }
 
 impl Met {
@@ -61,6 +64,7 @@ impl Met {
     pub fn count_history(&mut self, chart: &Chart, watch: &Watch, table: &[i32]) {
         self.histories += 1;
         self.delays.histories += usize::from(delays::delays(chart).next().is_some());
+        self.nearest.count_history(chart);
         for row in table[..watch.rows * 5].chunks(5) {
             self.operators[usize::from(chart.entries[row[0] as usize].op)] += 1;
         }
@@ -81,14 +85,18 @@ impl harness::Met for Met {
             searches: Searches::default(),
             blocks: Blocks::default(),
             delays: Delays::default(),
+            nearest: Nearest::default(),
         }
     }
 
     fn is_enough(&self) -> bool {
         let answers = self.answers.values().chain(self.causes.values());
         let reads = answers.chain(&self.operators).chain(&self.rows_read).chain([&self.consistent]);
-        let rows = self.searches.counts().chain(self.blocks.counts()).chain(self.delays.counts());
-        self.delays.histories >= LEAST_HISTORIES_WITH_DELAYS && reads.chain(rows).all(|count| *count >= LEAST_MET)
+        let rows = self.searches.counts().chain(self.blocks.counts());
+        let operators = self.delays.counts().chain(self.nearest.counts());
+        self.delays.histories >= LEAST_HISTORIES_WITH_DELAYS
+            && self.nearest.histories[0] >= LEAST_HISTORIES_WITH_NEAREST
+            && reads.chain(rows).chain(operators).all(|count| *count >= LEAST_MET)
     }
 
     fn print(&self) {
@@ -109,5 +117,6 @@ impl harness::Met for Met {
         self.searches.print();
         self.blocks.print();
         self.delays.print();
+        self.nearest.print();
     }
 }

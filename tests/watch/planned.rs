@@ -1,5 +1,6 @@
 //! What is compared by plan, not by chance: charts on paper, every short table, delays, jumps over many ends and over
-//! most of the range, the largest table, blocks of many rows to be put in order, and trees of billions of bytes.
+//! most of the range, `cut` and `change` at each boundary, the largest table, blocks of many rows to be put in order,
+//! and trees of billions of bytes.
 
 use crate::histories::{any_row, compare_tree, compare_tree_in, Run};
 use crate::met::Met;
@@ -21,6 +22,9 @@ const CHARTS: usize = 30_000;
 const DELAYED_EVENTS: i64 = 300;
 /// A watch that goes from instant to instant takes longer for a jump over the whole range.
 const LONGEST_JUMP: Duration = Duration::from_secs(5);
+/// The rows r that come before so many rows s of one instant.
+const MANY: i64 = 100;
+const MANY_TIES: i64 = 30;
 const BLOCK_ROWS: [usize; 3] = [100, 1_000, 3_000];
 const TREES_OF_BLOCK: usize = 10;
 /// The greatest table that is all rows.
@@ -67,7 +71,7 @@ pub fn short_tables(calls: &Calls, met: &mut Met) -> Compared {
     Ok(())
 }
 
-/// A log under a chart with delays.
+/// A log under a chart.
 struct Planned {
     chart: &'static str,
     opening: i32,
@@ -142,16 +146,219 @@ const DELAYS: [Planned; 7] = [
     },
 ];
 
-/// Each of these on a table of each length from 0 to 80, so that it is full at each row of a jump.
+/// Each of these on a table of each length up to 80, so that it is full at each row of a jump.
 pub fn delays(calls: &Calls, met: &mut Met) -> Compared {
-    for Planned { chart, opening, log } in &DELAYS {
+    on_each_length(calls, &DELAYS, 80, met)
+}
+
+fn on_each_length(calls: &Calls, planned: &[Planned], longest: i32, met: &mut Met) -> Compared {
+    for Planned { chart, opening, log } in planned {
         let entries = entries(chart);
-        for length in 0..=80 {
+        for length in 0..=longest {
             let table: Vec<i32> = (0..length).map(|place| 1_000 - place).collect();
             let mut run = Run::open(calls, &entries, chart_value::of(&entries), &table, *opening, 0, met)?;
             log.iter().try_for_each(|call| run.play(*call, met))?;
         }
     }
+    Ok(())
+}
+
+const NEAREST: [Planned; 9] = [
+    // Several r and one s, several s and one r, several of both in one instant, and an s without an r between.
+    Planned {
+        chart: "0\tevent\t1\n1\tevent\t2\n2\tcut\t0\t1\n3\tchange\t0\t1\n",
+        opening: 0,
+        log: &[
+            Call::Event(1),
+            Call::Clock(1),
+            Call::Event(1),
+            Call::Clock(2),
+            Call::Event(2),
+            Call::Clock(3),
+            Call::Event(2),
+            Call::Clock(4),
+            Call::Event(1),
+            Call::Event(1),
+            Call::Clock(6),
+            Call::Event(2),
+            Call::Event(2),
+            Call::Clock(7),
+            Call::Event(2),
+            Call::Clock(8),
+        ],
+    },
+    // One entry as both operands.
+    Planned {
+        chart: "0\tevent\t1\n1\tcut\t0\t0\n2\tchange\t0\t0\n3\tcut\t1\t1\n4\tchange\t2\t2\n",
+        opening: -3,
+        log: &[
+            Call::Event(1),
+            Call::Clock(0),
+            Call::Event(1),
+            Call::Event(1),
+            Call::Clock(1),
+            Call::Event(1),
+            Call::Clock(5),
+            Call::Event(1),
+            Call::Clock(6),
+        ],
+    },
+    // An s' that starts where r ends, and then one that starts an instant later; two s of one end and different starts.
+    Planned {
+        chart: "0\tevent\t1\n1\tevent\t2\n2\tevent\t3\n3\tseq\t1\t2\n4\tcut\t0\t3\n5\tchange\t0\t3\n",
+        opening: 5,
+        log: &[
+            Call::Event(1),
+            Call::Event(2),
+            Call::Clock(7),
+            Call::Event(3),
+            Call::Clock(8),
+            Call::Event(2),
+            Call::Event(1),
+            Call::Clock(9),
+            Call::Event(2),
+            Call::Clock(10),
+            Call::Event(2),
+            Call::Clock(11),
+            Call::Event(3),
+            Call::Clock(12),
+            Call::Event(3),
+            Call::Clock(13),
+        ],
+    },
+    // An r' that starts before r, with it and after it, and ends between r and s.
+    Planned {
+        chart: "0\tevent\t1\n1\tevent\t2\n2\tevent\t3\n3\tevent\t4\n4\tevent\t5\n5\tseq\t0\t1\n6\tseq\t3\t4\n\
+            7\tor\t5\t6\n8\tchange\t7\t2\n9\tcut\t7\t2\n",
+        opening: 0,
+        log: &[
+            Call::Event(4),
+            Call::Clock(1),
+            Call::Event(1),
+            Call::Clock(2),
+            Call::Event(2),
+            Call::Clock(3),
+            Call::Event(5),
+            Call::Clock(5),
+            Call::Event(3),
+            Call::Clock(6),
+            Call::Event(4),
+            Call::Event(1),
+            Call::Clock(7),
+            Call::Event(2),
+            Call::Clock(8),
+            Call::Event(5),
+            Call::Clock(10),
+            Call::Event(3),
+            Call::Clock(11),
+        ],
+    },
+    Planned {
+        chart: "0\tevent\t1\n1\tevent\t2\n2\tevent\t3\n3\tseq\t0\t1\n4\tchange\t3\t2\n5\tcut\t3\t2\n",
+        opening: 0,
+        log: &[
+            Call::Event(1),
+            Call::Clock(1),
+            Call::Event(2),
+            Call::Clock(2),
+            Call::Event(2),
+            Call::Event(1),
+            Call::Clock(3),
+            Call::Event(2),
+            Call::Event(3),
+            Call::Clock(4),
+        ],
+    },
+    // Document 003's `A!((B D)||F)`: what is first by its end stays, though another starts earlier.
+    Planned {
+        chart: "0\tevent\t1\n1\tevent\t2\n2\tevent\t3\n3\tevent\t4\n4\tseq\t1\t2\n5\tor\t4\t3\n\
+            6\tcut\t0\t5\n7\tchange\t0\t5\n",
+        opening: 1,
+        log: &[
+            Call::Event(1),
+            Call::Clock(2),
+            Call::Event(2),
+            Call::Clock(3),
+            Call::Event(4),
+            Call::Clock(4),
+            Call::Event(3),
+            Call::Clock(5),
+        ],
+    },
+    // Each in the other, in an absence and in a delay, and over delayed rows, several of them by one mark.
+    Planned {
+        chart: "0\tevent\t1\n1\tevent\t2\n2\tcut\t0\t1\n3\tchange\t2\t0\n4\t-[]\t3\t2\n5\t-[]\t2\t3\n\
+            6\tafter\t2\t3\n7\tchange\t6\t6\n8\tcut\t0\t6\n",
+        opening: 0,
+        log: &[
+            Call::Event(1),
+            Call::Clock(1),
+            Call::Event(2),
+            Call::Clock(2),
+            Call::Event(1),
+            Call::Clock(3),
+            Call::Event(2),
+            Call::Clock(7),
+            Call::Event(1),
+            Call::Clock(8),
+            Call::Event(2),
+            Call::Clock(30),
+        ],
+    },
+    // Forgets that drop r and keep r', that drop r and keep s, and that drop r before s comes.
+    Planned {
+        chart: "0\tevent\t1\n1\tevent\t2\n2\tcut\t0\t1\n3\tchange\t0\t1\n",
+        opening: 0,
+        log: &[
+            Call::Event(1),
+            Call::Clock(1),
+            Call::Event(1),
+            Call::Clock(2),
+            Call::Forget(1),
+            Call::Event(2),
+            Call::Clock(3),
+            Call::Forget(2),
+            Call::Event(1),
+            Call::Clock(4),
+            Call::Forget(4),
+            Call::Event(2),
+            Call::Clock(5),
+        ],
+    },
+    // A pair over the whole range.
+    Planned {
+        chart: "0\tevent\t1\n1\tcut\t0\t0\n2\tchange\t0\t0\n",
+        opening: -1_000_000_000,
+        log: &[
+            Call::Event(1),
+            Call::Clock(999_999_999),
+            Call::Event(1),
+            Call::Event(1),
+            Call::Clock(1_000_000_000),
+            Call::Event(1),
+        ],
+    },
+];
+
+/// Each of these on a table of each length up to 170, so that each of its rows, at most 32, is once one too many.
+pub fn nearest(calls: &Calls, met: &mut Met) -> Compared {
+    on_each_length(calls, &NEAREST, 170, met)
+}
+
+/// Many r, many s that end together, and as many once more, for which the first are rivals.
+pub fn many_nearest(calls: &Calls, met: &mut Met) -> Compared {
+    let entries = entries("0\tevent\t1\n1\tevent\t2\n2\tcut\t0\t1\n3\tchange\t0\t1\n");
+    let mut run = Run::open(calls, &entries, chart_value::of(&entries), &[7; 25_000], 0, 0, met)?;
+    for instant in 0..MANY {
+        run.play(Call::Event(1), met)?;
+        run.play(Call::Clock(instant + 1), met)?;
+    }
+    for mark in [MANY + 1, MANY + 2] {
+        (0..MANY_TIES).try_for_each(|_| run.play(Call::Event(2), met))?;
+        run.play(Call::Clock(mark), met)?;
+    }
+    let expected = MANY + 2 * MANY_TIES + (MANY + 1) * MANY_TIES;
+    assert_eq!(run.history.rows.len() as i64, expected, "each r with the first s, and the last r with them");
     Ok(())
 }
 

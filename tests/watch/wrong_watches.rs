@@ -5,8 +5,8 @@
 use common::harness::Named;
 use common::interface::{Answer, Calls, Chart, Entry, Rows, TreeAnswer, Watch};
 use common::plain_watch::closing::{
-    Closing, AFTER, AND, AT_LEAST, AT_MOST, CLOSED_CLOSED, CLOSED_OPEN, DURING, LASTS, NONE, OPEN_CLOSED, OPEN_OPEN,
-    OR, OVERLAPS, SEQ,
+    Closing, AFTER, AND, AT_LEAST, AT_MOST, CHANGE, CLOSED_CLOSED, CLOSED_OPEN, CUT, DURING, LASTS, NONE, OPEN_CLOSED,
+    OPEN_OPEN, OR, OVERLAPS, SEQ,
 };
 use common::plain_watch::storage::{Lower, Own, Part, Row, Span, Storage, END, ENTRY, START, UNUSED};
 use common::plain_watch::{calls, is_instant, Plain, PlainWatch, Renumbered, Taken, INSTANTS};
@@ -58,6 +58,46 @@ fn reorder<K: Ord>(chart: &Chart, storage: &mut Storage, first: usize, key: impl
     let renumbered = |index: &usize| Plain::renumbered(chart, storage.rows[*index], &places);
     let rows: Vec<Row> = in_order.iter().map(renumbered).collect();
     storage.rows[new].copy_from_slice(&rows);
+}
+
+/// Appends the pairs of a `cut` or `change` as request N5 defines them, with other rivals s' and r'.
+fn append_nearest_but<L: Lower>(
+    entry: &Entry,
+    lower: L,
+    own: &mut Own,
+    is_rival_of_second: impl Fn(&Span, &Span, &Span) -> bool,
+    is_rival_of_first: impl Fn(&Span, &Span, &Span) -> bool,
+) -> Option<()> {
+    let (a, b) = (lower.all(entry.a), lower.all(entry.b));
+    for r in a.spans() {
+        for s in lower.new(entry.b).spans().filter(|s| r.end < s.start) {
+            let is_parted = b.spans().any(|other| is_rival_of_second(&r, &s, &other))
+                || (entry.op == CHANGE && a.spans().any(|other| is_rival_of_first(&r, &s, &other)));
+            if !is_parted {
+                own.push(r.row, s.row, r.start, s.end)?;
+            }
+        }
+    }
+    Some(())
+}
+
+fn is_rival_of_second(r: &Span, s: &Span, other: &Span) -> bool {
+    other.start > r.end && other.end < s.end
+}
+
+fn is_rival_of_first(r: &Span, s: &Span, other: &Span) -> bool {
+    other.start >= r.start && r.end < other.end && other.end < s.start
+}
+
+/// Whether a row of an operand is such a rival of the parts of a row that agrees with its entry, a `cut` or `change`.
+fn has_rival(operand: u32, row: &Row, lower: &[Row], is_rival: impl Fn(&Span, &Span, &Span) -> bool) -> bool {
+    let span = |row: &Row| Span::of(NONE, row);
+    let (r, s) = (span(&lower[row[1] as usize]), span(&lower[row[2] as usize]));
+    lower.iter().any(|other| other[ENTRY] == operand as i32 && is_rival(&r, &s, &span(other)))
+}
+
+fn is_nearest(entry: &Entry) -> bool {
+    matches!(entry.op, CUT | CHANGE)
 }
 
 wrong_watches! {
@@ -128,10 +168,35 @@ wrong_watches! {
                 Plain::is_usable(chart) && chart.entries[..chart.count].iter().all(|entry| entry.op != AFTER)
             }
         }
-        TakesCode18: "14: operator code 18 taken" {
+        KnowsNoCut: "14: operator code 18 refused" {
+            fn is_usable(chart: &Chart) -> bool {
+                Plain::is_usable(chart) && chart.entries[..chart.count].iter().all(|entry| entry.op != CUT)
+            }
+        }
+        KnowsNoChange: "14: operator code 19 refused" {
+            fn is_usable(chart: &Chart) -> bool {
+                Plain::is_usable(chart) && chart.entries[..chart.count].iter().all(|entry| entry.op != CHANGE)
+            }
+        }
+        WantsTwoEntries: "14: cut or change of one entry as both operands refused" {
+            fn is_usable(chart: &Chart) -> bool {
+                let is_one = |entry: &Entry| is_nearest(entry) && entry.a == entry.b;
+                Plain::is_usable(chart) && !chart.entries[..chart.count].iter().any(is_one)
+            }
+        }
+        TakesLengthForOperand: "14: cut or change with a second operand that is no lower entry taken" {
+            fn is_usable(chart: &Chart) -> bool {
+                let mut lowered = *chart;
+                for (index, entry) in lowered.entries.iter_mut().enumerate().filter(|(_, entry)| is_nearest(entry)) {
+                    entry.b = entry.b.min((index as u32).saturating_sub(1));
+                }
+                Plain::is_usable(&lowered)
+            }
+        }
+        TakesCode20: "14: operator code 20 taken" {
             fn is_usable(chart: &Chart) -> bool {
                 let mut known = *chart;
-                known.entries.iter_mut().filter(|entry| entry.op == 18).for_each(|entry| entry.op = AFTER);
+                known.entries.iter_mut().filter(|entry| entry.op == 20).for_each(|entry| entry.op = AFTER);
                 Plain::is_usable(&known)
             }
         }
@@ -352,6 +417,36 @@ wrong_watches! {
                 Plain::spans_both(AND, row, r, s)
             }
         }
+        TakesUnrelatedCut: "13: the condition of cut not looked at" {
+            fn spans_both(op: u8, row: &Row, r: &Span, s: &Span) -> bool {
+                Plain::spans_both(if op == CUT { AND } else { op }, row, r, s)
+            }
+        }
+        TakesUnrelatedChange: "13: the condition of change not looked at" {
+            fn spans_both(op: u8, row: &Row, r: &Span, s: &Span) -> bool {
+                Plain::spans_both(if op == CHANGE { AND } else { op }, row, r, s)
+            }
+        }
+        TakesMeetingPair: "13: a row of cut or change whose s starts where r ends taken" {
+            fn spans_both(op: u8, row: &Row, r: &Span, s: &Span) -> bool {
+                let meets = matches!(op, CUT | CHANGE) && r.end == s.start;
+                Plain::spans_both(if meets { AND } else { op }, row, r, s)
+            }
+        }
+        TakesOneReferenceOfCut: "13: a row of cut or change without a left or right reference taken" {
+            fn agrees(entry: &Entry, watch: &Watch, row: &Row, lower: &[Row]) -> bool {
+                let lacks_one = is_nearest(entry) && (row[1] == NONE) != (row[2] == NONE);
+                lacks_one || Plain::agrees(entry, watch, row, lower)
+            }
+        }
+        TakesCutOfLaterRow: "13: a row of cut or change with an s behind it taken" {
+            fn is_row_consistent(watch: &Watch, chart: &Chart, rows: &[Row], index: usize) -> bool {
+                let entry = chart.entries.iter().take(chart.count).nth(rows[index][ENTRY] as usize);
+                let agrees = |entry: &Entry| Plain::agrees(entry, watch, &rows[index], &rows[..watch.rows]);
+                let is_pair = entry.is_some_and(|entry| is_nearest(entry) && agrees(entry));
+                Plain::is_row_consistent(watch, chart, rows, index) || (rows[index][2] > index as i32 && is_pair)
+            }
+        }
         TakesAnyLength: "13: the condition of length tests not looked at" {
             fn agrees(entry: &Entry, watch: &Watch, row: &Row, lower: &[Row]) -> bool {
                 let is_test = matches!(entry.op, LASTS..=AT_LEAST);
@@ -466,6 +561,18 @@ wrong_watches! {
                 Plain::agrees(entry, watch, row, lower) && !(is_absence && lower.iter().any(forbids))
             }
         }
+        LooksForRivalOfSecond: "13: a row of cut or change with a rival of s refused" {
+            fn agrees(entry: &Entry, watch: &Watch, row: &Row, lower: &[Row]) -> bool {
+                let has_rival = || is_nearest(entry) && has_rival(entry.b, row, lower, is_rival_of_second);
+                Plain::agrees(entry, watch, row, lower) && !has_rival()
+            }
+        }
+        LooksForRivalOfFirst: "13: a row of change with a rival of r refused" {
+            fn agrees(entry: &Entry, watch: &Watch, row: &Row, lower: &[Row]) -> bool {
+                let has_rival = || entry.op == CHANGE && has_rival(entry.a, row, lower, is_rival_of_first);
+                Plain::agrees(entry, watch, row, lower) && !has_rival()
+            }
+        }
         LooksAtEntryOrder: "13: the order of entries looked at" {
             fn is_row_consistent(watch: &Watch, chart: &Chart, rows: &[Row], index: usize) -> bool {
                 let follows = |before: &Row, row: &Row| before[END] < row[END] || before[ENTRY] <= row[ENTRY];
@@ -556,6 +663,16 @@ wrong_watches! {
                 let is_delayed = answer.refusal == 0 && is_delay(&Plain::rows(table)[row]);
                 if is_delayed && answer.length + 2 > out.len() {
                     return TreeAnswer { refusal: 16, length: 0 };
+                }
+                answer
+            }
+        }
+        CutAsOnePart: "tree: a cut or change counted as one part" {
+            fn tree(watch: Watch, chart: Chart, table: &[i32], row: usize, out: &mut [u8]) -> TreeAnswer {
+                let answer = Plain::tree(watch, chart, table, row, out);
+                let is_pair = |row: &Row| is_nearest(&chart.entries[row[ENTRY] as usize]);
+                if answer.refusal == 0 && is_pair(&Plain::rows(table)[row]) {
+                    return TreeAnswer { length: answer.length - 1, ..answer };
                 }
                 answer
             }
@@ -870,6 +987,138 @@ wrong_watches! {
         SearchesFromLatestStart: "meets, overlaps, starts, during: searched from the latest start of a new row on" {
             fn earliest_start(b: impl Part) -> i32 {
                 Plain::latest_start(b)
+            }
+        }
+        CutAsSeq: "cut: every s behind r, not only the first" {
+            fn append<L: Lower>(watch: &Watch, entry: &Entry, lower: L, own: &mut Own) -> Option<()> {
+                Plain::append(watch, &Entry { op: if entry.op == CUT { SEQ } else { entry.op }, ..*entry }, lower, own)
+            }
+        }
+        CutAsChange: "cut: r' looked at too" {
+            fn append_nearest<L: Lower>(entry: &Entry, lower: L, own: &mut Own) -> Option<()> {
+                Plain::append_nearest(&Entry { op: CHANGE, ..*entry }, lower, own)
+            }
+        }
+        ChangeAsCut: "change: r' not looked at" {
+            fn append_nearest<L: Lower>(entry: &Entry, lower: L, own: &mut Own) -> Option<()> {
+                Plain::append_nearest(&Entry { op: CUT, ..*entry }, lower, own)
+            }
+        }
+        RivalEndsWithSecond: "cut, change: an s' that ends with s counts" {
+            fn append_nearest<L: Lower>(entry: &Entry, lower: L, own: &mut Own) -> Option<()> {
+                let is_rival =
+                    |r: &Span, s: &Span, other: &Span| other != s && other.start > r.end && other.end <= s.end;
+                append_nearest_but(entry, lower, own, is_rival, is_rival_of_first)
+            }
+        }
+        RivalStartsAtEnd: "cut, change: an s' that starts where r ends counts" {
+            fn append_nearest<L: Lower>(entry: &Entry, lower: L, own: &mut Own) -> Option<()> {
+                let is_rival = |r: &Span, s: &Span, other: &Span| other.start >= r.end && other.end < s.end;
+                append_nearest_but(entry, lower, own, is_rival, is_rival_of_first)
+            }
+        }
+        RivalStartsBefore: "cut, change: an s' that ends behind r counts, wherever it starts" {
+            fn append_nearest<L: Lower>(entry: &Entry, lower: L, own: &mut Own) -> Option<()> {
+                let is_rival = |r: &Span, s: &Span, other: &Span| other.end > r.end && other.end < s.end;
+                append_nearest_but(entry, lower, own, is_rival, is_rival_of_first)
+            }
+        }
+        RivalStartsFirst: "cut, change: the first s by its start, not by its end" {
+            fn append_nearest<L: Lower>(entry: &Entry, lower: L, own: &mut Own) -> Option<()> {
+                let is_rival = |r: &Span, s: &Span, other: &Span| {
+                    other.start > r.end && (other.start, other.end) < (s.start, s.end)
+                };
+                append_nearest_but(entry, lower, own, is_rival, is_rival_of_first)
+            }
+        }
+        RivalComesLater: "cut, change: the latest s in the place of the first" {
+            fn append_nearest<L: Lower>(entry: &Entry, lower: L, own: &mut Own) -> Option<()> {
+                let is_rival = |_: &Span, s: &Span, other: &Span| other.start > s.start;
+                append_nearest_but(entry, lower, own, is_rival, is_rival_of_first)
+            }
+        }
+        RivalIsNew: "cut, change: only rows of the closing instant looked at for an s'" {
+            fn append_nearest<L: Lower>(entry: &Entry, lower: L, own: &mut Own) -> Option<()> {
+                let is_new = |span: &Span| lower.new(entry.b).spans().any(|s| s == *span);
+                let is_rival = |r: &Span, s: &Span, other: &Span| is_new(other) && is_rival_of_second(r, s, other);
+                append_nearest_but(entry, lower, own, is_rival, is_rival_of_first)
+            }
+        }
+        OneOfTies: "cut, change: of the s of one end only the first" {
+            fn append_nearest<L: Lower>(entry: &Entry, lower: L, own: &mut Own) -> Option<()> {
+                append_changed((&Watch::empty(0), entry), lower, own, |rows| rows.dedup_by_key(|row| row[1]))
+            }
+        }
+        OneOfTiedFirsts: "cut, change: of the r of one end only the first" {
+            fn append_nearest<L: Lower>(entry: &Entry, lower: L, own: &mut Own) -> Option<()> {
+                let end_of = |left: i32| lower.all(entry.a).spans().find(|r| r.row == left).map(|r| r.end);
+                let mut seen = Vec::new();
+                append_changed((&Watch::empty(0), entry), lower, own, |rows| {
+                    rows.retain(|[_, left, right, ..]| {
+                        let is_first = !seen.iter().any(|(end, other)| *end == end_of(*left) && other == right);
+                        seen.push((end_of(*left), *right));
+                        is_first
+                    });
+                })
+            }
+        }
+        MeetsToo: "cut, change: an s that starts where r ends taken" {
+            fn append_nearest<L: Lower>(entry: &Entry, lower: L, own: &mut Own) -> Option<()> {
+                Plain::append_nearest(entry, lower, own)?;
+                let met = |r: &Span, s: &Span| r.end == s.start && r.end < s.end;
+                for r in lower.old(entry.a).spans() {
+                    for s in lower.new(entry.b).spans().filter(|s| met(&r, s)) {
+                        own.push(r.row, s.row, r.start, s.end)?;
+                    }
+                }
+                Some(())
+            }
+        }
+        RivalOfFirstStartsLater: "change: an r' that starts with r does not count" {
+            fn append_nearest<L: Lower>(entry: &Entry, lower: L, own: &mut Own) -> Option<()> {
+                let is_rival = |r: &Span, s: &Span, other: &Span| {
+                    other.start > r.start && is_rival_of_first(r, s, other)
+                };
+                append_nearest_but(entry, lower, own, is_rival_of_second, is_rival)
+            }
+        }
+        RivalOfFirstStartsAnywhere: "change: an r' that starts before r counts too" {
+            fn append_nearest<L: Lower>(entry: &Entry, lower: L, own: &mut Own) -> Option<()> {
+                let is_rival = |r: &Span, s: &Span, other: &Span| r.end < other.end && other.end < s.start;
+                append_nearest_but(entry, lower, own, is_rival_of_second, is_rival)
+            }
+        }
+        RivalOfFirstMeetsSecond: "change: an r' that ends where s starts counts" {
+            fn append_nearest<L: Lower>(entry: &Entry, lower: L, own: &mut Own) -> Option<()> {
+                let is_rival = |r: &Span, s: &Span, other: &Span| {
+                    other.start >= r.start && r.end < other.end && other.end <= s.start
+                };
+                append_nearest_but(entry, lower, own, is_rival_of_second, is_rival)
+            }
+        }
+        RivalOfFirstEndsWithIt: "change: an r' that ends with r counts" {
+            fn append_nearest<L: Lower>(entry: &Entry, lower: L, own: &mut Own) -> Option<()> {
+                let is_rival = |r: &Span, s: &Span, other: &Span| {
+                    let is_last = other.end > r.end || (other.end == r.end && other.row > r.row);
+                    other.start >= r.start && is_last && other.end < s.start
+                };
+                append_nearest_but(entry, lower, own, is_rival_of_second, is_rival)
+            }
+        }
+        RivalOfFirstBeforeAny: "change: r' looked for before the latest s of the instant alone" {
+            fn append_nearest<L: Lower>(entry: &Entry, lower: L, own: &mut Own) -> Option<()> {
+                let latest = Plain::latest_start(lower.new(entry.b));
+                let is_rival = |r: &Span, _: &Span, other: &Span| {
+                    other.start >= r.start && r.end < other.end && other.end < latest
+                };
+                append_nearest_but(entry, lower, own, is_rival_of_second, is_rival)
+            }
+        }
+        PartsExchanged: "cut, change: left and right exchanged" {
+            fn append_nearest<L: Lower>(entry: &Entry, lower: L, own: &mut Own) -> Option<()> {
+                append_changed((&Watch::empty(0), entry), lower, own, |rows| {
+                    rows.iter_mut().for_each(|row| row.swap(1, 2));
+                })
             }
         }
         SearchesOn: "absence: searched on after the first forbidding row" {

@@ -1,6 +1,6 @@
 -- Charts as text: what each operator word means, each refusal, and the order of refusals in a line. One list of cases, one theorem that the
--- checker computes. What must come out was found by hand from document 01 and request N1. No contract says as much of the words, since
--- the code and its contract share the list of them.
+-- checker computes; then the code of each word. What must come out was found by hand from document 01 and requests N1 and N5. No contract says as
+-- much of the words, since the code and its contract share the list of them.
 use Prim.Native.Nat.{ℕ}
 use Prim.Native.String.{String}
 use mathlib.Core.Path.{_≡_, refl}
@@ -10,6 +10,7 @@ use Rattle.interval.specs.Instants.{isLength}
 use Rattle.interval.specs.declared.Relation.the-variants.{Seq, And, Meets, Overlaps, Starts, During, Finishes, Equals}
 use Rattle.interval.specs.declared.Edges.the-variants.{ClosedClosed, OpenOpen, ClosedOpen, OpenClosed}
 use Rattle.interval.specs.declared.LengthTest.the-variants.{Lasts, AtMost, AtLeast}
+use Rattle.interval.specs.declared.Nearest.the-variants.{Cut, Change}
 use Rattle.text.specs.Text.{split, lines}
 use Rattle.text.specs.Quoted.{bytes, tabbed, unended, text}
 use Rattle.decimal.specs.Spelling.{isDigit, allDigits, valueFrom, hasLeadingZero, isNumber, numberOf}
@@ -18,7 +19,7 @@ use Rattle.chart.specs.Records.{withCode, eventLine, withOperands, secon
 use Rattle.chart.specs.Charts.{noEntries, withEntry, refusedChart, readLines, orNoLine, readChart}
 use Rattle.chart.specs.declared.Entry.{Entry}
 use Rattle.chart.specs.declared.operator.Kind.{Kind}
-use Rattle.chart.specs.declared.operator.Kind.the-variants.{Event, Or, Pair, Absence, Length, After}
+use Rattle.chart.specs.declared.operator.Kind.the-variants.{Event, Or, Pair, Absence, Length, After, Nearest}
 use Rattle.chart.specs.declared.operator.Shape.{Shape}
 use Rattle.chart.specs.declared.operator.Shape.the-variants.{Leaf, Single, Arms, Double, Delayed}
 
@@ -63,8 +64,8 @@ infix 80 _⇒_
 abbrev _⇒_ : String → Meaning → Written
 l ⇒ m = record { line = l; meaning = m }
 
--- the 17 words, in the order of the operator table, and `after` (request N1). In an absence "the first sign is the early edge and the second the
--- late one": `[` early and `]` late are closed, `]` early and `[` late are open.
+-- the 17 words, in the order of the operator table, then `after` (request N1), `cut` and `change` (request N5). In an absence "the first sign is the
+-- early edge and the second the late one": `[` early and `]` late are closed, `]` early and `[` late are open.
 abbrev operatorTable : List Written
 operatorTable =
     "0 event 0" ⇒ means Event Leaf 0 0 ∷
@@ -86,7 +87,11 @@ operatorTable =
     "16 atmost 15 2000000000" ⇒ means (Length AtMost) Single 15 2000000000 ∷
     "17 atleast 0 17" ⇒ means (Length AtLeast) Single 0 17 ∷
     "18 after 17 0" ⇒ means After Delayed 17 0 ∷
-    "19 after 18 2000000000" ⇒ means After Delayed 18 2000000000 ∷ []
+    "19 after 18 2000000000" ⇒ means After Delayed 18 2000000000 ∷
+    "20 cut 0 19" ⇒ means (Nearest Cut) Double 0 19 ∷
+    "21 change 20 1" ⇒ means (Nearest Change) Double 20 1 ∷
+    "22 cut 21 21" ⇒ means (Nearest Cut) Double 21 21 ∷
+    "23 change 22 22" ⇒ means (Nearest Change) Double 22 22 ∷ []
 
 abbrev tableOfWords : List Case
 tableOfWords = taken (text (map (λ (w : Written). w .line) operatorTable)) (map (λ (w : Written). w .meaning) operatorTable) ∷ []
@@ -125,6 +130,14 @@ notOfTheForm = map (λ (s : List ℕ). refused (text ("0 event 1" ∷ []) ++ s) 
     text ("1 after 0 0 0" ∷ []) ∷
     text ("1 afte 0 0" ∷ []) ∷
     text ("1 afters 0 0" ∷ []) ∷
+    text ("1 cut 0" ∷ []) ∷
+    text ("1 cut 0 0 0" ∷ []) ∷
+    text ("1 cu 0 0" ∷ []) ∷
+    text ("1 cuts 0 0" ∷ []) ∷
+    text ("1 change 0" ∷ []) ∷
+    text ("1 change 0 0 0" ∷ []) ∷
+    text ("1 chang 0 0" ∷ []) ∷
+    text ("1 changes 0 0" ∷ []) ∷
     text ("event 1" ∷ []) ∷
     text ("1 event  1" ∷ []) ∷
     text (" 1 event 1" ∷ []) ∷
@@ -151,6 +164,10 @@ notOfTheTable =
     refused (text ("0 event 1" ∷ "1 -[] 0 1" ∷ [])) 5 2 ∷
     refused (text ("0 event 1" ∷ "1 lasts 1 0" ∷ [])) 5 2 ∷
     refused (text ("0 event 1" ∷ "1 after 1 0" ∷ [])) 5 2 ∷
+    refused (text ("0 event 1" ∷ "1 cut 1 0" ∷ [])) 5 2 ∷
+    refused (text ("0 event 1" ∷ "1 cut 0 1" ∷ [])) 5 2 ∷
+    refused (text ("0 event 1" ∷ "1 change 1 0" ∷ [])) 5 2 ∷
+    refused (text ("0 event 1" ∷ "1 change 0 1" ∷ [])) 5 2 ∷
     refused (text ("0 event 256" ∷ [])) 6 1 ∷
     refused (text ("0 event 1" ∷ "1 atmost 0 2000000001" ∷ [])) 6 2 ∷
     refused (text ("0 event 1" ∷ "1 after 0 2000000001" ∷ [])) 6 2 ∷ []
@@ -177,7 +194,9 @@ inALine =
     refused (text ("0 lasts 0 2000000001" ∷ [])) 6 1 ∷
     refused (text ("0 lasts 0 2000000000" ∷ [])) 5 1 ∷
     refused (text ("0 after 0 2000000001" ∷ [])) 6 1 ∷
-    refused (text ("0 after 0 2000000000" ∷ [])) 5 1 ∷ []
+    refused (text ("0 after 0 2000000000" ∷ [])) 5 1 ∷
+    refused (text ("0 cut 0 2000000001" ∷ [])) 5 1 ∷
+    refused (text ("0 change 0 2000000001" ∷ [])) 5 1 ∷ []
 
 -- "lines from the first": the first fault of a chart is reported, whatever its number. The later line has the fault that comes first in a line.
 abbrev fromTheFirst : List Case
@@ -194,3 +213,15 @@ cases = tableOfWords ++ tooFewOrMany ++ notOfTheForm ++ notOfTheTable ++ inALine
 pub examples : map (λ (c : Case). reading (c .chart)) cases ≡ map (λ (c : Case). c .expected) cases
 unfolding cases bytes tabbed unended text split lines isLength isDigit allDigits valueFrom hasLeadingZero isNumber numberOf words sameBytes placeOf operatorOf edgesOf relationOf lengthTestOf kindOf inRange areLower withCode eventLine withOperands secondOperand operandsLine byOperator operatorLine numbered parsedLine checkedEntry checkedLine answerTo noEntries withEntry refusedChart readLines orNoLine readChart
 examples = refl
+
+-- the codes, which stay, since a host holds charts: the order of the operator table, then the words behind it; 20 is none
+abbrev wordsByCode : List String
+wordsByCode =
+    "event" ∷ "seq" ∷ "or" ∷ "and" ∷ "-[]" ∷ "-][" ∷ "-[[" ∷ "-]]" ∷ "meets" ∷ "overlaps" ∷ "starts" ∷ "during" ∷
+    "finishes" ∷ "equals" ∷ "lasts" ∷ "atmost" ∷ "atleast" ∷ "after" ∷ "cut" ∷ "change" ∷ "none" ∷ []
+
+pub codes :
+    map (λ (w : String). operatorOf (bytes w)) wordsByCode
+    ≡ 0 ∷ 1 ∷ 2 ∷ 3 ∷ 4 ∷ 5 ∷ 6 ∷ 7 ∷ 8 ∷ 9 ∷ 10 ∷ 11 ∷ 12 ∷ 13 ∷ 14 ∷ 15 ∷ 16 ∷ 17 ∷ 18 ∷ 19 ∷ 20 ∷ []
+unfolding bytes words sameBytes placeOf operatorOf
+codes = refl

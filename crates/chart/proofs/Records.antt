@@ -17,7 +17,7 @@ use Rattle.text.specs.Text.{fields, indexOf}
 use Rattle.text.proofs.Laws.{split-cut, split-none, split-some, index-le}
 use Rattle.chart.specs.Operators.{operatorOf, inRange, areLower}
 use Rattle.chart.specs.declared.operator.Kind.{Kind}
-use Rattle.chart.specs.declared.operator.Kind.the-variants.{Event, Or, Pair, Absence, Length, After, Unknown}
+use Rattle.chart.specs.declared.operator.Kind.the-variants.{Event, Or, Pair, Absence, Length, After, Nearest, Unknown}
 use Rattle.chart.specs.Records.{parsedLine, numbered, operatorLine, byOperator, eventLine, withCode, operandsLine, secondOperand, withOperands}
 use Rattle.chart.specs.declared.record.Parsed.{Parsed}
 
@@ -56,7 +56,7 @@ module _ (e : ℕ) (s : List ℕ) where
 
   pub operator-one : indexOf 9 s ≡ length s → operatorLine e (fields s) ≡ Parsed.Malformed
   unfolding operatorLine byOperator eventLine operandsLine
-  operator-one h = rw (one-field s h) (go (eqb (operatorOf s) 18) (eqb (operatorOf s) 0))
+  operator-one h = rw (one-field s h) (go (eqb (operatorOf s) 20) (eqb (operatorOf s) 0))
     where
       go : (t u : Bool) → cond t Parsed.Malformed (cond u Parsed.Malformed Parsed.Malformed) ≡ Parsed.Malformed
       go true u = refl
@@ -114,4 +114,5 @@ small (Pair c) n a b h r l = both-small n a b h l
 small (Absence c) n a b h r l = both-small n a b h l
 small (Length t) n a b h r l = length-small n a b h r l
 small After n a b h r l = length-small n a b h r l
+small (Nearest c) n a b h r l = both-small n a b h l
 small Unknown n a b h r l = never r

@@ -16,7 +16,7 @@ use Rattle.chart.specs.Charts.{readChart, orNoLine, noEntries, withEntry
 use Rattle.chart.specs.declared.Entry.{Entry}
 use Rattle.chart.specs.declared.Chart.{Chart}
 use Rattle.chart.specs.declared.operator.Kind.{Kind}
-use Rattle.chart.specs.declared.operator.Kind.the-variants.{Event, Or, Pair, Absence, Length, After, Unknown}
+use Rattle.chart.specs.declared.operator.Kind.the-variants.{Event, Or, Pair, Absence, Length, After, Nearest, Unknown}
 use Rattle.chart.specs.declared.record.Parsed.{Parsed}
 use Rattle.chart.proofs.Below.{none-below, one-more, same-below, at-place}
 use Rattle.chart.proofs.Charts.{usable, taken-first, lines-kept, all-taken}
@@ -111,6 +111,7 @@ Lower (Pair c) n a b = (a < n) × (b < n)
 Lower (Absence e) n a b = (a < n) × (b < n)
 Lower (Length t) n a b = a < n
 Lower After n a b = a < n
+Lower (Nearest c) n a b = (a < n) × (b < n)
 Lower Unknown n a b = ⊥
 
 both-lower : (n a b : ℕ) → (ltb a n && ltb b n) ≡ true → (a < n) × (b < n)
@@ -124,6 +125,7 @@ lower-told (Pair c) n a b h = both-lower n a b h
 lower-told (Absence e) n a b h = both-lower n a b h
 lower-told (Length t) n a b h = ltb-true a n h
 lower-told After n a b h = ltb-true a n h
+lower-told (Nearest c) n a b h = both-lower n a b h
 lower-told Unknown n a b h = never h
 
 pub fits-lower : (n : ℕ) (e : Entry) (k : Kind) → entryFits n e ≡ true → kindOf (e .op) ≡ k → Lower k n (e .a) (e .b)

@@ -62,7 +62,7 @@ pub place-none : (s : List ℕ) (ws : List (List ℕ)) (i : ℕ) → length ws �
 unfolding placeOf
 place-none s ws i h = rw (drop-of-length-le ws h)
 
-pub word-count : length words ≡ 18
+pub word-count : length words ≡ 20
 unfolding words
 word-count = refl
 
@@ -73,20 +73,20 @@ module _ (letters lengths : List ℕ) where
       sameBytes (take (getD lengths i 0) (drop (i * 8) letters)) (getD words i []) && (eqb (length (getD words i [])) (getD lengths i 0) && leb (getD lengths i 0) 8)
 
   abbrev pub Spelled : Type 0
-  Spelled = allBelow 18 spells ≡ true
+  Spelled = allBelow 20 spells ≡ true
 
   pub record Word (i : ℕ) : Type 0 where
     pub size : length (getD words i []) ≡ getD lengths i 0
     pub small : getD lengths i 0 ≤ 8
     pub letter : (k : ℕ) → k < getD lengths i 0 → getD (getD words i []) k 0 ≡ getD letters (i * 8 + k) 0
 
-  pub word-at : Spelled → (i : ℕ) → i < 18 → Word i
+  pub word-at : Spelled → (i : ℕ) → i < 20 → Word i
   unfolding spells
   word-at e i h =
       let n = getD lengths i 0 in
       let a = take n (drop (i * 8) letters) in
       let w = getD words i [] in
-      let p = at-place 18 spells e i h in
+      let p = at-place 20 spells e i h in
       let q : a ≡ w = same-eq a w (and-first (sameBytes a w) (eqb (length w) n && leb n 8) p) in
       let r : (eqb (length w) n && leb n 8) ≡ true = and-second (sameBytes a w) (eqb (length w) n && leb n 8) p in
       record {

@@ -1,4 +1,4 @@
--- The operators of a chart. Document 01, "Operators of a chart"; `after` by request N1.
+-- The operators of a chart. Document 01, "Operators of a chart"; `after` by request N1, `cut` and `change` by request N5.
 -- `paddedWords` and `wordLengths` alone serve the proofs.
 use Prim.Native.Nat.{ℕ, suc}
 use mathlib.Core.Bool.{Bool, true, false, cond, _&&_}
@@ -11,8 +11,9 @@ use Rattle.interval.specs.declared.Edges.{Edges}
 use Rattle.interval.specs.declared.Edges.the-variants.{ClosedClosed, OpenOpen, ClosedOpen, OpenClosed}
 use Rattle.interval.specs.declared.LengthTest.{LengthTest}
 use Rattle.interval.specs.declared.LengthTest.the-variants.{Lasts, AtMost, AtLeast}
+use Rattle.interval.specs.declared.Nearest.the-variants.{Cut, Change}
 use Rattle.chart.specs.declared.operator.Kind.{Kind}
-use Rattle.chart.specs.declared.operator.Kind.the-variants.{Event, Or, Pair, Absence, Length, After, Unknown}
+use Rattle.chart.specs.declared.operator.Kind.the-variants.{Event, Or, Pair, Absence, Length, After, Nearest, Unknown}
 use Rattle.chart.specs.declared.operator.Shape.{Shape}
 use Rattle.chart.specs.declared.operator.Shape.the-variants.{Leaf, Single, Arms, Double, Delayed}
 
@@ -36,6 +37,8 @@ words =
     (97 ∷ 116 ∷ 109 ∷ 111 ∷ 115 ∷ 116 ∷ []) ∷  -- 15 atmost
     (97 ∷ 116 ∷ 108 ∷ 101 ∷ 97 ∷ 115 ∷ 116 ∷ []) ∷  -- 16 atleast
     (97 ∷ 102 ∷ 116 ∷ 101 ∷ 114 ∷ []) ∷  -- 17 after
+    (99 ∷ 117 ∷ 116 ∷ []) ∷  -- 18 cut
+    (99 ∷ 104 ∷ 97 ∷ 110 ∷ 103 ∷ 101 ∷ []) ∷  -- 19 change
     []
 
 -- the same as the code has them: each word padded to 8 bytes, and its length
@@ -58,10 +61,12 @@ paddedWords =
     108 ∷ 97 ∷ 115 ∷ 116 ∷ 115 ∷ 32 ∷ 32 ∷ 32 ∷
     97 ∷ 116 ∷ 109 ∷ 111 ∷ 115 ∷ 116 ∷ 32 ∷ 32 ∷
     97 ∷ 116 ∷ 108 ∷ 101 ∷ 97 ∷ 115 ∷ 116 ∷ 32 ∷
-    97 ∷ 102 ∷ 116 ∷ 101 ∷ 114 ∷ 32 ∷ 32 ∷ 32 ∷ []
+    97 ∷ 102 ∷ 116 ∷ 101 ∷ 114 ∷ 32 ∷ 32 ∷ 32 ∷
+    99 ∷ 117 ∷ 116 ∷ 32 ∷ 32 ∷ 32 ∷ 32 ∷ 32 ∷
+    99 ∷ 104 ∷ 97 ∷ 110 ∷ 103 ∷ 101 ∷ 32 ∷ 32 ∷ []
 
 abbrev pub wordLengths : List ℕ
-wordLengths = 5 ∷ 3 ∷ 2 ∷ 3 ∷ 3 ∷ 3 ∷ 3 ∷ 3 ∷ 5 ∷ 8 ∷ 6 ∷ 6 ∷ 8 ∷ 6 ∷ 5 ∷ 6 ∷ 7 ∷ 5 ∷ []
+wordLengths = 5 ∷ 3 ∷ 2 ∷ 3 ∷ 3 ∷ 3 ∷ 3 ∷ 3 ∷ 5 ∷ 8 ∷ 6 ∷ 6 ∷ 8 ∷ 6 ∷ 5 ∷ 6 ∷ 7 ∷ 5 ∷ 3 ∷ 6 ∷ []
 
 unfoldable pub sameBytes : List ℕ → List ℕ → Bool
 sameBytes [] [] = true
@@ -74,7 +79,7 @@ unfoldable pub placeOf : List ℕ → List (List ℕ) → ℕ
 placeOf s [] = 0
 placeOf s (w ∷ ws) = cond (sameBytes s w) 0 (suc (placeOf s ws))
 
--- the code of the operator with this word; 18 is none
+-- the code of the operator with this word; 20 is none
 unfoldable pub operatorOf : List ℕ → ℕ
 operatorOf s = placeOf s words
 
@@ -93,9 +98,9 @@ relationOf op =
 unfoldable pub lengthTestOf : ℕ → LengthTest
 lengthTestOf op = cond (eqb op 14) Lasts (cond (eqb op 15) AtMost AtLeast)
 
--- what a code behind the operator table stands for: 17 after (request N1)
+-- what a code behind the operator table stands for: 17 after (request N1); 18 cut, 19 change (request N5)
 abbrev pub laterKindOf : ℕ → Kind
-laterKindOf op = cond (eqb op 17) After Unknown
+laterKindOf op = cond (eqb op 17) After (cond (eqb op 18) (Nearest Cut) (cond (eqb op 19) (Nearest Change) Unknown))
 
 -- what a code stands for, in the order of the operator table: event, seq, or, and; 4 to 7 absences; 8 to 13 interval relations;
 -- 14 to 16 length tests; then those behind it
@@ -111,8 +116,8 @@ kindOf op =
     (laterKindOf op)))))))
 
 -- The column "left, right" of the operator table: "serial, -1" of an event; "r, -1; or -1, s" of or; "r, s" of seq, and, meets to equals;
--- "r, -1" of the absences and the length tests; "left r, right -1" of after, whose row ends later than r (request N1). An unknown code stands in
--- no chart that a watch may use; it has a shape only to have one, and that of after, since all codes above 16 are then decided at once
+-- "r, -1" of the absences and the length tests; "left r, right -1" of after, whose row ends later than r (request N1); "Left and right are r and s"
+-- of cut and change (request N5). An unknown code stands in no chart that a watch may use; it has a shape only to have one
 abbrev pub shapeOf : Kind → Shape
 shapeOf Event = Leaf
 shapeOf Or = Arms
@@ -120,6 +125,7 @@ shapeOf (Pair c) = Double
 shapeOf (Absence e) = Single
 shapeOf (Length t) = Single
 shapeOf After = Delayed
+shapeOf (Nearest c) = Double
 shapeOf Unknown = Delayed
 
 -- "An event has a code 0 to 255"; "d is a length", also of after (request N1). An event's second operand is none, written 0
@@ -130,6 +136,7 @@ inRange (Pair c) a b = true
 inRange (Absence e) a b = true
 inRange (Length t) a b = isLength b
 inRange After a b = isLength b
+inRange (Nearest c) a b = true
 inRange Unknown a b = false
 
 -- "operands a and b are lower entry numbers and may be equal"
@@ -140,4 +147,5 @@ areLower (Pair c) n a b = ltb a n && ltb b n
 areLower (Absence e) n a b = ltb a n && ltb b n
 areLower (Length t) n a b = ltb a n
 areLower After n a b = ltb a n
+areLower (Nearest c) n a b = ltb a n && ltb b n
 areLower Unknown n a b = false

@@ -42,7 +42,7 @@ operandsLine e op [] = Parsed.Malformed
 operandsLine e op (x ∷ fs) = secondOperand e op (numberOf x) fs
 
 unfoldable pub byOperator : ℕ → ℕ → List (List ℕ) → Parsed
-byOperator e op fs = cond (eqb op 18) Parsed.Malformed (cond (eqb op 0) (eventLine e fs) (operandsLine e op fs))
+byOperator e op fs = cond (eqb op 20) Parsed.Malformed (cond (eqb op 0) (eventLine e fs) (operandsLine e op fs))
 
 unfoldable pub operatorLine : ℕ → List (List ℕ) → Parsed
 operatorLine e [] = Parsed.Malformed

@@ -6,6 +6,7 @@ ghost use mathlib.Core.List.{[]};
 ghost use Rattle.chart.specs.Operators.{words, paddedWords, wordLengths, sameBytes, operatorOf, edgesOf, relationOf, lengthTestOf, laterKindOf, kindOf, shapeOf, inRange, areLower};
 use interval::Edges;
 use interval::LengthTest;
+use interval::Nearest;
 use interval::Relation;
 
 // What an operator code stands for.
@@ -16,6 +17,7 @@ pub enum Kind {
     Absence(Edges),
     Length(LengthTest),
     After,
+    Nearest(Nearest),
     Unknown,
 }
 
@@ -29,19 +31,19 @@ pub enum Shape {
 }
 
 // The operator words in the order of their codes, each padded to 8 bytes, and their lengths.
-const WORDS: [u8; 144] =
-    *b"event   seq     or      and     -[]     -][     -[[     -]]     meets   overlapsstarts  during  finishesequals  lasts   atmost  atleast after   ";
+const WORDS: [u8; 160] =
+    *b"event   seq     or      and     -[]     -][     -[[     -]]     meets   overlapsstarts  during  finishesequals  lasts   atmost  atleast after   cut     change  ";
 
-const LENGTHS: [usize; 18] = [5, 3, 2, 3, 3, 3, 3, 3, 5, 8, 6, 6, 8, 6, 5, 6, 7, 5];
+const LENGTHS: [usize; 20] = [5, 3, 2, 3, 3, 3, 3, 3, 5, 8, 6, 6, 8, 6, 5, 6, 7, 5, 3, 6];
 
-// The code of the operator with this word, or 18 where no operator has it. At most 18 comparisons of lengths, and the bytes of those that agree.
+// The code of the operator with this word, or 20 where no operator has it. At most 20 comparisons of lengths, and the bytes of those that agree.
 pub fn operator_of(s: &[u8]) -> u8
     ensures { λ r. ⌜ r ≡ operatorOf (now (s .entry)) ⌝ }
 {
     let letters = WORDS;
     let sizes = LENGTHS;
     let mut i: u8 = 0;
-    while i < 18 {
+    while i < 20 {
         if is_word(s, i as usize, &letters, &sizes) {
             return i;
         }
@@ -51,8 +53,8 @@ pub fn operator_of(s: &[u8]) -> u8
 }
 
 // Whether s is the word of code i. The tables are lent, since a constant is laid out anew wherever it is indexed.
-fn is_word(s: &[u8], i: usize, letters: &[u8; 144], sizes: &[usize; 18]) -> bool
-    requires { ⌜ (i < 18) × (now letters ≡ paddedWords) × (now sizes ≡ wordLengths) ⌝ }
+fn is_word(s: &[u8], i: usize, letters: &[u8; 160], sizes: &[usize; 20]) -> bool
+    requires { ⌜ (i < 20) × (now letters ≡ paddedWords) × (now sizes ≡ wordLengths) ⌝ }
     ensures { λ r. ⌜ r ≡ sameBytes (now (s .entry)) (getD words i []) ⌝ }
 {
     let n = sizes[i];
@@ -90,7 +92,12 @@ pub fn kind_of(op: u8) -> Kind
 fn later_kind_of(op: u8) -> Kind
     ensures { λ r. ⌜ r ≡ laterKindOf op ⌝ }
 {
-    if op == 17 { Kind::After } else { Kind::Unknown }
+    match op {
+        17 => Kind::After,
+        18 => Kind::Nearest(Nearest::Cut),
+        19 => Kind::Nearest(Nearest::Change),
+        _ => Kind::Unknown,
+    }
 }
 
 fn edges_of(op: u8) -> Edges
@@ -138,6 +145,7 @@ pub fn shape_of(k: Kind) -> Shape
         Kind::Absence(_) => Shape::Single,
         Kind::Length(_) => Shape::Single,
         Kind::After => Shape::Delayed,
+        Kind::Nearest(_) => Shape::Double,
         Kind::Unknown => Shape::Delayed,
     }
 }
@@ -153,6 +161,7 @@ pub fn in_range(k: Kind, a: u64, b: u64) -> bool
         Kind::Absence(_) => true,
         Kind::Length(_) => interval::is_length(b),
         Kind::After => interval::is_length(b),
+        Kind::Nearest(_) => true,
         Kind::Unknown => false,
     }
 }
@@ -169,6 +178,7 @@ pub fn are_lower(k: Kind, n: u64, a: u64, b: u64) -> bool
         Kind::Absence(_) => both,
         Kind::Length(_) => a < n,
         Kind::After => a < n,
+        Kind::Nearest(_) => both,
         Kind::Unknown => false,
     }
 }

@@ -60,7 +60,7 @@ fn read_operator(entry: u64, s: &[u8]) -> Parsed
 fn by_operator(entry: u64, op: u8, s: &[u8]) -> Parsed
     ensures { λ r. ⌜ r ≡ byOperator entry op (fields (now (s .entry))) ⌝ }
 {
-    if op == 18 {
+    if op == 20 {
         return Parsed::Malformed;
     }
     if op == 0 {

@@ -9,69 +9,37 @@ use mathlib.Core.Bool.{Bool, true, false, cond, not, _&&_, _||_}
 use mathlib.Core.List.{List, [], _++_, map, map-append}
 use borrow.Author.Tests.{leb-true, leb-false, ltb-false}
 use lib.Dec.{eqb, leb, ltb}
-use lib.IntN.{ℤ, pos, negsuc, natAbs, _+ℤ_, _-ℤ_}
+use lib.IntN.{ℤ, pos, _+ℤ_, _-ℤ_}
 use lib.ListN.{length, getD, take}
 use lib.Seq.{length-take-le, getD-take}
 use lib.Signed.{leZ}
-use Rattle.interval.specs.Instants.{eqZ, least, greatest}
+use Rattle.interval.specs.Instants.{eqZ, greatest}
 use Rattle.interval.specs.Conditions.{isRelated, endingOf, isForbidding}
 use Rattle.interval.specs.declared.Relation.{Relation}
 use Rattle.interval.specs.declared.Ending.{Ending}
 use Rattle.interval.specs.declared.Ending.the-variants.{Before, Within, Together, Either}
 use Rattle.interval.specs.declared.Edges.{Edges}
 use Rattle.interval.specs.declared.LengthTest.{LengthTest}
-use Rattle.interval.proofs.Signed.{_≤ᶻ_, _<ᶻ_, never, and-first, and-second, eq-true, eq-same, eq-fact, not-eq, lt-true, lt-false, le-true, is-le, le-false, greatest-is, greatest-most, antisym, add-fact, sub-fact}
+use Rattle.interval.proofs.Signed.{_≤ᶻ_, never, and-second, eq-true, eq-same, eq-fact, not-eq, lt-true, lt-false, le-true, is-le, le-false, antisym, add-fact, sub-fact}
 use Rattle.interval.proofs.Laws.{Ends, related-ends, forbidding-inside}
 use Rattle.model.specs.Lists.{keep, some, each, numbers}
-use Rattle.model.specs.Recognitions.{Event, Operator, event, related, or, absence, lasting, after, Arm, only, left, right, delayed, endBy}
+use Rattle.model.specs.Recognitions.{Event, Operator, event, related, or, absence, lasting, after, nearest, Arm, only, left, right, delayed, endBy}
 use Rattle.model.specs.Order.{Row, row, none}
-use Rattle.model.specs.RowSteps.{Node, leaves, leaf, part, pair, of, fits, forbidden, make, rowAt, places, nodeRow, madeRows, endsAt, numbered}
+use Rattle.model.specs.RowSteps.{leaves, leaf, part, of, fits, forbidden, make, rowAt, places, nodeRow, madeRows, endsAt, numbered}
 use Rattle.model.proofs.Sorted.{keep-append}
 use Rattle.table.specs.Table.{cell, rowsIn}
-use Rattle.table.specs.Ends.{Ordered, endingBefore}
+use Rattle.table.specs.Ends.{endingBefore}
 use Rattle.table.proofs.Rows.{length-rows, row-at}
 use Rattle.table.proofs.Ends.{counted-passes, counted-fails}
 use Rattle.table.proofs.EndParts.{ends-low, ends-few}
 use Rattle.closing.specs.declared.Taken.{Taken}
 use Rattle.closing.specs.declared.Taken.the-variants.{All, Lasting}
 use Rattle.closing.specs.Added.{pendingFrom, span, when, eventRow, eventRows, partRow, isLong, takenRow, takenRows, orRows, waitedFrom, waitedTo, delayedRows, forbids, isWithin, isForbidden, absenceRow, absenceRows, topOf, pairRow, rightBy, rightFrom, pairsOf, pairsWith, nextRow, leastStart, leftBy, leftFrom, pairRows, addedRows}
-use Rattle.closing.proofs.Spans.{each-same, some-same, each-numbered, some-snoc, some-none, each-from, each-upto, each-nothing, span-same, keep-keep, keep-all, some-keep, kept-ones, kept-each, some-front}
+use Rattle.closing.proofs.Spans.{each-same, some-same, each-numbered, some-snoc, some-none, each-from, each-upto, span-same, keep-keep, keep-all, some-keep, kept-ones, some-front}
+use Rattle.closing.proofs.Grown.{Grown, ends-ordered, all-ordered, of-entry, derived, old-not, pairAt, pair-ends, paired, paired-is, pairsBy, pairs-made, pairs-none}
+use Rattle.closing.proofs.Nearest.{nearest-derived}
 use Rattle.closing.proofs.Searches.{next-none, least-start}
 use Rattle.closing.proofs.Laws.{top-le, top-rest}
-
--- a table while the instant o is closed: m rows from before, which end before o; the others of its n rows end at o
-pub record Grown (o : ℤ) (m n : ℕ) (t : List ℤ) : Type 0 where
-  pub few : m ≤ n
-  pub old : (i : ℕ) → i < m → cell t i 4 <ᶻ o
-  pub new : (i : ℕ) → m ≤ i → i < n → cell t i 4 ≡ o
-  pub proper : (i : ℕ) → i < n → cell t i 3 ≤ᶻ cell t i 4
-  pub ordered : (i j : ℕ) → i ≤ j → j < m → cell t i 4 ≤ᶻ cell t j 4
-  pub above : (i : ℕ) → i < n → leZ (pos 0) (cell t i 0) ≡ true
-
--- an entry's number, read as it stands
-pub eq-entry : (z : ℤ) (a : ℕ) → leZ (pos 0) z ≡ true → eqb (natAbs z) a ≡ eqZ z (pos a)
-eq-entry (pos z) a h = refl
-eq-entry (negsuc z) a h = never h
-
-module _ {o : ℤ} {m n : ℕ} {t : List ℤ} (g : Grown o m n t) where
-  -- no row ends later than the instant
-  pub ends : (i : ℕ) → i < n → cell t i 4 ≤ᶻ o
-  ends i h = go (leb m i) refl
-    where
-      go : (b : Bool) → leb m i ≡ b → cell t i 4 ≤ᶻ o
-      go true e = omega (arith, eq-fact (g .new i (leb-true m i e) h))
-      go false e = omega (arith, g .old i (leb-false m i e))
-
-  -- the ends of all rows do not fall
-  pub ends-ordered : (i j : ℕ) → i ≤ j → j < n → cell t i 4 ≤ᶻ cell t j 4
-  ends-ordered i j h k = go (leb m j) refl
-    where
-      go : (d : Bool) → leb m j ≡ d → cell t i 4 ≤ᶻ cell t j 4
-      go true p = omega (arith, eq-fact (g .new j (leb-true m j p) k), ends i (omega arith))
-      go false p = g .ordered i j h (leb-false m j p)
-
-  pub all-ordered : Ordered n t
-  all-ordered i j h k = is-le (cell t i 4) (cell t j 4) (ends-ordered i j h k)
 
 module _ (o : ℤ) (m n : ℕ) (t : List ℤ) (g : Grown o m n t) (entry : ℕ) where
   -- the rows from k to before l, and no others, make a row that refers to them alone and ends at the instant
@@ -116,25 +84,18 @@ module _ (o : ℤ) (m n : ℕ) (t : List ℤ) (g : Grown o m n t) (entry : ℕ) 
         ∙ each-upto one k l n (s .apart) (s .within) (λ i h j. none-else i j (s .behind i h j))
         ∙ span-same one (λ i. when (q' i) (partRow side entry o t i)) k l (λ i p h. one-is i (omega (arith, s .within)) (s .at i p h))
 
-  -- whether row i is one of entry a
-  of-entry : (a i : ℕ) → i < n → eqb ((rowAt (rowsIn n t) i) .entry) a ≡ eqZ (cell t i 0) (pos a)
-  of-entry a i h = rw (row-at n i t h) (eq-entry (cell t i 0) a (g .above i h))
-
-  abbrev derived : List (Node ℕ) → List Row
-  derived xs = keep (λ r. endsAt o (r .start) (r .end)) (map (nodeRow (rowsIn n t) entry) xs)
-
-  taken-derived : (side : Arm) (a : ℕ) (k : Taken) (i j : ℕ) → Spanned side i j → derived (map (part side) (keep (λ i. isLong k ((rowAt (rowsIn n t) i) .start) ((rowAt (rowsIn n t) i) .end)) (of (places (rowsIn n t)) a (numbers 0 (length (rowsIn n t)))))) ≡ takenRows side entry o (pos a) k i j t
+  taken-derived : (side : Arm) (a : ℕ) (k : Taken) (i j : ℕ) → Spanned side i j → derived g entry (map (part side) (keep (λ i. isLong k ((rowAt (rowsIn n t) i) .start) ((rowAt (rowsIn n t) i) .end)) (of (places (rowsIn n t)) a (numbers 0 (length (rowsIn n t)))))) ≡ takenRows side entry o (pos a) k i j t
   unfolding takenRows takenRow
   taken-derived side a k i j s =
       let q : ℕ → Bool = λ i. eqb ((rowAt (rowsIn n t) i) .entry) a in
       let p : ℕ → Bool = λ i. isLong k ((rowAt (rowsIn n t) i) .start) ((rowAt (rowsIn n t) i) .end) in
-      ap (λ l. derived (map (part side) l)) (keep-keep p q (numbers 0 (length (rowsIn n t))))
-      ∙ parts side (λ i. q i && p i) (λ i. eqZ (cell t i 0) (pos a) && isLong k (cell t i 3) (cell t i 4)) (λ i h. ap₂ _&&_ (of-entry a i h) (rw (row-at n i t h))) i j s
+      ap (λ l. derived g entry (map (part side) l)) (keep-keep p q (numbers 0 (length (rowsIn n t))))
+      ∙ parts side (λ i. q i && p i) (λ i. eqZ (cell t i 0) (pos a) && isLong k (cell t i 3) (cell t i 4)) (λ i h. ap₂ _&&_ (of-entry g entry a i h) (rw (row-at n i t h))) i j s
 
-  all-derived : (side : Arm) (a i j : ℕ) → Spanned side i j → derived (map (part side) (of (places (rowsIn n t)) a (numbers 0 (length (rowsIn n t))))) ≡ takenRows side entry o (pos a) All i j t
-  all-derived side a i j s = ap (λ l. derived (map (part side) l)) (sym (keep-all (of (places (rowsIn n t)) a (numbers 0 (length (rowsIn n t)))))) ∙ taken-derived side a All i j s
+  all-derived : (side : Arm) (a i j : ℕ) → Spanned side i j → derived g entry (map (part side) (of (places (rowsIn n t)) a (numbers 0 (length (rowsIn n t))))) ≡ takenRows side entry o (pos a) All i j t
+  all-derived side a i j s = ap (λ l. derived g entry (map (part side) l)) (sym (keep-all (of (places (rowsIn n t)) a (numbers 0 (length (rowsIn n t)))))) ∙ taken-derived side a All i j s
 
-  or-derived : (a b : ℕ) → derived (map (part left) (of (places (rowsIn n t)) a (numbers 0 (length (rowsIn n t)))) ++ map (part right) (of (places (rowsIn n t)) b (numbers 0 (length (rowsIn n t))))) ≡ orRows entry o (pos a) (pos b) m n t
+  or-derived : (a b : ℕ) → derived g entry (map (part left) (of (places (rowsIn n t)) a (numbers 0 (length (rowsIn n t)))) ++ map (part right) (of (places (rowsIn n t)) b (numbers 0 (length (rowsIn n t))))) ≡ orRows entry o (pos a) (pos b) m n t
   unfolding orRows
   or-derived a b =
       let xs = map (part left) (of (places (rowsIn n t)) a (numbers 0 (length (rowsIn n t)))) in
@@ -143,7 +104,7 @@ module _ (o : ℤ) (m n : ℕ) (t : List ℤ) (g : Grown o m n t) (entry : ℕ) 
       ∙ keep-append (λ r. endsAt o (r .start) (r .end)) (map (nodeRow (rowsIn n t) entry) xs) (map (nodeRow (rowsIn n t) entry) ys)
       ∙ ap₂ _++_ (all-derived left a m n (new-ones left (λ e. refl))) (all-derived right b m n (new-ones right (λ e. refl)))
 
-  length-derived : (c : LengthTest) (a d : ℕ) → derived (make (places (rowsIn n t)) (lasting c a d) [] (numbers 0 (length (rowsIn n t)))) ≡ takenRows left entry o (pos a) (Lasting c d) m n t
+  length-derived : (c : LengthTest) (a d : ℕ) → derived g entry (make (places (rowsIn n t)) (lasting c a d) [] (numbers 0 (length (rowsIn n t)))) ≡ takenRows left entry o (pos a) (Lasting c d) m n t
   unfolding takenRows takenRow partRow
   length-derived c a d = taken-derived only a (Lasting c d) m n (new-ones only (λ e. refl))
 
@@ -161,7 +122,7 @@ module _ (o : ℤ) (m n : ℕ) (t : List ℤ) (g : Grown o m n t) (entry : ℕ) 
         behind = λ i h k z. omega (arith, le-false (cell t i 4) e (counted-fails true n e t (all-ordered g) i h k), eq-fact z, w, f i);
       }
 
-  delay-derived : (a d : ℕ) → derived (make (places (rowsIn n t)) (after a d) [] (numbers 0 (length (rowsIn n t)))) ≡ delayedRows entry o (pos a) d n t
+  delay-derived : (a d : ℕ) → derived g entry (make (places (rowsIn n t)) (after a d) [] (numbers 0 (length (rowsIn n t)))) ≡ delayedRows entry o (pos a) d n t
   unfolding delayedRows takenRows takenRow partRow
   delay-derived a d = all-derived (delayed d) a (waitedFrom o d n t) (waitedTo o d n t) (waited d)
 
@@ -200,22 +161,22 @@ module _ (o : ℤ) (m n : ℕ) (t : List ℤ) (g : Grown o m n t) (entry : ℕ) 
         let q : ℕ → Bool = λ s. eqb (v .entry s) b in
         some-keep p q (numbers 0 (length (rowsIn n t)))
         ∙ ap (λ k. some (λ s. q s && p s) (numbers 0 k)) (length-rows n t)
-        ∙ some-same (λ s. q s && p s) forbids-at 0 n (λ s l h. ap₂ _&&_ (of-entry b s (omega arith)) (rw (row-at n r t hr, row-at n s t (omega arith))))
+        ∙ some-same (λ s. q s && p s) forbids-at 0 n (λ s l h. ap₂ _&&_ (of-entry g entry b s (omega arith)) (rw (row-at n r t hr, row-at n s t (omega arith))))
         ∙ some-front forbids-at (topOf (pos b) n t) n (top-le (pos b) t n) (λ i h g. rw (top-rest (pos b) t n i h g))
         ∙ sym (search-whole (topOf (pos b) n t) (top-le (pos b) t n))
 
-  absence-derived : (e : Edges) (a b : ℕ) → derived (make (places (rowsIn n t)) (absence e a b) [] (numbers 0 (length (rowsIn n t)))) ≡ absenceRows e entry o (pos a) (pos b) m n t
+  absence-derived : (e : Edges) (a b : ℕ) → derived g entry (make (places (rowsIn n t)) (absence e a b) [] (numbers 0 (length (rowsIn n t)))) ≡ absenceRows e entry o (pos a) (pos b) m n t
   unfolding absenceRows absenceRow partRow
   absence-derived e a b =
       let v = places (rowsIn n t) in
       let xs = numbers 0 (length (rowsIn n t)) in
       let q : ℕ → Bool = λ i. eqb (v .entry i) a in
       let p : ℕ → Bool = λ i. not (forbidden v e (of v b xs) i) in
-      ap (λ l. derived (map (part only) l)) (keep-keep p q xs)
-      ∙ parts only (λ i. q i && p i) (λ i. eqZ (cell t i 0) (pos a) && not (isForbidden e (pos b) (cell t i 3) (cell t i 4) t (topOf (pos b) n t))) (λ i h. ap₂ _&&_ (of-entry a i h) (ap not (forbidden-is e b i h))) m n (new-ones only (λ e. refl))
+      ap (λ l. derived g entry (map (part only) l)) (keep-keep p q xs)
+      ∙ parts only (λ i. q i && p i) (λ i. eqZ (cell t i 0) (pos a) && not (isForbidden e (pos b) (cell t i 3) (cell t i 4) t (topOf (pos b) n t))) (λ i h. ap₂ _&&_ (of-entry g entry a i h) (ap not (forbidden-is e b i h))) m n (new-ones only (λ e. refl))
 
   -- the events
-  event-derived : (k first pending : ℕ) (codes : List ℕ) → pending ≤ length codes → derived (leaves k (numbered o first (take pending codes))) ≡ eventRows entry o k (pendingFrom first pending) codes
+  event-derived : (k first pending : ℕ) (codes : List ℕ) → pending ≤ length codes → derived g entry (leaves k (numbered o first (take pending codes))) ≡ eventRows entry o k (pendingFrom first pending) codes
   unfolding eventRows eventRow
   event-derived k first pending codes h =
       rw (sub-zero pending)
@@ -227,49 +188,29 @@ module _ (o : ℤ) (m n : ℕ) (t : List ℤ) (g : Grown o m n t) (entry : ℕ) 
 
   -- two operands
   module _ (c : Relation) (a b : ℕ) where
-    abbrev pairAt : ℕ → ℕ → Row
-    pairAt r s = row entry (pos r) (pos s) (least (cell t r 3) (cell t s 3)) (greatest (cell t r 4) (cell t s 4))
+    abbrev fit : ℕ → ℕ → Bool
+    fit = fits (places (rowsIn n t)) c
 
-    -- the row of a pair, if it is one and ends at the instant: as the model has it, and by the table's numbers
-    abbrev paired : ℕ → ℕ → List Row
-    paired r s = cond (eqb ((rowAt (rowsIn n t) s) .entry) b && fits (places (rowsIn n t)) c r s) (when (eqZ ((nodeRow (rowsIn n t) entry (pair r s)) .end) o) (nodeRow (rowsIn n t) entry (pair r s))) []
-
-    abbrev isPair : ℕ → ℕ → Bool
-    isPair r s = eqZ (cell t s 0) (pos b) && isRelated c (cell t r 3) (cell t r 4) (cell t s 3) (cell t s 4)
-
-    paired-is : (r s : ℕ) → r < n → s < n → paired r s ≡ cond (isPair r s) (when (eqZ (greatest (cell t r 4) (cell t s 4)) o) (pairAt r s)) []
-    paired-is r s h k = rw (of-entry b s k, row-at n r t h, row-at n s t k)
+    fit-is : (r s : ℕ) → r < n → s < n → fit r s ≡ isRelated c (cell t r 3) (cell t r 4) (cell t s 3) (cell t s 4)
+    fit-is r s h k = rw (row-at n r t h, row-at n s t k)
 
     -- where the rows r and s end if they are a pair that ends at the instant
     abbrev EndsBy : Ending → ℕ → ℕ → Type 0
     EndsBy v r s = Ends v (cell t r 4) (cell t s 3) (cell t s 4) o
 
     -- a pair that is none, or ends elsewhere
-    paired-none : (r s : ℕ) → r < n → s < n → (eqZ (cell t s 0) (pos b) ≡ true → EndsBy (endingOf c) r s → ⊥) → paired r s ≡ []
-    paired-none r s h k f = paired-is r s h k ∙ go (isPair r s) refl (eqZ (greatest (cell t r 4) (cell t s 4)) o) refl
+    paired-none : (r s : ℕ) → r < n → s < n → (eqZ (cell t s 0) (pos b) ≡ true → EndsBy (endingOf c) r s → ⊥) → paired g entry fit a b r s ≡ []
+    paired-none r s h k f = paired-is g entry fit a b r s h k ∙ go (eqZ (cell t s 0) (pos b)) refl (fit r s) refl (eqZ (greatest (cell t r 4) (cell t s 4)) o) refl
       where
-        go : (x : Bool) → isPair r s ≡ x → (y : Bool) → eqZ (greatest (cell t r 4) (cell t s 4)) o ≡ y → cond x (when y (pairAt r s)) [] ≡ []
-        go true p true q =
-            let p₁ = and-first (eqZ (cell t s 0) (pos b)) (isRelated c (cell t r 3) (cell t r 4) (cell t s 3) (cell t s 4)) p in
-            let p₂ = and-second (eqZ (cell t s 0) (pos b)) (isRelated c (cell t r 3) (cell t r 4) (cell t s 3) (cell t s 4)) p in
-            absurd (f p₁ (related-ends c (cell t r 3) (cell t r 4) (cell t s 3) (cell t s 4) o (g .proper r h) (g .proper s k) p₂ (eq-true (greatest (cell t r 4) (cell t s 4)) o q)))
-        go true p false q = refl
-        go false p y q = refl
+        go : (x : Bool) → eqZ (cell t s 0) (pos b) ≡ x → (y : Bool) → fit r s ≡ y → (z : Bool) → eqZ (greatest (cell t r 4) (cell t s 4)) o ≡ z → cond (x && y) (when z (pairAt g entry r s)) [] ≡ []
+        go true p true q true e = absurd (f p (related-ends c (cell t r 3) (cell t r 4) (cell t s 3) (cell t s 4) o (g .proper r h) (g .proper s k) (sym (fit-is r s h k) ∙ q) (eq-true (greatest (cell t r 4) (cell t s 4)) o e)))
+        go true p true q false e = refl
+        go true p false q z e = refl
+        go false p y q z e = refl
 
-    old-not : (i : ℕ) → i < m → cell t i 4 ≡ o → ⊥
-    old-not i h e = omega (arith, g .old i h, eq-fact e)
-
-    -- a pair with a new row ends at the instant
-    pair-ends : (r s : ℕ) → r < n → s < n → (m ≤ r) ⊎ (m ≤ s) → eqZ (greatest (cell t r 4) (cell t s 4)) o ≡ true
-    pair-ends r s h k w = rw (antisym (greatest (cell t r 4) (cell t s 4)) o (greatest-most (λ z. z ≤ᶻ o) (cell t r 4) (cell t s 4) (ends g r h) (ends g s k)) (go w)) (eq-same o)
-      where
-        go : (m ≤ r) ⊎ (m ≤ s) → o ≤ᶻ greatest (cell t r 4) (cell t s 4)
-        go (inl z) = let v = greatest-is (cell t r 4) (cell t s 4) in omega (arith, v .left, eq-fact (g .new r z h))
-        go (inr z) = let v = greatest-is (cell t r 4) (cell t s 4) in omega (arith, v .right, eq-fact (g .new s z k))
-
-    paired-new : (r s : ℕ) → r < n → s < n → (m ≤ r) ⊎ (m ≤ s) → paired r s ≡ pairRow c entry (pos b) r (cell t r 3) (cell t r 4) t s
+    paired-new : (r s : ℕ) → r < n → s < n → (m ≤ r) ⊎ (m ≤ s) → paired g entry fit a b r s ≡ pairRow c entry (pos b) r (cell t r 3) (cell t r 4) t s
     unfolding pairRow
-    paired-new r s h k w = paired-is r s h k ∙ rw (pair-ends r s h k w)
+    paired-new r s h k w = paired-is g entry fit a b r s h k ∙ rw (fit-is r s h k, pair-ends g entry r s h k w)
 
     -- where the search for s begins
     record Right (v : Ending) (r k : ℕ) : Type 0 where
@@ -281,25 +222,25 @@ module _ (o : ℤ) (m n : ℕ) (t : List ℤ) (g : Grown o m n t) (entry : ℕ) 
     new-only v r f = record { within = g .few; before = f; from = λ s h. inr h }
 
     either-old : {r s : ℕ} → r < m → s < m → (cell t r 4 ≡ o) ⊎ (cell t s 4 ≡ o) → ⊥
-    either-old h k (inl e) = old-not _ h e
-    either-old h k (inr e) = old-not _ k e
+    either-old h k (inl e) = old-not g entry _ h e
+    either-old h k (inr e) = old-not g entry _ k e
 
     right-from : (v : Ending) (r : ℕ) → Right v r (rightBy v m r)
-    right-from Before r = new-only Before r (λ s h w. old-not s h (w .0))
-    right-from Within r = new-only Within r (λ s h w. old-not s h (w .0))
-    right-from Together r = new-only Together r (λ s h w. old-not s h (w .1))
+    right-from Before r = new-only Before r (λ s h w. old-not g entry s h (w .0))
+    right-from Within r = new-only Within r (λ s h w. old-not g entry s h (w .0))
+    right-from Together r = new-only Together r (λ s h w. old-not g entry s h (w .1))
     right-from Either r = go (leb m r) refl
       where
         go : (x : Bool) → leb m r ≡ x → Right Either r (cond x 0 m)
         go true q = record { within = omega arith; before = λ s h. absurd (omega arith); from = λ s h. inl (leb-true m r q) }
         go false q = new-only Either r (λ s h w. either-old (leb-false m r q) h w)
 
-    inner : (r : ℕ) → r < n → each (paired r) (numbers 0 n) ≡ pairsOf c entry (pos b) m n t r
+    inner : (r : ℕ) → r < n → each (paired g entry fit a b r) (numbers 0 n) ≡ pairsOf c entry (pos b) m n t r
     unfolding pairsOf
     inner r h =
         let w = right-from (endingOf c) r in
-        each-from (paired r) (rightFrom c m r) n (w .within) (λ s k. paired-none r s h (omega (arith, w .within)) (λ e v. w .before s k v))
-        ∙ span-same (paired r) (pairRow c entry (pos b) r (cell t r 3) (cell t r 4) t) (rightFrom c m r) n (λ s k l. paired-new r s h l (w .from s k))
+        each-from (paired g entry fit a b r) (rightFrom c m r) n (w .within) (λ s k. paired-none r s h (omega (arith, w .within)) (λ e v. w .before s k v))
+        ∙ span-same (paired g entry fit a b r) (pairRow c entry (pos b) r (cell t r 3) (cell t r 4) t) (rightFrom c m r) n (λ s k l. paired-new r s h l (w .from s k))
 
     -- where the search for r begins
     record Left (v : Ending) (k : ℕ) : Type 0 where
@@ -316,7 +257,7 @@ module _ (o : ℤ) (m n : ℕ) (t : List ℤ) (g : Grown o m n t) (entry : ℕ) 
         go : (x : Bool) → leb m s ≡ x → (y : Bool) → leb first s ≡ y → first ≤ s
         go true p true q = leb-true first s q
         go true p false q = never (sym (next-none (pos b) t m n s (leb-true m s p) (leb-false first s q)) ∙ e)
-        go false p y q = absurd (old-not s (leb-false m s p) w)
+        go false p y q = absurd (old-not g entry s (leb-false m s p) w)
 
     none-before : (v : Ending) → Left v 0
     none-before v = record { within = omega arith; before = λ r s h. absurd (omega arith) }
@@ -342,7 +283,7 @@ module _ (o : ℤ) (m n : ℕ) (t : List ℤ) (g : Grown o m n t) (entry : ℕ) 
         old v f = record { within = g .few; before = f }
 
         either : ltb first n ≡ false → {r s : ℕ} → r < m → s < n → eqZ (cell t s 0) (pos b) ≡ true → (cell t r 4 ≡ o) ⊎ (cell t s 4 ≡ o) → ⊥
-        either p h k e (inl w) = old-not _ h w
+        either p h k e (inl w) = old-not g entry _ h w
         either p h k e (inr w) = late p _ k e w
 
         go : (v : Ending) (x : Bool) → ltb first n ≡ x → Left v (leftBy v x (pos b) m n t)
@@ -350,45 +291,29 @@ module _ (o : ℤ) (m n : ℕ) (t : List ℤ) (g : Grown o m n t) (entry : ℕ) 
         go Before false p = all Before (λ r s k e w. late p s k e (w .0))
         go Within true p = reaching
         go Within false p = all Within (λ r s k e w. late p s k e (w .0))
-        go Together true p = old Together (λ r s h k e w. old-not r h (w .0))
+        go Together true p = old Together (λ r s h k e w. old-not g entry r h (w .0))
         go Together false p = all Together (λ r s k e w. late p s k e (w .1))
         go Either true p = none-before Either
         go Either false p = old Either (λ r s h k e w. either p h k e w)
 
-    abbrev madeWith : ℕ → List Row
-    madeWith r = cond (eqb ((rowAt (rowsIn n t) r) .entry) a) (derived (map (pair r) (keep (fits (places (rowsIn n t)) c r) (of (places (rowsIn n t)) b (numbers 0 (length (rowsIn n t))))))) []
+    abbrev made : ℕ → List Row
+    made = pairsBy g entry fit a b
 
-    of-pairs : (r : ℕ) → derived (map (pair r) (keep (fits (places (rowsIn n t)) c r) (of (places (rowsIn n t)) b (numbers 0 (length (rowsIn n t)))))) ≡ each (paired r) (numbers 0 n)
-    of-pairs r =
-        let v = places (rowsIn n t) in
-        let q : ℕ → Bool = λ s. eqb (v .entry s) b in
-        ap (λ l. derived (map (pair r) l)) (keep-keep (fits v c r) q (numbers 0 (length (rowsIn n t))))
-        ∙ ap (λ k. derived (map (pair r) (keep (λ s. q s && fits v c r s) (numbers 0 k)))) (length-rows n t)
-        ∙ kept-ones (λ x. endsAt o (x .start) (x .end)) (nodeRow (rowsIn n t) entry) (pair r) (λ s. q s && fits v c r s) (numbers 0 n)
-
-    pairs-old : (r : ℕ) → r < leftFrom (endingOf c) (pos b) m n t → madeWith r ≡ []
+    pairs-old : (r : ℕ) → r < leftFrom (endingOf c) (pos b) m n t → made r ≡ []
     pairs-old r h =
         let w = left-from (endingOf c) in
-        let l : r < n = omega (arith, w .within) in
-        rw (of-pairs r ∙ each-nothing (paired r) n (λ s k. paired-none r s l k (w .before r s h k))) (go (eqb ((rowAt (rowsIn n t) r) .entry) a))
-      where
-        go : (x : Bool) → _≡_ {A = List Row} (cond x [] []) []
-        go true = refl
-        go false = refl
+        pairs-none g entry fit a b r (λ s k. paired-none r s (omega (arith, w .within)) k (w .before r s h k))
 
-    pairs-new : (r : ℕ) → r < n → madeWith r ≡ pairsWith c entry (pos a) (pos b) m n t r
+    pairs-new : (r : ℕ) → r < n → made r ≡ pairsWith c entry (pos a) (pos b) m n t r
     unfolding pairsWith
-    pairs-new r h = rw (of-entry a r h, of-pairs r ∙ inner r h)
+    pairs-new r h = rw (of-entry g entry a r h, inner r h)
 
-    pair-derived : derived (make (places (rowsIn n t)) (related c a b) [] (numbers 0 (length (rowsIn n t)))) ≡ pairRows c entry (pos a) (pos b) m n t
+    pair-derived : derived g entry (make (places (rowsIn n t)) (related c a b) [] (numbers 0 (length (rowsIn n t)))) ≡ pairRows c entry (pos a) (pos b) m n t
     unfolding pairRows
     pair-derived =
-        let v = places (rowsIn n t) in
-        let xs = numbers 0 (length (rowsIn n t)) in
-        kept-each (λ x. endsAt o (x .start) (x .end)) (nodeRow (rowsIn n t) entry) (λ r. map (pair r) (keep (fits v c r) (of v b xs))) (λ r. eqb (v .entry r) a) xs
-        ∙ ap (λ k. each madeWith (numbers 0 k)) (length-rows n t)
-        ∙ each-from madeWith (leftFrom (endingOf c) (pos b) m n t) n (left-from (endingOf c) .within) pairs-old
-        ∙ span-same madeWith (pairsWith c entry (pos a) (pos b) m n t) (leftFrom (endingOf c) (pos b) m n t) n (λ r k h. pairs-new r h)
+        pairs-made g entry fit a b
+        ∙ each-from made (leftFrom (endingOf c) (pos b) m n t) n (left-from (endingOf c) .within) pairs-old
+        ∙ span-same made (pairsWith c entry (pos a) (pos b) m n t) (leftFrom (endingOf c) (pos b) m n t) n (λ r k h. pairs-new r h)
 
   -- what an entry makes, before it is put in order
   pub made-is : (op : Operator) (first pending : ℕ) (codes : List ℕ) → pending ≤ length codes → madeRows (record { entry = entry; operator = op; test = endsAt o }) (numbered o first (take pending codes)) (rowsIn n t) ≡ addedRows op entry o (pendingFrom first pending) codes m n t
@@ -399,3 +324,4 @@ module _ (o : ℤ) (m n : ℕ) (t : List ℤ) (g : Grown o m n t) (entry : ℕ) 
   made-is (absence e a b) first pending codes h = absence-derived e a b
   made-is (lasting c a d) first pending codes h = length-derived c a d
   made-is (after a d) first pending codes h = delay-derived a d
+  made-is (nearest c a b) first pending codes h = nearest-derived g entry b c a

@@ -38,7 +38,8 @@ use Rattle.ordering.proofs.Sorting.{length-sorted}
 use Rattle.ordering.proofs.Appended.{rows-alike, rows-ordered}
 use Rattle.closing.specs.Added.{pendingFrom, FilledBy, Tried, addedRows}
 use Rattle.closing.specs.Closed.{closedRows, closedNumber, closedTable}
-use Rattle.closing.proofs.Derived.{Grown, made-is}
+use Rattle.closing.proofs.Derived.{made-is}
+use Rattle.closing.proofs.Grown.{Grown}
 use Rattle.closing.proofs.Growth.{Ending, grown-more, added-entry, added-ending}
 
 -- an operand is a small number

@@ -5,29 +5,26 @@ use native.Mathlib.Omega.{arith}
 use native.Mathlib.Nat.{add-zero}
 use native.Mathlib.Decide.{ℕ-discrete}
 use mathlib.Core.Path.{_≡_, refl, sym, ap, _∙_, subst}
-use mathlib.Core.Logic.{inl, inr}
-use mathlib.Core.Bool.{Bool, true, false, cond, not, _&&_}
-use mathlib.Core.List.{List, [], _∷_, map, List·Memᴰ, List·Memᴰ·head, List·Memᴰ·tail, List·Memᴰ·not-nil, List·Memᴰ·eq-of-singleton, List·Memᴰ·append-cases, Memᴰ·of-map}
-use lib.Dec.{eqb}
-use lib.IntN.{ℤ, pos, _+ℤ_, _-ℤ_}
-use lib.ListN.{length, getD, take}
-use Rattle.interval.specs.Instants.{eqZ, least, greatest}
-use Rattle.interval.specs.Conditions.{isRelated, endingOf, hasLength}
-use Rattle.interval.specs.declared.Relation.{Relation}
+use mathlib.Core.List.{List, [], _∷_, map, List·Memᴰ, List·Memᴰ·head, List·Memᴰ·tail, Memᴰ·of-map}
+use lib.IntN.{ℤ, pos, _+ℤ_}
+use lib.ListN.{length, take}
+use Rattle.interval.specs.Instants.{eqZ}
 use Rattle.interval.proofs.Signed.{_≤ᶻ_, lt-true, is-lt, le-true, is-le, eqZ→, add-fact}
 use Rattle.interval.proofs.Laws.{start-le-end}
-use Rattle.model.specs.Lists.{each, numbers}
-use Rattle.model.specs.Recognitions.{Operator, event, related, or, absence, lasting, after, Arm, left, right}
-use Rattle.model.specs.Order.{Row, row, none}
-use Rattle.model.specs.RowSteps.{Node, leaf, part, pair, endsAt, numbered, make, places, nodeRow}
-use Rattle.model.proofs.Sorted.{keep-mem, each-mem}
+use Rattle.model.specs.Lists.{numbers}
+use Rattle.model.specs.Recognitions.{Operator}
+use Rattle.model.specs.Order.{Row}
+use Rattle.model.specs.RowSteps.{Node, leaf, part, pair, endsAt, numbered, make, rowAt, places, nodeRow}
+use Rattle.model.proofs.Sorted.{keep-mem}
+use Rattle.model.proofs.Trees.{end-by}
+use Rattle.model.proofs.Made.{make-made, made-all}
+use Rattle.model.proofs.Leaves.{leaves-mem}
 use Rattle.model.proofs.Rows.{numbers-mem}
 use Rattle.table.specs.Table.{cell, rowsIn, putRow, putRows}
-use Rattle.table.proofs.EndParts.{ends-low, ends-few}
-use Rattle.table.proofs.Rows.{length-put, cell-other, cell-put, row-put, puts-none, puts-on}
-use Rattle.closing.specs.Added.{Settled, pendingFrom, span, when, eventRow, eventRows, partRow, takenRow, takenRows, orRows, waitedFrom, waitedTo, delayedRows, isForbidden, absenceRow, absenceRows, topOf, pairRow, rightFrom, pairsOf, pairsWith, leftFrom, pairRows, addedRows}
-use Rattle.closing.proofs.Laws.{left-le, right-le}
-use Rattle.closing.proofs.Derived.{Grown, ends, all-ordered, made-is}
+use Rattle.table.proofs.Rows.{length-rows, row-at, length-put, cell-other, cell-put, row-put, puts-none, puts-on}
+use Rattle.closing.specs.Added.{Settled, pendingFrom, addedRows}
+use Rattle.closing.proofs.Derived.{made-is}
+use Rattle.closing.proofs.Grown.{Grown, ends, all-ordered}
 
 -- before the first entry
 pub grown-none : (o : ℤ) (n : ℕ) (t : List ℤ) → Settled o n t → Grown o n n t
@@ -96,72 +93,25 @@ node-entry rs n (part m i) = refl
 node-entry rs n (pair i j) = refl
 
 -- the rows that an entry adds
-when-mem : (b : Bool) (x r : Row) → List·Memᴰ r (when b x) → r ≡ x
-when-mem true x r k = List·Memᴰ·eq-of-singleton k
-when-mem false x r k = absurd (List·Memᴰ·not-nil k)
-
-span-low : (a e i : ℕ) → List·Memᴰ i (span a e) → a ≤ e → i < e
-span-low a e i k h = let p = numbers-mem a (e - a) i k in omega arith
-
-span-mem : (f : ℕ → List Row) (a e : ℕ) (r : Row) → List·Memᴰ r (each f (span a e)) → a ≤ e → (i : ℕ) × (i < e) × List·Memᴰ r (f i)
-span-mem f a e r k h = let p = each-mem f (span a e) k in (p .0, span-low a e (p .0) (p .1) h, p .2)
-
 module _ (o : ℤ) (m n : ℕ) (t : List ℤ) (g : Grown o m n t) (entry : ℕ) where
-  abbrev Proper : Row → Type 0
-  Proper r = r .start ≤ᶻ r .end
-
-  part-proper : (side : Arm) (i : ℕ) → i < n → Proper (partRow side entry o t i)
-  unfolding partRow
-  part-proper side i h = omega (arith, g .proper i h, ends g i h)
-
-  -- each operator whose rows refer to one row
-  parts-proper : (side : Arm) (q : ℕ → Bool) (a e : ℕ) → a ≤ e → e ≤ n → (r : Row) → List·Memᴰ r (each (λ i. when (q i) (partRow side entry o t i)) (span a e)) → Proper r
-  parts-proper side q a e h l r k =
-      let p = span-mem (λ i. when (q i) (partRow side entry o t i)) a e r k h in
-      subst Proper (sym (when-mem (q (p .0)) (partRow side entry o t (p .0)) r (p .2))) (part-proper side (p .0) (omega (arith, p .1)))
-
-  news-proper : (side : Arm) (q : ℕ → Bool) (r : Row) → List·Memᴰ r (each (λ i. when (q i) (partRow side entry o t i)) (span m n)) → Proper r
-  news-proper side q = parts-proper side q m n (g .few) (omega arith)
-
-  event-proper : (k first pending : ℕ) (codes : List ℕ) (r : Row) → List·Memᴰ r (eventRows entry o k (pendingFrom first pending) codes) → Proper r
-  unfolding eventRows eventRow
-  event-proper k first pending codes r w =
-      let p = each-mem (λ j. when (eqb (getD codes j 0) k) (row entry (pos (first + j)) none o o)) (span 0 pending) w in
-      subst Proper (sym (when-mem (eqb (getD codes (p .0) 0) k) (row entry (pos (first + p .0)) none o o) r (p .2))) (omega arith)
-
-  pair-proper : (c : Relation) (b : ℤ) (i : ℕ) → i < n → (r : Row) → List·Memᴰ r (pairsOf c entry b m n t i) → Proper r
-  unfolding pairsOf pairRow
-  pair-proper c b i h r k =
-      let f : ℕ → List Row = λ s. when (eqZ (cell t s 0) b && isRelated c (cell t i 3) (cell t i 4) (cell t s 3) (cell t s 4)) (row entry (pos i) (pos s) (least (cell t i 3) (cell t s 3)) (greatest (cell t i 4) (cell t s 4))) in
-      let p = span-mem f (rightFrom c m i) n r k (right-le (endingOf c) m i n (g .few)) in
-      let s = p .0 in
-      subst Proper (sym (when-mem (eqZ (cell t s 0) b && isRelated c (cell t i 3) (cell t i 4) (cell t s 3) (cell t s 4)) (row entry (pos i) (pos s) (least (cell t i 3) (cell t s 3)) (greatest (cell t i 4) (cell t s 4))) r (p .2))) (start-le-end (cell t i 3) (cell t i 4) (cell t s 3) (cell t s 4) (g .proper i h) (g .proper s (p .1)))
-
-  pairs-proper : (c : Relation) (a b : ℤ) (r : Row) → List·Memᴰ r (pairRows c entry a b m n t) → Proper r
-  unfolding pairRows pairsWith
-  pairs-proper c a b r k =
-      let f : ℕ → List Row = λ i. cond (eqZ (cell t i 0) a) (pairsOf c entry b m n t i) [] in
-      let p = span-mem f (leftFrom (endingOf c) b m n t) n r k (left-le (endingOf c) b m n t (g .few)) in
-      go (p .0) (p .1) (eqZ (cell t (p .0) 0) a) (p .2)
-    where
-      go : (i : ℕ) → i < n → (x : Bool) → List·Memᴰ r (cond x (pairsOf c entry b m n t i) []) → Proper r
-      go i h true w = pair-proper c b i h r w
-      go i h false w = absurd (List·Memᴰ·not-nil w)
-
   abbrev nodes : Operator → ℕ → ℕ → List ℕ → List (Node ℕ)
   nodes op first pending codes = make (places (rowsIn n t)) op (numbered o first (take pending codes)) (numbers 0 (length (rowsIn n t)))
 
-  abbrev isOf : ℕ → ℕ → Bool
-  isOf a i = eqZ (cell t i 0) (pos a)
+  -- a row that is made of rows which start no later than they end does so too
+  abbrev Starts : Row → Type 0
+  Starts r = r .start ≤ᶻ r .end
 
-  added-proper : (op : Operator) (first pending : ℕ) (codes : List ℕ) (r : Row) → List·Memᴰ r (addedRows op entry o (pendingFrom first pending) codes m n t) → Proper r
-  unfolding addedRows orRows delayedRows takenRows takenRow absenceRows absenceRow
-  added-proper (event k) first pending codes r w = event-proper k first pending codes r w
-  added-proper (related c a b) first pending codes r w = pairs-proper c (pos a) (pos b) r w
-  added-proper (or a b) first pending codes r w = elim (List·Memᴰ·append-cases (each (λ i. when (isOf a i && true) (partRow left entry o t i)) (span m n)) w) [ inl k ↦ news-proper left (λ i. isOf a i && true) r k | inr k ↦ news-proper right (λ i. isOf b i && true) r k ]
-  added-proper (absence e a b) first pending codes r w = news-proper left (λ i. isOf a i && not (isForbidden e (pos b) (cell t i 3) (cell t i 4) t (topOf (pos b) n t))) r w
-  added-proper (lasting c a d) first pending codes r w = news-proper left (λ i. isOf a i && hasLength c d (cell t i 3) (cell t i 4)) r w
-  added-proper (after a d) first pending codes r w = parts-proper left (λ i. isOf a i && true) (waitedFrom o d n t) (waitedTo o d n t) (ends-low (o -ℤ pos d) n t) (ends-few (o -ℤ pos d) n t) r w
+  row-starts : (i : ℕ) → List·Memᴰ i (numbers 0 (length (rowsIn n t))) → Starts (rowAt (rowsIn n t) i)
+  row-starts i k = let h : i < n = omega (arith, numbers-mem 0 (length (rowsIn n t)) i k, length-rows n t) in rw (row-at n i t h) (g .proper i h)
+
+  node-starts : (op : Operator) (first pending : ℕ) (codes : List ℕ) (x : Node ℕ) → List·Memᴰ x (nodes op first pending codes) → Starts (nodeRow (rowsIn n t) entry x)
+  node-starts op first pending codes x k =
+      let rs = rowsIn n t in
+      let es = numbered o first (take pending codes) in
+      made-all (places rs) (λ i. Starts (rowAt rs i)) (λ y. Starts (nodeRow rs entry y)) (numbers 0 (length rs)) row-starts
+      (λ side i h. omega (arith, end-by side ((rowAt rs i) .end)))
+      (λ i j h l. start-le-end ((rowAt rs i) .start) ((rowAt rs i) .end) ((rowAt rs j) .start) ((rowAt rs j) .end) h l)
+      op es x (λ c w. subst (λ y. Starts (nodeRow rs entry y)) (sym (leaves-mem c es x w .is)) (omega arith)) (make-made (places rs) op es (numbers 0 (length rs)) x k)
 
   -- what an entry adds is what it makes of the rows there are
   added-made : (op : Operator) (first pending : ℕ) (codes : List ℕ) → pending ≤ length codes → (r : Row) → List·Memᴰ r (addedRows op entry o (pendingFrom first pending) codes m n t) → List·Memᴰ r (map (nodeRow (rowsIn n t) entry) (nodes op first pending codes)) × (r .end ≡ o)
@@ -175,4 +125,7 @@ module _ (o : ℤ) (m n : ℕ) (t : List ℤ) (g : Grown o m n t) (entry : ℕ) 
       sym (ap (λ x. x .entry) (q .2)) ∙ node-entry (rowsIn n t) entry (q .0)
 
   pub added-ending : (op : Operator) (first pending : ℕ) (codes : List ℕ) → pending ≤ length codes → (r : Row) → List·Memᴰ r (addedRows op entry o (pendingFrom first pending) codes m n t) → Ending o r
-  added-ending op first pending codes h r w = record { at = added-made op first pending codes h r w .1; proper = added-proper op first pending codes r w }
+  added-ending op first pending codes h r w =
+      let k = added-made op first pending codes h r w in
+      let q = Memᴰ·of-map (nodeRow (rowsIn n t) entry) (nodes op first pending codes) (k .0) in
+      record { at = k .1; proper = subst Starts (q .2) (node-starts op first pending codes (q .0) (q .1)) }

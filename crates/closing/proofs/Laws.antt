@@ -1,11 +1,12 @@
 -- What a test that the code made tells of the table's numbers, and a turn of each loop over plain variables.
-use Prim.Native.Nat.{ℕ, zero, suc, _-_, _≤_, _<_}
+use Prim.Native.Nat.{ℕ, zero, suc, _+_, _-_, _≤_, _<_}
 use native.Mathlib.Omega.{arith}
 use native.Mathlib.Decide.{ℕ-discrete}
+use borrow.Author.Tests.{lt-ltb, le-ltb}
 use mathlib.Core.Path.{_≡_, refl, sym, ap, _∙_}
 use mathlib.Core.Bool.{Bool, true, false, cond}
 use mathlib.Core.List.{List, [], _∷_}
-use lib.Dec.{leb, ltb}
+use lib.Dec.{ltb}
 use lib.IntN.{ℤ}
 use lib.Signed.{leZ}
 use mir.Syntax.{w32}
@@ -13,15 +14,21 @@ use mir.Val.{SFits, toZ, ofZ}
 use Rattle.interval.proofs.Machine.{same32}
 use Rattle.interval.specs.Instants.{eqZ}
 use Rattle.interval.proofs.Signed.{never}
+use Rattle.interval.specs.declared.Nearest.{Nearest}
+use Rattle.interval.specs.declared.Nearest.the-variants.{Cut, Change}
 use Rattle.interval.specs.declared.Relation.{Relation}
 use Rattle.interval.specs.declared.Edges.{Edges}
 use Rattle.interval.specs.declared.Ending.{Ending}
 use Rattle.interval.specs.declared.Ending.the-variants.{Before, Within, Together, Either}
+use Rattle.model.specs.Lists.{each}
 use Rattle.model.specs.Recognitions.{Arm, left}
-use Rattle.table.specs.Table.{cell}
+use Rattle.table.specs.Table.{cell, storedRow}
+use Rattle.table.specs.declared.Row as stored
 use Rattle.table.proofs.EndParts.{ends-low, ends-few}
+use Rattle.closing.specs.declared.Sought.{Sought}
 use Rattle.closing.specs.declared.Taken.{Taken}
-use Rattle.closing.specs.Added.{partRow, takenRow, takenRows, forbids, isWithin, isForbidden, absenceRow, topOf, SameTop, pairRow, rightBy, rightFrom, pairsOf, pairsWith, nextRow, leastStart, leftBy, leftFrom}
+use Rattle.closing.specs.declared.Wanted.{Wanted}
+use Rattle.closing.specs.Added.{span, partRow, takenRow, takenRows, forbids, isWithin, isForbidden, absenceRow, topOf, SameTop, isWanted, pairRow, rightFrom, pairsOf, pairsWith, nextRow, leastStart, leftBy, leftFrom, latestStart, nearFrom, nearTo, rivalFrom, limitBy, nearestRow, nearestPairs, wantedBy, nearestOf, nearestWith, soughtBy, nearestRows}
 use Rattle.closing.proofs.Spans.{span-same}
 use Rattle.closing.proofs.Filling.{Kept}
 
@@ -62,6 +69,27 @@ module _ (n : ℕ) (t u : List ℤ) (k : Kept n t u) (entry : ℕ) where
   pairs-same c b m e r h g =
       rw (k r 3 h (omega arith), k r 4 h (omega arith), span-same (pairRow c entry b r (cell u r 3) (cell u r 4) t) (pairRow c entry b r (cell u r 3) (cell u r 4) u) (rightFrom c m r) e (λ s p q. pair-same c b r (cell u r 3) (cell u r 4) s (omega arith)))
 
+  pub nearest-same : (w : Wanted) (limit : ℤ) (s : ℕ) → s < n → nearestRow entry w limit t s ≡ nearestRow entry w limit u s
+  unfolding nearestRow
+  nearest-same w limit s h = rw (k s 3 h (omega arith), pair-same (w .relation) (w .operand) (w .left) (w .start) (w .end) s h)
+
+  nearests-same : (w : Wanted) (limit : ℤ) (m e : ℕ) → e ≤ n → nearestPairs entry w limit m e t ≡ nearestPairs entry w limit m e u
+  unfolding nearestPairs
+  nearests-same w limit m e g = span-same (nearestRow entry w limit t) (nearestRow entry w limit u) m e (λ s p q. nearest-same w limit s (omega arith))
+
+  rival-same : (a : ℤ) (r : stored.Row) (x : ℤ) (i j : ℕ) → i + j ≤ n → rivalFrom a r t x i j ≡ rivalFrom a r u x i j
+  unfolding rivalFrom
+  rival-same a r x i zero h = refl
+  rival-same a r x i (suc j) h = rw (k i 0 (omega arith) (omega arith), k i 3 (omega arith) (omega arith), k i 4 (omega arith) (omega arith), rival-same a r x (suc i) j (omega arith))
+
+  limit-same : (c : Nearest) (o a : ℤ) (to r : ℕ) → r < n → to ≤ n → limitBy c o a to t r ≡ limitBy c o a to u r
+  limit-same Cut o a to r h g = refl
+  limit-same Change o a to r h g = rw (k r 0 h (omega arith), k r 1 h (omega arith), k r 2 h (omega arith), k r 3 h (omega arith), k r 4 h (omega arith)) (rival-same a (storedRow u r) o (r + 1) (to - (r + 1)) (omega arith))
+
+  pub nearest-of-same : (c : Sought) (o : ℤ) (m e r : ℕ) → r < n → c .to ≤ n → e ≤ n → nearestOf c entry o m e t r ≡ nearestOf c entry o m e u r
+  unfolding nearestOf
+  nearest-of-same c o m e r h g l = rw (k r 3 h (omega arith), k r 4 h (omega arith), limit-same (c .nearest) o (c .a) (c .to) r h g, nearests-same (wantedBy (c .b) u r) (limitBy (c .nearest) o (c .a) (c .to) u r) m e l)
+
 -- the pairs of a row that is one of a, and of one that is not
 module _ (c : Relation) (entry : ℕ) (a b : ℤ) (m n : ℕ) (t : List ℤ) (r : ℕ) where
   pub pairs-with : eqZ (cell t r 0) a ≡ true → pairsOf c entry b m n t r ≡ pairsWith c entry a b m n t r
@@ -71,6 +99,46 @@ module _ (c : Relation) (entry : ℕ) (a b : ℤ) (m n : ℕ) (t : List ℤ) (r 
   pub pairs-none : eqZ (cell t r 0) a ≡ false → pairsWith c entry a b m n t r ≡ []
   unfolding pairsWith
   pairs-none e = rw e
+
+-- a row s that is not wanted; one that starts at the limit or before, and one that starts later
+module _ (entry : ℕ) (w : Wanted) (t : List ℤ) (s : ℕ) where
+  pub pair-other : isWanted w (storedRow t s) ≡ false → pairRow (w .relation) entry (w .operand) (w .left) (w .start) (w .end) t s ≡ []
+  unfolding pairRow
+  pair-other e = rw e
+
+  module _ (limit : ℤ) where
+    pub nearest-in : leZ (cell t s 3) limit ≡ true → pairRow (w .relation) entry (w .operand) (w .left) (w .start) (w .end) t s ≡ nearestRow entry w limit t s
+    unfolding nearestRow
+    nearest-in e = rw e
+
+    pub nearest-late : leZ (cell t s 3) limit ≡ false → nearestRow entry w limit t s ≡ []
+    unfolding nearestRow
+    nearest-late e = rw e
+
+-- the nearest pairs of a row that is one of a, and of one that is not
+module _ (c : Sought) (entry : ℕ) (o : ℤ) (m n : ℕ) (t : List ℤ) (r : ℕ) where
+  pub nearest-with : eqZ (cell t r 0) (c .a) ≡ true → nearestOf c entry o m n t r ≡ nearestWith c entry o m n t r
+  unfolding nearestWith
+  nearest-with e = rw e
+
+  pub nearest-none : eqZ (cell t r 0) (c .a) ≡ false → nearestWith c entry o m n t r ≡ []
+  unfolding nearestWith
+  nearest-none e = rw e
+
+-- all nearest pairs: where a row of b is new, and where none is
+module _ (c : Nearest) (entry : ℕ) (o a b : ℤ) (m n : ℕ) (t : List ℤ) where
+  pub nearest-new : nextRow b m n t < n → each (nearestWith (soughtBy c a b (nearTo b m n t)) entry o m n t) (span (nearFrom b m t) (nearTo b m n t)) ≡ nearestRows c entry o a b m n t
+  unfolding nearestRows
+  nearest-new h = rw (lt-ltb (nextRow b m n t) n h)
+
+  pub nearest-old : n ≤ nextRow b m n t → nearestRows c entry o a b m n t ≡ []
+  unfolding nearestRows
+  nearest-old h = rw (le-ltb (nextRow b m n t) n h)
+
+-- where the search for r in nearest pairs ends
+pub near-le : (b : ℤ) (m n : ℕ) (t : List ℤ) → nearTo b m n t ≤ m
+unfolding nearTo
+near-le b m n t = let e = latestStart b (cell t (nextRow b m n t) 3) (nextRow b m n t) n t in omega (arith, ends-low e m t, ends-few e m t)
 
 -- where the search for r begins
 pub left-le : (v : Ending) (b : ℤ) (m n : ℕ) (t : List ℤ) → m ≤ n → leftFrom v b m n t ≤ n
@@ -86,16 +154,6 @@ left-le v b m n t h = go v (ltb (nextRow b m n t) n)
     go Together false = omega arith
     go Either true = omega arith
     go Either false = omega arith
-
-pub right-le : (v : Ending) (m r n : ℕ) → m ≤ n → rightBy v m r ≤ n
-right-le Before m r n h = h
-right-le Within m r n h = h
-right-le Together m r n h = h
-right-le Either m r n h = go (leb m r)
-  where
-    go : (x : Bool) → cond x 0 m ≤ n
-    go true = omega arith
-    go false = h
 
 -- the place behind the last row of b
 module _ (b : ℤ) (t : List ℤ) where

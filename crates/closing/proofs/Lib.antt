@@ -1,6 +1,9 @@
 pub mod Spans
 pub mod Filling
 pub mod Searches
+pub mod Visits
+pub mod Grown
+pub mod Nearest
 pub mod Derived
 pub mod Laws
 pub mod Growth

@@ -31,7 +31,7 @@ use Rattle.table.proofs.EndParts.{ends-low, ends-few}
 use Rattle.closing.specs.Added.{Settled, nextRow}
 use Rattle.closing.proofs.Spans.{each-same, each-last}
 use Rattle.closing.proofs.Searches.{next-least, next-none, next-is}
-use Rattle.closing.proofs.Derived.{eq-entry}
+use Rattle.closing.proofs.Grown.{eq-entry}
 
 module _ (last limit a : ℤ) (d n : ℕ) (t : List ℤ) (s : Settled (last +ℤ pos 1) n t) (h : last <ᶻ limit) (above : leZ (pos 0) a ≡ true) where
   -- the rows at whose ends a wait would end behind `last` and before the limit

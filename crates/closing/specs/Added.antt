@@ -9,15 +9,18 @@ use mathlib.Core.List.{List, [], _∷_, _++_}
 use lib.Dec.{eqb, leb, ltb}
 use lib.IntN.{ℤ, pos, natAbs, _-ℤ_}
 use lib.ListN.{length, getD, take, drop}
-use lib.Signed.{leZ}
+use lib.Signed.{leZ, ltZ}
 use Rattle.interval.specs.Instants.{eqZ, least, greatest}
 use Rattle.interval.specs.Conditions.{isRelated, endingOf, isForbidding, hasLength}
 use Rattle.interval.specs.declared.Relation.{Relation}
+use Rattle.interval.specs.declared.Relation.the-variants.{Seq}
 use Rattle.interval.specs.declared.Ending.{Ending}
 use Rattle.interval.specs.declared.Ending.the-variants.{Before, Within, Together, Either}
 use Rattle.interval.specs.declared.Edges.{Edges}
+use Rattle.interval.specs.declared.Nearest.{Nearest}
+use Rattle.interval.specs.declared.Nearest.the-variants.{Cut, Change}
 use Rattle.model.specs.Lists.{each, numbers}
-use Rattle.model.specs.Recognitions.{Event, Operator, event, related, or, absence, lasting, after, Arm, left, right}
+use Rattle.model.specs.Recognitions.{Event, Operator, event, related, or, absence, lasting, after, nearest, Arm, left, right}
 use Rattle.model.specs.Order.{Row, row, none, leftOf, rightOf}
 use Rattle.table.specs.Table.{cell, storedRow, fill, putRows}
 use Rattle.model.specs.RowSteps.{numbered}
@@ -27,6 +30,7 @@ use Rattle.table.specs.declared.Row as stored
 use Rattle.closing.specs.declared.Frame.{Frame}
 use Rattle.closing.specs.declared.Pending.{Pending}
 use Rattle.closing.specs.declared.Wanted.{Wanted}
+use Rattle.closing.specs.declared.Sought.{Sought}
 use Rattle.closing.specs.declared.Taken.{Taken}
 use Rattle.closing.specs.declared.Taken.the-variants.{All, Lasting}
 
@@ -41,10 +45,14 @@ pub record Appendable (f : Frame) (n : ℕ) (t : List ℤ) : Type 0 where
   pub inside : f .end ≤ n
   pub ordered : Ordered (f .end) t
 
+-- the first n rows start no later than they end
+abbrev pub Proper : ℕ → List ℤ → Type 0
+Proper n t = (i : ℕ) → i < n → leZ (cell t i 3) (cell t i 4) ≡ true
+
 -- n rows that end before o, in the order of their ends: what closing o asks of them
 pub record Settled (o : ℤ) (n : ℕ) (t : List ℤ) : Type 0 where
   pub above : (i : ℕ) → i < n → leZ (pos 0) (cell t i 0) ≡ true
-  pub proper : (i : ℕ) → i < n → leZ (cell t i 3) (cell t i 4) ≡ true
+  pub proper : Proper n t
   pub ordered : Ordered n t
   pub ended : EndBefore o n t
 
@@ -219,6 +227,65 @@ leftFrom e b m n t = leftBy e (ltb (nextRow b m n t) n) b m n t
 unfoldable pub pairRows : Relation → ℕ → ℤ → ℤ → ℕ → ℕ → List ℤ → List Row
 pairRows c entry a b m n t = each (pairsWith c entry a b m n t) (span (leftFrom (endingOf c) b m n t) n)
 
+-- cut, change: the latest of x and the starts of the rows of b among the k rows from row i on, the last of them first; and of those from row i to
+-- before row e
+unfoldable pub latestFrom : ℤ → List ℤ → ℕ → ℤ → ℕ → ℤ
+latestFrom b t i x zero = x
+latestFrom b t i x (suc k) = latestFrom b t i (cond (eqZ (cell t (i + k) 0) b) (greatest x (cell t (i + k) 3)) x) k
+
+abbrev pub latestStart : ℤ → ℤ → ℕ → ℕ → List ℤ → ℤ
+latestStart b x i e t = latestFrom b t i x (e - i)
+
+-- where the search for r begins and ends: at the rows that end no earlier than the latest start of the old rows of b, where rivals of s end, and
+-- before the latest start of the new ones. Of the old rows none ends before the first does
+unfoldable pub nearFrom : ℤ → ℕ → List ℤ → ℕ
+nearFrom b m t = endingBefore m (latestStart b (cell t 0 4) 0 (topOf b m t) t) t
+
+unfoldable pub nearTo : ℤ → ℕ → ℕ → List ℤ → ℕ
+nearTo b m n t = endingBefore m (latestStart b (cell t (nextRow b m n t) 3) (nextRow b m n t) n t) t
+
+-- whether row q is one of a that starts no earlier than r and ends later: a rival of r for every s that starts after q ends
+abbrev pub isLaterRow : ℤ → stored.Row → stored.Row → Bool
+isLaterRow a r q = eqZ (q .entry) a && (leZ (r .start) (q .start) && ltZ (r .end) (q .end))
+
+-- the end of the first such row of the k rows from row i on, or x if there is none; and from row i to before row e
+unfoldable pub rivalFrom : ℤ → stored.Row → List ℤ → ℤ → ℕ → ℕ → ℤ
+rivalFrom a r t x i zero = x
+rivalFrom a r t x i (suc k) = cond (isLaterRow a r (storedRow t i)) (cell t i 4) (rivalFrom a r t x (suc i) k)
+
+abbrev pub rivalEnd : ℤ → stored.Row → ℤ → ℕ → ℕ → List ℤ → ℤ
+rivalEnd a r x i e t = rivalFrom a r t x i (e - i)
+
+-- up to where s may start, given r: before the instant o and no later than the first rival of r ends
+abbrev pub limitBy : Nearest → ℤ → ℤ → ℕ → List ℤ → ℕ → ℤ
+limitBy Cut o a to t r = o
+limitBy Change o a to t r = rivalEnd a (storedRow t r) o (r + 1) to t
+
+unfoldable pub nearestRow : ℕ → Wanted → ℤ → List ℤ → ℕ → List Row
+nearestRow entry w limit t s = cond (leZ (cell t s 3) limit) (pairRow (w .relation) entry (w .operand) (w .left) (w .start) (w .end) t s) []
+
+unfoldable pub nearestPairs : ℕ → Wanted → ℤ → ℕ → ℕ → List ℤ → List Row
+nearestPairs entry w limit m n t = each (nearestRow entry w limit t) (span m n)
+
+-- the pairs of row r
+abbrev pub wantedBy : ℤ → List ℤ → ℕ → Wanted
+wantedBy b t r = record { relation = Seq; operand = b; left = r; start = cell t r 3; end = cell t r 4 }
+
+unfoldable pub nearestOf : Sought → ℕ → ℤ → ℕ → ℕ → List ℤ → ℕ → List Row
+nearestOf k entry o m n t r = nearestPairs entry (wantedBy (k .b) t r) (limitBy (k .nearest) o (k .a) (k .to) t r) m n t
+
+unfoldable pub nearestWith : Sought → ℕ → ℤ → ℕ → ℕ → List ℤ → ℕ → List Row
+nearestWith k entry o m n t r = cond (eqZ (cell t r 0) (k .a)) (nearestOf k entry o m n t r) []
+
+abbrev pub soughtBy : Nearest → ℤ → ℤ → ℕ → Sought
+soughtBy c a b to = record { nearest = c; a = a; b = b; to = to }
+
+unfoldable pub nearestRows : Nearest → ℕ → ℤ → ℤ → ℤ → ℕ → ℕ → List ℤ → List Row
+nearestRows c entry o a b m n t =
+    cond (ltb (nextRow b m n t) n)
+    (each (nearestWith (soughtBy c a b (nearTo b m n t)) entry o m n t) (span (nearFrom b m t) (nearTo b m n t)))
+    []
+
 -- by the operator, o being the instant that is closed
 unfoldable pub addedRows : Operator → ℕ → ℤ → Pending → List ℕ → ℕ → ℕ → List ℤ → List Row
 addedRows (event k) entry o p codes m n t = eventRows entry o k p codes
@@ -227,3 +294,4 @@ addedRows (or a b) entry o p codes m n t = orRows entry o (pos a) (pos b) m n t
 addedRows (absence e a b) entry o p codes m n t = absenceRows e entry o (pos a) (pos b) m n t
 addedRows (lasting c a d) entry o p codes m n t = takenRows left entry o (pos a) (Lasting c d) m n t
 addedRows (after a d) entry o p codes m n t = delayedRows entry o (pos a) d n t
+addedRows (nearest c a b) entry o p codes m n t = nearestRows c entry o (pos a) (pos b) m n t

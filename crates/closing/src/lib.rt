@@ -20,7 +20,7 @@ ghost use Rattle.model.specs.Statements.{NextDue};
 ghost use Rattle.table.specs.Table.{cell, storedRow, rowsIn};
 ghost use Rattle.table.specs.Ends.{Ordered, endingBefore};
 ghost use Rattle.table.specs.Operators.{operatorsOf, entryOperator};
-ghost use Rattle.closing.specs.Added.{Appendable, Settled, Appended, Tried, SerialsFit, serialRow, eventsAt, eventRows, armOf, partOf, partRow, isTaken, takenRow, takenRows, orRows, delayedRows, forbids, isWithin, absenceRows, topOf, SameTop, nextRow, Passed, leastStart, isWanted, pairOf, pairRow, rightFrom, pairsOf, leftFrom, pairRows, addedRows};
+ghost use Rattle.closing.specs.Added.{Appendable, Proper, Settled, Appended, Tried, SerialsFit, serialRow, eventsAt, eventRows, armOf, partOf, partRow, isTaken, takenRow, takenRows, orRows, delayedRows, forbids, isWithin, absenceRows, topOf, SameTop, nextRow, Passed, leastStart, isWanted, pairOf, pairRow, rightFrom, pairsOf, leftFrom, pairRows, latestStart, nearFrom, nearTo, isLaterRow, rivalEnd, limitBy, nearestPairs, nearestOf, nearestRows, addedRows};
 ghost use Rattle.closing.specs.Closed.{Closable, closedRows, closedNumber, closedTable};
 use chart::Chart;
 use chart::Entry;
@@ -28,6 +28,7 @@ use chart::operator::Kind;
 use interval::Edges;
 use interval::Ending;
 use interval::LengthTest;
+use interval::Nearest;
 use interval::Relation;
 use state::WatchState;
 use table::Row;
@@ -75,6 +76,20 @@ struct Wanted {
     left: usize,
     start: i32,
     end: i32,
+}
+
+// What cut and change look for: the operator, its operands, and the place behind the last row that can be r or a rival of r.
+struct Sought {
+    nearest: Nearest,
+    a: i32,
+    b: i32,
+    to: usize,
+}
+
+// Rows from one to before another.
+struct Span {
+    from: usize,
+    to: usize,
 }
 
 // Whether an event's code is k.
@@ -574,6 +589,153 @@ fn pair_rows(t: &mut [i32], n: usize, f: Frame, c: Relation, a: i32, b: i32) -> 
     count
 }
 
+// The latest of x and the starts of the rows of b from row i to before row e. One look at each of these rows, the last first, up to one that ends no
+// later than the latest start so far, since no row before that starts later.
+fn latest_start(t: &[i32], i: usize, e: usize, b: i32, x: i32) -> i32
+    requires { ⌜ (i ≤ e) × (e * 5 ≤ length (now t)) × Ordered e (now t) × Proper e (now t) ⌝ }
+    ensures { λ r. ⌜ r ≡ latestStart b x i e (now (t .entry)) ⌝ }
+{
+    let mut latest = x;
+    let mut j = e;
+    while i < j {
+        j -= 1;
+        let row = table::row_at(t, j);
+        if interval::is_no_later(row.end, latest) {
+            return latest;
+        }
+        if row.entry == b {
+            latest = interval::greatest_end(latest, row.start);
+        }
+    }
+    latest
+}
+
+// Which rows can be r, row s being the first new row of b. An s' that starts after r ends and ends before s does is an old row, so that there is one
+// just where r ends before the latest start of the old rows of b. One look at the rows behind the last old row of b; what `latest_start` looks at, of
+// the old rows and of the new ones; two binary searches.
+fn between(t: &[i32], f: Frame, b: i32, s: usize) -> Span
+    requires { ⌜ (s ≡ nextRow b (f .first) (f .end) (now t)) × (s < f .end) × (f .first ≤ f .end) × (f .end * 5 ≤ length (now t)) × Ordered (f .end) (now t) × Proper (f .end) (now t) ⌝ }
+    ensures { λ r. ⌜ (r .from ≡ nearFrom b (f .first) (now (t .entry))) × (r .to ≡ nearTo b (f .first) (f .end) (now (t .entry))) ⌝ }
+{
+    let top = top_of(t, f.first, b);
+    let earliest = table::row_at(t, 0);
+    let old = latest_start(t, 0, top, b, earliest.end);
+    let first = table::row_at(t, s);
+    let new = latest_start(t, s, f.end, b, first.start);
+    Span {
+        from: table::ending_before(t, f.first, old),
+        to: table::ending_before(t, f.first, new),
+    }
+}
+
+// Whether a row is one of a that starts no earlier than r and ends later.
+fn is_later_row(a: i32, r: Row, row: Row) -> bool
+    ensures { λ k. ⌜ k ≡ isLaterRow a r row ⌝ }
+{
+    if row.entry != a {
+        return false;
+    }
+    interval::is_no_later(r.start, row.start) && interval::is_before(r.end, row.end)
+}
+
+// The end of the first such row from row i to before row e, or x if there is none. One look at each row up to it.
+fn rival_end(t: &[i32], i: usize, e: usize, a: i32, r: Row, x: i32) -> i32
+    requires { ⌜ e * 5 ≤ length (now t) ⌝ }
+    ensures { λ k. ⌜ k ≡ rivalEnd a r x i e (now (t .entry)) ⌝ }
+{
+    let mut j = i;
+    while j < e {
+        let row = table::row_at(t, j);
+        if is_later_row(a, r, row) {
+            return row.end;
+        }
+        j += 1;
+    }
+    x
+}
+
+// The pairs of a row r with the new rows that are what is wanted and start at the limit or before. One look at each new row.
+fn nearest_pairs(t: &mut [i32], n: usize, f: Frame, w: Wanted, limit: i32) -> usize
+    requires { ⌜ (Appendable f n (now t)) × (w .left < n) ⌝ }
+    ensures { λ k. ⌜ Appended f n (nearestPairs (natAbs (f .entry)) w limit (f .first) (f .end) (now (t .entry))) (now (t .entry)) k (now (t .exit)) ⌝ }
+{
+    let end = f.end;
+    let room = f.room;
+    let mut count = n;
+    let mut s = f.first;
+    while s < end {
+        let i = s;
+        s += 1;
+        let row = table::row_at(t, i);
+        if interval::is_no_later(row.start, limit) {
+            if is_wanted(w, row) {
+                count = push_pair(t, count, f, w, i);
+                if room < count {
+                    return count;
+                }
+            }
+        }
+    }
+    count
+}
+
+// The pairs of row r: for change, only with an s that starts no later than the first rival of r ends. What `nearest_pairs` looks at, and for change
+// the rows behind r up to its first rival.
+fn nearest_with(t: &mut [i32], n: usize, f: Frame, k: Sought, r: usize) -> usize
+    requires { ⌜ (Appendable f n (now t)) × (r < f .end) × (k .to ≤ f .end) ⌝ }
+    ensures { λ z. ⌜ Appended f n (nearestOf k (natAbs (f .entry)) (f .instant) (f .first) (f .end) (now (t .entry)) r) (now (t .entry)) z (now (t .exit)) ⌝ }
+{
+    let left = table::row_at(t, r);
+    let w = Wanted {
+        relation: Relation::Seq,
+        operand: k.b,
+        left: r,
+        start: left.start,
+        end: left.end,
+    };
+    let nearest = k.nearest;
+    let limit = match nearest {
+        Nearest::Cut => f.instant,
+        Nearest::Change => rival_end(t, r + 1, k.to, k.a, left, f.instant),
+    };
+    nearest_pairs(t, n, f, w, limit)
+}
+
+// cut, change: the pairs of an r with a new s of which none has a rival. Where no row of b is new, one look at each new row and no more. Otherwise what
+// `between` looks at; one look at each row r between the two places that it finds; and for each of them that is one of a, what `nearest_with` looks at.
+fn nearest_rows(t: &mut [i32], n: usize, f: Frame, c: Nearest, a: i32, b: i32) -> usize
+    requires { ⌜ (Appendable f n (now t)) × Proper (f .end) (now t) ⌝ }
+    ensures { λ r. ⌜ Appended f n (nearestRows c (natAbs (f .entry)) (f .instant) a b (f .first) (f .end) (now (t .entry))) (now (t .entry)) r (now (t .exit)) ⌝ }
+{
+    let end = f.end;
+    let s = next_of(t, f.first, end, b);
+    if end <= s {
+        return n;
+    }
+    let rows = between(t, f, b, s);
+    let to = rows.to;
+    if to <= rows.from {
+        return n;
+    }
+    let k = Sought {
+        nearest: c,
+        a,
+        b,
+        to,
+    };
+    let room = f.room;
+    let mut count = n;
+    let mut r = next_of(t, rows.from, to, a);
+    while r < to {
+        count = nearest_with(t, count, f, k, r);
+        if room < count {
+            return count;
+        }
+        r = next_of(t, r + 1, to, a);
+    }
+    count
+}
+
 // The rows of one entry, by its operator; only a delay makes an end behind the instant. Costs what that operator's function costs. The structs are written
 // out in the arms: made by a function, they take a mark some instructions more at each entry.
 fn entry_rows(t: &mut [i32], f: Frame, e: Entry, p: Pending, codes: &[u8; 64], limit: i32) -> Made
@@ -608,6 +770,10 @@ fn entry_rows(t: &mut [i32], f: Frame, e: Entry, p: Pending, codes: &[u8; 64], l
         Kind::After => Made {
             next: next_end(t, n, a as i32, b, f.instant, limit),
             rows: delayed_rows(t, n, f, a as i32, b),
+        },
+        Kind::Nearest(c) => Made {
+            rows: nearest_rows(t, n, f, c, a as i32, b as i32),
+            next: limit,
         },
         Kind::Unknown => Made {
             rows: n,

@@ -93,8 +93,8 @@ sizes =
 
 -- Rows. There are four events, of codes 1 and 2 at 0 and again at 5; the floor is -1 and the open instant 7. Five rows stand in front of the one that is
 -- looked at: four of events, and one of `seq`, from 0 to 5. Behind it is an unused one.
-abbrev chart10 : Chart
-chart10 = chartOf (
+abbrev chart12 : Chart
+chart12 = chartOf (
     "0 event 1" ∷
     "1 event 2" ∷
     "2 seq 0 1" ∷
@@ -104,7 +104,9 @@ chart10 = chartOf (
     "6 atmost 2 4" ∷
     "7 after 2 0" ∷
     "8 after 2 1" ∷
-    "9 after 0 5" ∷ [])
+    "9 after 0 5" ∷
+    "10 cut 0 1" ∷
+    "11 change 0 1" ∷ [])
 
 abbrev rows5 : List String
 rows5 =
@@ -115,7 +117,7 @@ rows5 =
     "2 0 3 0 5" ∷ []
 
 abbrev tableOf : List String → Bool → Case
-tableOf rs b = record { chart = chart10; state = stateOf (pos 7) (minus 1) 4 (length rs) 0; table = table (rs ++ "0 0 0 0 0" ∷ []); consistent = b }
+tableOf rs b = record { chart = chart12; state = stateOf (pos 7) (minus 1) 4 (length rs) 0; table = table (rs ++ "0 0 0 0 0" ∷ []); consistent = b }
 
 abbrev good : String → Case
 good r = tableOf (rows5 ++ r ∷ []) true
@@ -126,7 +128,7 @@ bad r = tableOf (rows5 ++ r ∷ []) false
 abbrev rows : List Case
 rows =
     -- "a row whose entry is not in the chart"; 5 without the minus would do
-    good "5 4 -1 0 5" ∷ bad "10 4 -1 0 5" ∷ bad "-5 4 -1 0 5" ∷
+    good "5 4 -1 0 5" ∷ bad "12 4 -1 0 5" ∷ bad "-5 4 -1 0 5" ∷
     -- "start is below the floor": the first row of a table
     tableOf ("0 1 -1 -1 -1" ∷ []) true ∷ tableOf ("0 1 -1 -2 -2" ∷ []) false ∷
     -- "end is not before the open instant or is before its predecessor's end"
@@ -162,7 +164,18 @@ rows =
     -- another start, then another right; on the left none, a row of another entry, and row 6 behind it, which is of the right entry
     bad "8 4 -1 1 6" ∷ bad "8 4 -1 -1 6" ∷ bad "8 4 3 0 6" ∷ bad "8 4 -2 0 6" ∷
     bad "8 -1 -1 0 6" ∷ bad "8 -1 4 0 6" ∷ bad "9 1 -1 0 5" ∷
-    tableOf (rows5 ++ "7 4 -1 0 5" ∷ "2 0 3 0 5" ∷ []) true ∷ tableOf (rows5 ++ "7 6 -1 0 5" ∷ "2 0 3 0 5" ∷ []) false ∷ []
+    tableOf (rows5 ++ "7 4 -1 0 5" ∷ "2 0 3 0 5" ∷ []) true ∷ tableOf (rows5 ++ "7 6 -1 0 5" ∷ "2 0 3 0 5" ∷ []) false ∷
+    -- "For both, the out-of-joint rule checks only end r < start s" (request N5), with references, start and end: for s at 5 an r at 0 will do and one at 5
+    -- will not
+    good "10 0 3 0 5" ∷ bad "10 2 3 5 5" ∷ bad "10 1 3 0 5" ∷ bad "10 0 2 0 5" ∷ bad "10 -1 3 0 5" ∷ bad "10 0 -1 0 5" ∷ bad "10 0 6 0 5" ∷
+    bad "10 0 3 1 5" ∷ bad "10 0 3 -1 5" ∷ bad "10 0 3 0 6" ∷
+    good "11 0 3 0 5" ∷ bad "11 2 3 5 5" ∷ bad "11 1 3 0 5" ∷ bad "11 0 2 0 5" ∷ bad "11 -1 3 0 5" ∷ bad "11 0 -1 0 5" ∷ bad "11 0 6 0 5" ∷
+    bad "11 0 3 1 5" ∷ bad "11 0 3 -1 5" ∷ bad "11 0 3 0 6" ∷
+    -- and no rival is looked for: there is an s' at 2, and an r' at 3; but an r at 3 does not end before an s at 2 starts
+    rivals ("1 4 -1 5 5" ∷ "10 0 3 0 5" ∷ []) true ∷ rivals ("1 4 -1 5 5" ∷ "11 0 3 0 5" ∷ []) true ∷ rivals ("10 2 1 2 3" ∷ []) false ∷ rivals ("11 2 1 2 3" ∷ []) false ∷ []
+  where
+    rivals : List String → Bool → Case
+    rivals rs b = tableOf ("0 1 -1 0 0" ∷ "1 2 -1 2 2" ∷ "0 3 -1 3 3" ∷ rs) b
 
 unfoldable pub cases : List Case
 cases = watches ++ sizes ++ rows

@@ -11,10 +11,12 @@ use lib.IntN.{ℤ, pos, negsuc, natAbs}
 use lib.Signed.{leZ}
 use Rattle.interval.specs.Instants.{eqZ, least, greatest}
 use Rattle.interval.specs.Conditions.{isRelated, hasLength}
+use Rattle.interval.specs.declared.Relation.{Relation}
+use Rattle.interval.specs.declared.Relation.the-variants.{Seq}
 use Rattle.interval.proofs.Signed.{_≤ᶻ_, signed, never, and-first, and-second, eq-true, eq-told}
 use Rattle.interval.proofs.Laws.{start-le-end}
 use Rattle.model.specs.Order.{Row, none}
-use Rattle.model.specs.Recognitions.{Operator, event, related, or, absence, lasting, after, Arm, only, left, right, delayed, endBy}
+use Rattle.model.specs.Recognitions.{Operator, event, related, or, absence, lasting, after, nearest, Arm, only, left, right, delayed, endBy}
 use Rattle.model.specs.RowSteps.{rowAt, isEvent, isEventAt}
 use Rattle.model.specs.Consistency.{isNone, refers, spansOne, spansTwo, isSerial, agrees, agreesAt}
 use Rattle.model.proofs.Trees.{end-by}
@@ -86,9 +88,9 @@ module _ (count : ℕ) (rs : List Row) (i : ℕ) (r : Row) where
       let h = referred (r .right) a (alike right) (and-second (isNone (r .left)) x e) in
       single-shape right (r .right) h (no-row (r .left) (and-first (isNone (r .left)) x e)) (lower-row (r .right) (alike right) h)
 
-  shape : (op : Operator) → agrees count rs i r op ≡ true → Shape rs i r (isEvent op)
-  shape (event k) e = event-shape e
-  shape (related k a b) e =
+  -- two parts, of which k is asked
+  double-shape : (k : Relation) (a b : ℕ) → refers count rs i r (r .left) a (λ p. refers count rs i r (r .right) b (spansTwo count rs i r k p)) ≡ true → Shape rs i r false
+  double-shape k a b e =
       let f : Row → Bool = λ p. refers count rs i r (r .right) b (spansTwo count rs i r k p) in
       let x = referred (r .left) a f e in
       let p = rowAt rs (natAbs (r .left)) in
@@ -102,6 +104,11 @@ module _ (count : ℕ) (rs : List Row) (i : ℕ) (r : Row) where
         right = lower-row (r .right) (spansTwo count rs i r k p) y;
         proper = λ before. omega (arith, eq-told (r .start) (least (p .start) (q .start)) (and-first s (d && c) (y .holds)), eq-told (r .end) (greatest (p .end) (q .end)) (and-first d c (and-second s (d && c) (y .holds))), start-le-end (p .start) (p .end) (q .start) (q .end) (before (natAbs (r .left)) (x .lower)) (before (natAbs (r .right)) (y .lower)));
       }
+
+  shape : (op : Operator) → agrees count rs i r op ≡ true → Shape rs i r (isEvent op)
+  shape (event k) e = event-shape e
+  shape (related k a b) e = double-shape k a b e
+  shape (nearest c a b) e = double-shape Seq a b e
   shape (or a b) e =
       let x = refers count rs i r (r .left) a (alike left) in
       let y = refers count rs i r (r .right) b (alike right) in

@@ -11,14 +11,16 @@ use lib.Signed.{ltZ, leZ}
 use mir.Syntax.{w32}
 use mir.Val.{SFits}
 use Rattle.interval.specs.Instants.{eqZ}
-use Rattle.interval.specs.Conditions.{hasLength}
+use Rattle.interval.specs.Conditions.{isRelated, hasLength}
+use Rattle.interval.specs.declared.Relation.{Relation}
+use Rattle.interval.specs.declared.Relation.the-variants.{Seq}
 use Rattle.interval.specs.declared.LengthTest.{LengthTest}
 use Rattle.interval.proofs.Signed.{never, and-first, eq-true}
 use Rattle.chart.specs.Operators.{kindOf, shapeOf, inRange}
 use Rattle.chart.specs.Charts.{isUsable, entryAt}
 use Rattle.chart.specs.declared.Chart.{Chart}
 use Rattle.chart.specs.declared.operator.Kind.{Kind}
-use Rattle.chart.specs.declared.operator.Kind.the-variants.{Event, Or, Pair, Absence, Length, After, Unknown}
+use Rattle.chart.specs.declared.operator.Kind.the-variants.{Event, Or, Pair, Absence, Length, After, Nearest, Unknown}
 use Rattle.chart.proofs.Usable.{usable-fits, fits-range, range-unknown}
 use Rattle.state.specs.declared.WatchState.{WatchState}
 use Rattle.model.specs.Order.{Row, none}
@@ -114,6 +116,15 @@ module _ (count : ℕ) (rs : List Row) (t : List ℤ) (i : ℕ) (same : (j : ℕ
   abbrev alike : Arm → Row → Bool
   alike = spansOne count rs i (modelRow r)
 
+  -- two parts, of which c is asked
+  two-is : (c : Relation) (k : Kind) (a b : ℕ) → ((p q : stored.Row) → meetsCondition k b p q ≡ isRelated c (p .start) (p .end) (q .start) (q .end)) → refers count rs i (modelRow r) (r .left) a (λ p. refers count rs i (modelRow r) (r .right) b (spansTwo count rs i (modelRow r) c p)) ≡ isPairRow k a b t i r
+  unfolding isPairRow spansParts
+  two-is c k a b e =
+      let n = partAt t i (r .left) a in
+      let m = partAt t i (r .right) b in
+      refers-is count rs t i same r (r .left) a (λ p. refers count rs i (modelRow r) (r .right) b (spansTwo count rs i (modelRow r) c p))
+      ∙ ap (λ x. ltb n i && x) (refers-is count rs t i same r (r .right) b (spansTwo count rs i (modelRow r) c (tableRow t n)) ∙ simp (and-group, e (storedRow t n) (storedRow t m)))
+
   agrees-is : (k : Kind) (a b : ℕ) → inRange k a b ≡ true → agrees count rs i (modelRow r) (operatorBy k a b) ≡ agreesBy (shapeOf k) k a b count t i r
   unfolding agreesBy isEventRow isDelayedRow isArmRow isPairRow spansPart waitsFor spansParts meetsCondition
   agrees-is Event a b h = ap (agrees count rs i (modelRow r)) (operator-is Event a b) ∙ event-is count rs t i same r (r .left) (isNone (r .right) && eqZ (r .start) (r .end))
@@ -122,14 +133,11 @@ module _ (count : ℕ) (rs : List Row) (t : List ℤ) (i : ℕ) (same : (j : ℕ
       ∙ ap₂ _||_
       (single-is count rs t i same r Or a b (alike left) (λ q. and-same (alike left (modelRow q))))
       (and-swap (isNone (r .left)) (refers count rs i (modelRow r) (r .right) b (alike right)) ∙ single-is count rs t i same (exchanged r) Or b b (alike right) (λ q. and-same (alike right (modelRow q))))
-  agrees-is (Pair c) a b h =
-      let n = partAt t i (r .left) a in
-      ap (agrees count rs i (modelRow r)) (operator-is (Pair c) a b)
-      ∙ refers-is count rs t i same r (r .left) a (λ p. refers count rs i (modelRow r) (r .right) b (spansTwo count rs i (modelRow r) c p))
-      ∙ ap (λ x. ltb n i && x) (refers-is count rs t i same r (r .right) b (spansTwo count rs i (modelRow r) c (tableRow t n)) ∙ simp and-group)
+  agrees-is (Pair c) a b h = ap (agrees count rs i (modelRow r)) (operator-is (Pair c) a b) ∙ two-is c (Pair c) a b (λ p q. refl)
   agrees-is (Absence c) a b h = ap (agrees count rs i (modelRow r)) (operator-is (Absence c) a b) ∙ single-is count rs t i same r (Absence c) a b (alike only) (λ q. and-same (alike only (modelRow q)))
   agrees-is (Length c) a b h = ap (agrees count rs i (modelRow r)) (operator-is (Length c) a b) ∙ single-is count rs t i same r (Length c) a b (λ q. alike only q && hasLength c b (q .start) (q .end)) (λ q. same-length c b (r .start) (r .end) (q .start) (q .end))
   agrees-is After a b h = ap (agrees count rs i (modelRow r)) (operator-is After a b) ∙ part-is count rs t i same r (waitsFor b r) true a (alike (delayed b)) (λ q. and-same (alike (delayed b) (modelRow q)))
+  agrees-is (Nearest c) a b h = ap (agrees count rs i (modelRow r)) (operator-is (Nearest c) a b) ∙ two-is Seq (Nearest c) a b (λ p q. refl)
   agrees-is Unknown a b h = never (sym (range-unknown a b) ∙ h)
 
 -- the operator of an entry, in a list of as many as there are entries

@@ -11,10 +11,11 @@ use lib.ListN.{length}
 use lib.Signed.{leZ, ltZ}
 use Rattle.interval.specs.Instants.{eqZ, least, greatest}
 use Rattle.interval.specs.Conditions.{isRelated, hasLength}
+use Rattle.interval.specs.declared.Relation.the-variants.{Seq}
 use Rattle.chart.specs.Operators.{kindOf, shapeOf}
 use Rattle.chart.specs.declared.Entry.{Entry}
 use Rattle.chart.specs.declared.operator.Kind.{Kind}
-use Rattle.chart.specs.declared.operator.Kind.the-variants.{Event, Or, Pair, Absence, Length, After, Unknown}
+use Rattle.chart.specs.declared.operator.Kind.the-variants.{Event, Or, Pair, Absence, Length, After, Nearest, Unknown}
 use Rattle.chart.specs.declared.operator.Shape.{Shape}
 use Rattle.chart.specs.declared.operator.Shape.the-variants.{Leaf, Single, Arms, Double, Delayed}
 use Rattle.state.specs.declared.WatchState.{WatchState}
@@ -52,7 +53,7 @@ isWithin l r = leZ (l .floor) (r .start) && (ltZ (r .end) (l .instant) && leZ (l
 unfoldable pub isEventRow : ℕ → Row → Bool
 isEventRow events r = leZ (pos 1) (r .left) && (leb (natAbs (r .left)) events && (eqZ (r .right) none && eqZ (r .start) (r .end)))
 
--- the condition on the parts p and q
+-- the condition on the parts p and q; "For both, the out-of-joint rule checks only end r < start s" (request N5)
 unfoldable pub meetsCondition : Kind → ℕ → Row → Row → Bool
 meetsCondition Event b p q = true
 meetsCondition Or b p q = true
@@ -60,6 +61,7 @@ meetsCondition (Pair c) b p q = isRelated c (p .start) (p .end) (q .start) (q .e
 meetsCondition (Absence e) b p q = true
 meetsCondition (Length c) b p q = hasLength c b (p .start) (p .end)
 meetsCondition After b p q = true
+meetsCondition (Nearest c) b p q = isRelated Seq (p .start) (p .end) (q .start) (q .end)
 meetsCondition Unknown b p q = true
 
 -- start and end are those of the one part p; or the end is d later

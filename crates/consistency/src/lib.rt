@@ -16,6 +16,7 @@ use chart::Chart;
 use chart::Entry;
 use chart::operator::Kind;
 use chart::operator::Shape;
+use interval::Relation;
 use state::WatchState;
 use table::Row;
 
@@ -260,7 +261,8 @@ fn spans_parts(row: Row, p: Row, q: Row) -> bool
     interval::is_same(row.start, start) && interval::is_same(row.end, end)
 }
 
-// The condition of an operator on its parts, b being the length of a length test. An absence's is not asked, and the others have none.
+// The condition of an operator on its parts, b being the length of a length test. An absence's is not asked; of cut and change only that of seq is, no
+// rival is looked for; the others have none.
 fn meets_condition(kind: Kind, b: u32, p: Row, q: Row) -> bool
     ensures { λ r. ⌜ r ≡ meetsCondition kind b p q ⌝ }
 {
@@ -271,6 +273,7 @@ fn meets_condition(kind: Kind, b: u32, p: Row, q: Row) -> bool
         Kind::Absence(_) => true,
         Kind::Length(c) => interval::has_length(c, b, p.start, p.end),
         Kind::After => true,
+        Kind::Nearest(_) => interval::is_related(Relation::Seq, p.start, p.end, q.start, q.end),
         Kind::Unknown => true,
     }
 }

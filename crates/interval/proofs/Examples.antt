@@ -1,4 +1,4 @@
--- Each condition at its boundaries, computed by the checker: which of fifteen intervals s are related to r, or forbid it, which lengths a
+-- Each condition at its boundaries, computed by the checker: which of fifteen intervals s are related to r, or forbid it, which are rivals, which lengths a
 -- length test takes, and which instants, lengths, clock marks and forgets are taken. What must come out was found by hand from document 01.
 -- No law and no contract says as much, since the code and its contract share the conditions.
 use Prim.Native.Nat.{ℕ}
@@ -8,13 +8,15 @@ use mathlib.Core.List.{List, [], _∷_, _++_, map}
 use lib.IntN.{ℤ, pos, negsuc}
 use lib.Signed.{ltZ}
 use Rattle.interval.specs.Instants.{isInstant, isLength, firstFloor, isMarkRefused, isForgetRefused, least, greatest}
-use Rattle.interval.specs.Conditions.{isRelated, endingOf, isForbidding, hasLength}
+use Rattle.interval.specs.Conditions.{isRelated, endingOf, isForbidding, hasLength, isRivalOfSecond, isRivalOfFirst}
 use Rattle.interval.specs.declared.Relation.{Relation}
 use Rattle.interval.specs.declared.Relation.the-variants.{Seq, And, Meets, Overlaps, Starts, During, Finishes, Equals}
 use Rattle.interval.specs.declared.Ending.{Ending}
 use Rattle.interval.specs.declared.Ending.the-variants.{Before, Within, Together, Either}
 use Rattle.interval.specs.declared.Edges.{Edges}
 use Rattle.interval.specs.declared.Edges.the-variants.{ClosedClosed, OpenOpen, ClosedOpen, OpenClosed}
+use Rattle.interval.specs.declared.Nearest.{Nearest}
+use Rattle.interval.specs.declared.Nearest.the-variants.{Cut, Change}
 use Rattle.interval.specs.declared.LengthTest.{LengthTest}
 use Rattle.interval.specs.declared.LengthTest.the-variants.{Lasts, AtMost, AtLeast}
 
@@ -142,6 +144,19 @@ extreme-lengths : map (lasting 0 (point ∷ from-to zero one ∷ [])) (Lasts ∷
     (longest ∷ []) ∷ (oneShorter ∷ longest ∷ []) ∷ (longest ∷ []) ∷ []
 unfolding hasLength
 extreme-lengths = refl
+
+-- rivals of an s that ends at 2, behind an r that ends at -1: none that starts at -1, none that ends at 2
+second-rivals : keep (λ s. isRivalOfSecond minus1 two (s .start) (s .end)) intervals ≡ from-to zero zero ∷ from-to zero one ∷ from-to one one ∷ []
+unfolding isRivalOfSecond
+second-rivals = refl
+
+-- rivals of an r from -1 to 0, before an s that starts at 2: one that starts at -1 too, none that starts at -2, none that ends at 0 or at 2
+abbrev firstRivals : Nearest → List Interval
+firstRivals nearest = keep (λ s. isRivalOfFirst nearest minus1 zero two (s .start) (s .end)) intervals
+
+first-rivals : map firstRivals (Cut ∷ Change ∷ []) ≡ [] ∷ (from-to minus1 one ∷ from-to zero one ∷ from-to one one ∷ []) ∷ []
+unfolding isRivalOfFirst
+first-rivals = refl
 
 -- "a signed whole number from -1,000,000,000 to 1,000,000,000"; "A length is 0 to 2,000,000,000."
 instants : map isInstant (negsuc 1000000000 ∷ negsuc 999999999 ∷ minus1 ∷ zero ∷ pos 1000000000 ∷ pos 1000000001 ∷ []) ≡ false ∷ true ∷ true ∷ true ∷ true ∷ false ∷ []

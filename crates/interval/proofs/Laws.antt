@@ -9,11 +9,13 @@ use borrow.Author.Tests.{leb-true, le-leb}
 use lib.IntN.{ℤ}
 use lib.Signed.{ltZ, leZ}
 use Rattle.interval.specs.Instants.{isInstant, isLength, firstFloor, isMarkRefused, isForgetRefused, eqZ, least, greatest}
-use Rattle.interval.specs.Conditions.{isRelated, endingOf, isForbidding}
+use Rattle.interval.specs.Conditions.{isRelated, endingOf, isForbidding, isRivalOfSecond, isRivalOfFirst}
 use Rattle.interval.specs.declared.Relation.{Relation}
 use Rattle.interval.specs.declared.Relation.the-variants.{Seq, And, Meets, Overlaps, Starts, During, Finishes, Equals}
 use Rattle.interval.specs.declared.Ending.{Ending}
 use Rattle.interval.specs.declared.Ending.the-variants.{Before, Within, Together, Either}
+use Rattle.interval.specs.declared.Nearest.{Nearest}
+use Rattle.interval.specs.declared.Nearest.the-variants.{Cut, Change}
 use Rattle.interval.specs.declared.Edges.{Edges}
 use Rattle.interval.specs.declared.Edges.the-variants.{ClosedClosed, OpenOpen, ClosedOpen, OpenClosed}
 use Rattle.interval.proofs.Signed.{_≤ᶻ_, _<ᶻ_, signed, never, and-first, and-second, antisym, least-is, greatest-is, lt-true, lt-false, le-true, le-false, is-lt, not-lt, is-le, not-le, instant-told, is-instant, eq-true, eq-told, eq-fact}
@@ -156,10 +158,14 @@ together re ss se e g h =
     let l : se ≡ e = later-end re se e g (omega (arith, eq-fact h)) in
     (h ∙ l, l)
 
+pub seq-ends : (rs re ss se e : ℤ) → ss ≤ᶻ se → isRelated Seq rs re ss se ≡ true → greatest re se ≡ e → Ends Before re ss se e
+unfolding isRelated
+seq-ends rs re ss se e q h g = (later-end re se e g (omega (arith, lt-true re ss h)), lt-true re ss h)
+
 -- where two related intervals end
 pub related-ends : (c : Relation) (rs re ss se e : ℤ) → rs ≤ᶻ re → ss ≤ᶻ se → isRelated c rs re ss se ≡ true → greatest re se ≡ e → Ends (endingOf c) re ss se e
 unfolding isRelated endingOf
-related-ends Seq rs re ss se e p q h g = (later-end re se e g (omega (arith, lt-true re ss h)), lt-true re ss h)
+related-ends Seq rs re ss se e p q h g = seq-ends rs re ss se e q h g
 related-ends And rs re ss se e p q h g = rw g at (either-at re se (leZ re se) refl)
 related-ends Meets rs re ss se e p q h g = within re ss se e g (omega (arith, eq-told re ss h)) (omega (arith, eq-told re ss h))
 related-ends Overlaps rs re ss se e p q h g =
@@ -198,3 +204,56 @@ forbidding-inside ClosedClosed rs re ss se h = edges-inside false false rs re ss
 forbidding-inside OpenOpen rs re ss se h = edges-inside true true rs re ss se h
 forbidding-inside ClosedOpen rs re ss se h = edges-inside false true rs re ss se h
 forbidding-inside OpenClosed rs re ss se h = edges-inside true false rs re ss se h
+
+-- what a rival of s is, and one of r
+pub record SecondRival (re se ts te : ℤ) : Type 0 where
+  pub after : re <ᶻ ts
+  pub sooner : te <ᶻ se
+
+pub record FirstRival (rs re ss ts te : ℤ) : Type 0 where
+  pub from : rs ≤ᶻ ts
+  pub later : re <ᶻ te
+  pub before : te <ᶻ ss
+
+module _ (re se ts te : ℤ) where
+  pub second-told : isRivalOfSecond re se ts te ≡ true → SecondRival re se ts te
+  unfolding isRivalOfSecond
+  second-told h = record { after = lt-true re ts (and-first (ltZ re ts) (ltZ te se) h); sooner = lt-true te se (and-second (ltZ re ts) (ltZ te se) h) }
+
+  pub is-second : SecondRival re se ts te → isRivalOfSecond re se ts te ≡ true
+  unfolding isRivalOfSecond
+  is-second k = rw (is-lt re ts (k .after)) (is-lt te se (k .sooner))
+
+module _ (rs re ss ts te : ℤ) where
+  pub first-told : isRivalOfFirst Change rs re ss ts te ≡ true → FirstRival rs re ss ts te
+  unfolding isRivalOfFirst
+  first-told h =
+      let k = and-second (leZ rs ts) (ltZ re te && ltZ te ss) h in
+      record { from = le-true rs ts (and-first (leZ rs ts) (ltZ re te && ltZ te ss) h); later = lt-true re te (and-first (ltZ re te) (ltZ te ss) k); before = lt-true te ss (and-second (ltZ re te) (ltZ te ss) k) }
+
+  pub is-first : FirstRival rs re ss ts te → isRivalOfFirst Change rs re ss ts te ≡ true
+  unfolding isRivalOfFirst
+  is-first k = rw (is-le rs ts (k .from), is-lt re te (k .later)) (is-lt te ss (k .before))
+
+  -- cut looks at no r'
+  pub none-first : isRivalOfFirst Cut rs re ss ts te ≡ false
+  unfolding isRivalOfFirst
+  none-first = refl
+
+-- a rival starts no earlier than r and ends before s does
+pub record Between (rs se ts te : ℤ) : Type 0 where
+  pub start : rs ≤ᶻ ts
+  pub end : te <ᶻ se
+
+pub second-between : (rs re se ts te : ℤ) → rs ≤ᶻ re → isRivalOfSecond re se ts te ≡ true → Between rs se ts te
+second-between rs re se ts te p h =
+    let k = second-told re se ts te h in
+    let a = k .after in
+    record { start = omega arith; end = k .sooner }
+
+pub first-between : (c : Nearest) (rs re ss se ts te : ℤ) → ss ≤ᶻ se → isRivalOfFirst c rs re ss ts te ≡ true → Between rs se ts te
+first-between Cut rs re ss se ts te p h = never (sym (none-first rs re ss ts te) ∙ h)
+first-between Change rs re ss se ts te p h =
+    let k = first-told rs re ss ts te h in
+    let b = k .before in
+    record { start = k .from; end = omega arith }

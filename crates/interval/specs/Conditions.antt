@@ -1,6 +1,6 @@
 -- The conditions of document 01's operator table, a line for each operator. rs and re are the start and end of r, ss and se those of s.
 use Prim.Native.Nat.{ℕ}
-use mathlib.Core.Bool.{Bool, true, _&&_}
+use mathlib.Core.Bool.{Bool, true, false, _&&_}
 use lib.IntN.{ℤ, pos, _-ℤ_}
 use lib.Signed.{ltZ, leZ}
 use Rattle.interval.specs.Instants.{eqZ}
@@ -10,6 +10,8 @@ use Rattle.interval.specs.declared.Ending.{Ending}
 use Rattle.interval.specs.declared.Ending.the-variants.{Before, Within, Together, Either}
 use Rattle.interval.specs.declared.Edges.{Edges}
 use Rattle.interval.specs.declared.Edges.the-variants.{ClosedClosed, OpenOpen, ClosedOpen, OpenClosed}
+use Rattle.interval.specs.declared.Nearest.{Nearest}
+use Rattle.interval.specs.declared.Nearest.the-variants.{Cut, Change}
 use Rattle.interval.specs.declared.LengthTest.{LengthTest}
 use Rattle.interval.specs.declared.LengthTest.the-variants.{Lasts, AtMost, AtLeast}
 
@@ -52,3 +54,12 @@ unfoldable pub hasLength : LengthTest → ℕ → ℤ → ℤ → Bool
 hasLength Lasts d rs re = eqZ (re -ℤ rs) (pos d)
 hasLength AtMost d rs re = leZ (re -ℤ rs) (pos d)
 hasLength AtLeast d rs re = leZ (pos d) (re -ℤ rs)
+
+-- cut, change: "no other row s' of b starts after end r and ends before end s" (request N5): s', from ts to te, is a rival of s
+unfoldable pub isRivalOfSecond : ℤ → ℤ → ℤ → ℤ → Bool
+isRivalOfSecond re se ts te = ltZ re ts && ltZ te se
+
+-- change "also requires that no r' of a has start r' >= start r and end r < end r' < start s" (request N5): r', from ts to te, is a rival of r
+unfoldable pub isRivalOfFirst : Nearest → ℤ → ℤ → ℤ → ℤ → ℤ → Bool
+isRivalOfFirst Cut rs re ss ts te = false
+isRivalOfFirst Change rs re ss ts te = leZ rs ts && (ltZ re te && ltZ te ss)

@@ -35,6 +35,12 @@ pub enum Edges {
     OpenClosed,
 }
 
+// The operators that pair r with the first s after it: cut; and change, where r is also the last before s.
+pub enum Nearest {
+    Cut,
+    Change,
+}
+
 // The operators that test how long one operand lasts.
 pub enum LengthTest {
     Lasts,

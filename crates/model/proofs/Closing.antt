@@ -21,8 +21,9 @@ use Rattle.model.proofs.Order.{lex, lex-lt, lex-eq, key, lex→before, 
 use Rattle.model.proofs.Trees.{tree, trees, tree-start, tree-end}
 use Rattle.model.proofs.Made.{Made, made-all}
 use Rattle.model.proofs.Local.{Lower, Chart, local}
-use Rattle.model.proofs.Extend.{New, new-entry, op-low, recs-from, from-recs}
-use Rattle.model.proofs.Windows.{Inside, inside, leaves-mem}
+use Rattle.model.proofs.Extend.{New, new-entry, op-low, recs-proper, recs-from, from-recs}
+use Rattle.model.proofs.Leaves.{leaves-mem}
+use Rattle.model.proofs.Windows.{Inside, inside}
 use Rattle.model.proofs.Rank.{arranged, arranged-sorted, arranged-new, new-arranged, append, bySerial}
 
 -- a list in order that holds just those members of `all` for which P holds
@@ -109,7 +110,7 @@ module _ (ops : List Operator) (c : Chart 0 ops) (pe es : List Event) where
             lower = subst (λ i. Lower i (j .operator)) (sym e) (ph .lower);
             x = k .x;
             is = k .is ∙ ap (λ i. tree i (k .x)) (sym e);
-            made = local (inside t) n pe es ts (recognitions ops es) (λ u l z. h .sound u) (λ u l z r. h .full u r (ph .reach t u (done t k) (k .ok) z l)) (j .operator) (ph .lower) (k .x) (subst (Inside t) (k .is) (omega arith)) (λ i. ph .news i (k .x) (subst (Passes j) (k .is) (k .ok))) (k .made);
+            made = local (inside t) n pe es ts (recognitions ops es) (λ u l z. h .sound u) (λ u l z r. h .full u r (ph .reach t u (done t k) (k .ok) z l)) (λ u m. recs-proper ops es u (h .sound u m)) (j .operator) (ph .lower) (k .x) (subst (Inside t) (k .is) (omega arith)) (λ i. ph .news i (k .x) (subst (Passes j) (k .is) (k .ok))) (k .made);
           })
 
       holds′ : (t : Recognition) → List·Memᴰ t ts ⊎ List·Memᴰ t (arranged j pe ts) → Q t
@@ -127,7 +128,7 @@ module _ (ops : List Operator) (c : Chart 0 ops) (pe es : List Event) where
             x = k .x;
             is = i;
             ok = p .1;
-            made = local (inside t) n es pe (recognitions ops es) ts (λ u l z r. h .full u r (ph .reach t u q (p .1) z l)) (λ u l z. h .sound u) (j .operator) (ph .lower) (k .x) (subst (Inside t) i (omega arith)) (λ a. ph .olds a (k .x) (subst (Passes j) i (p .1))) (subst (λ z. Made trees z es (recognitions ops es) (k .x)) o (k .made));
+            made = local (inside t) n es pe (recognitions ops es) ts (λ u l z r. h .full u r (ph .reach t u q (p .1) z l)) (λ u l z. h .sound u) (recs-proper ops es) (j .operator) (ph .lower) (k .x) (subst (Inside t) i (omega arith)) (λ a. ph .olds a (k .x) (subst (Passes j) i (p .1))) (subst (λ z. Made trees z es (recognitions ops es) (k .x)) o (k .made));
           }))
 
 -- half way through the closing of o: also those that end at o, of the entries below n

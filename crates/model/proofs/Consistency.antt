@@ -12,20 +12,21 @@ use lib.ListN.{length, length-map}
 use Rattle.interval.specs.Instants.{isInstant, eqZ, least, greatest}
 use Rattle.interval.specs.Conditions.{isRelated, hasLength}
 use Rattle.interval.specs.declared.Relation.{Relation}
+use Rattle.interval.specs.declared.Relation.the-variants.{Seq}
 use Rattle.interval.proofs.Signed.{_≤ᶻ_, eq-fact, is-lt, is-le, eq-same, holds→}
 use Rattle.model.specs.Lists.{every, keep, numbers}
-use Rattle.model.specs.Recognitions.{Event, Operator, event, related, or, absence, lasting, after, Arm, only, left, right, delayed, Recognition, ofOne, ofTwo, entryOf, startOf, endBy, endOf, recognitions}
+use Rattle.model.specs.Recognitions.{Event, Operator, event, related, or, absence, lasting, after, nearest, Arm, only, left, right, delayed, Recognition, ofOne, ofTwo, entryOf, startOf, endBy, endOf, recognitions}
 use Rattle.model.specs.Order.{before, listing, Row, row, place, asRow, asRows}
 use Rattle.model.specs.Reference.{Model, isAt}
-use Rattle.model.specs.RowSteps.{Node, rowAt, shown}
+use Rattle.model.specs.RowSteps.{Node, fits, rowAt, shown}
 use Rattle.model.specs.Consistency.{refers, spansOne, spansTwo, agrees, agreesAt, isOrdered, isRowConsistent, areRowsConsistent, isConsistent}
 use Rattle.model.specs.Statements.{OperatorAt}
 use Rattle.model.proofs.Order.{lex, lex-cases, before→lex}
 use Rattle.model.proofs.Trees.{tree, trees}
-use Rattle.model.proofs.Made.{Made}
+use Rattle.model.proofs.Made.{Two, Made}
 use Rattle.model.proofs.Local.{Chart}
 use Rattle.model.proofs.Extend.{recs-from}
-use Rattle.model.proofs.Windows.{leaves-mem}
+use Rattle.model.proofs.Leaves.{leaves-mem}
 use Rattle.model.proofs.Place.{place-at, getD-mem}
 use Rattle.model.proofs.Rows.{nil, nth, numbers-mem, row-entry, row-start, row-end}
 use Rattle.model.proofs.Closing.{Lists, Due, listing-lists, key-front}
@@ -78,17 +79,21 @@ module _ (ops : List Operator) (c : Chart 0 ops) (es : List Event) (count : ℕ)
   abbrev Agrees : ℕ → Operator → Node Recognition → Type 0
   Agrees n op x = List·Memᴰ (tree n x) L → agrees count R (place L (tree n x)) (asRow L (tree n x)) op ≡ true
 
-  agree : (n : ℕ) (op : Operator) (x : Node Recognition) → Made trees op es (recognitions ops es) x → Agrees n op x
-  agree n (event k) x q =
-      let w = leaves-mem k es x q in
-      let h = serials (w .e) (w .there) in
-      subst (Agrees n (event k)) (sym (w .is)) (λ m. both (both (le-leb 1 ((w .e) .serial) (h .0)) (le-leb ((w .e) .serial) count (h .1))) (eq-same ((w .e) .instant)))
-  agree n (related k a b) x q = subst (Agrees n (related k a b)) (sym (q .is)) (λ m.
+  agree-two : (n : ℕ) (k : Relation) (a b : ℕ) (x : Node Recognition) → Two trees (fits trees k) a b (recognitions ops es) x → Agrees n (related k a b) x
+  agree-two n k a b x q = subst (Agrees n (related k a b)) (sym (q .is)) (λ m.
       let i = place L (ofTwo n (q .l) (q .r)) in
       let w = asRow L (ofTwo n (q .l) (q .r)) in
       let p = parts-earlier ops c es f o (ofTwo n (q .l) (q .r)) m in
       refer i w (q .l) a (λ z. refers count R i w (pos (place L (q .r))) b (spansTwo count R i w k z)) (p .0) (q .hasl .entry)
       (refer i w (q .r) b (spansTwo count R i w k (asRow L (q .l))) (p .1) (q .hasr .entry) (spans-two k i n (q .l) (q .r) (q .ok))))
+
+  agree : (n : ℕ) (op : Operator) (x : Node Recognition) → Made trees op es (recognitions ops es) x → Agrees n op x
+  agree n (event k) x q =
+      let w = leaves-mem k es x q in
+      let h = serials (w .e) (w .there) in
+      subst (Agrees n (event k)) (sym (w .is)) (λ m. both (both (le-leb 1 ((w .e) .serial) (h .0)) (le-leb ((w .e) .serial) count (h .1))) (eq-same ((w .e) .instant)))
+  agree n (related k a b) x q = agree-two n k a b x q
+  agree n (nearest k a b) x q = agree-two n Seq a b x (q .two)
   agree n (or a b) x (inl q) = subst (Agrees n (or a b)) (sym (q .is)) (λ m. first false (both (single n left a (q .r) (spansOne count R (place L (ofOne n left (q .r))) (asRow L (ofOne n left (q .r))) left) (q .hasr .entry) m (spans-one (place L (ofOne n left (q .r))) n left (q .r))) refl))
   agree n (or a b) x (inr q) = subst (Agrees n (or a b)) (sym (q .is)) (λ m. single n right b (q .r) (spansOne count R (place L (ofOne n right (q .r))) (asRow L (ofOne n right (q .r))) right) (q .hasr .entry) m (spans-one (place L (ofOne n right (q .r))) n right (q .r)))
   agree n (absence k a b) x q = subst (Agrees n (absence k a b)) (sym (q .is)) (λ m. both (single n only a (q .r) (spansOne count R (place L (ofOne n only (q .r))) (asRow L (ofOne n only (q .r))) only) (q .hasr .entry) m (spans-one (place L (ofOne n only (q .r))) n only (q .r))) refl)

@@ -11,7 +11,7 @@ use lib.IntN.{ℤ, pos, _+ℤ_}
 use lib.Signed.{ltZ, leZ}
 use Rattle.interval.proofs.Signed.{_≤ᶻ_, _<ᶻ_, eq-fact, ltZ→, leZ→, →leZ, lt-false, holds→, →holds, add-fact, antisym}
 use Rattle.model.specs.Lists.{keep, each}
-use Rattle.model.specs.Recognitions.{Event, Operator, event, related, or, absence, lasting, after, isLower}
+use Rattle.model.specs.Recognitions.{Event, Operator, event, related, or, absence, lasting, after, nearest, isLower}
 use Rattle.model.specs.Order.{Row}
 use Rattle.model.specs.RowSteps.{closeRows, closeInstants, instantsTo, delayedEnds, dueEnds}
 use Rattle.model.specs.Statements.{NextDue}
@@ -81,6 +81,7 @@ delayed-kept rs news i j (related c a b) l h e = refl
 delayed-kept rs news i j (or a b) l h e = refl
 delayed-kept rs news i j (absence c a b) l h e = refl
 delayed-kept rs news i j (lasting c a d) l h e = refl
+delayed-kept rs news i j (nearest c a b) l h e = refl
 delayed-kept rs news i j (after a d) l h e =
     let none : keep (λ r. eqb (r .entry) a) news ≡ [] = keep-none (λ r. eqb (r .entry) a) news (λ r m t. omega (arith, e r m, ltb-true a j l, eqb-true (r .entry) a (holds→ _ t))) in
     ap (map (λ r. r .end +ℤ pos d)) (keep-append (λ r. eqb (r .entry) a) rs news ∙ ap (λ z. keep (λ r. eqb (r .entry) a) rs ++ z) none ∙ append-nil (keep (λ r. eqb (r .entry) a) rs))

@@ -1,5 +1,5 @@
 -- Each operator at its boundary, the misreadings that document 01 forbids, and each refusal: one list of cases, one theorem that the checker
--- computes. What must come out was found by hand from document 01 and request N2; where request N7 changes it, and for request N1, by a plain
+-- computes. What must come out was found by hand from document 01 and request N2; where request N7 changes it, and for requests N1 and N5, by a plain
 -- set-building program, and in `floors` by hand. P1 to P8 are computed from text in crate `program`.
 use Prim.Native.Nat.{ℕ, suc, _<_, _≤_}
 use mathlib.Core.Path.{_≡_, refl}
@@ -8,15 +8,16 @@ use borrow.Author.Tests.{le-leb, lt-leb}
 use lib.IntN.{ℤ, pos, negsuc}
 use lib.ListN.{length, replicate}
 use Rattle.interval.specs.Instants.{isInstant, firstFloor, isMarkRefused, isForgetRefused}
-use Rattle.interval.specs.Conditions.{isRelated, isForbidding, hasLength}
+use Rattle.interval.specs.Conditions.{isRelated, isForbidding, hasLength, isRivalOfSecond, isRivalOfFirst}
 use Rattle.interval.specs.declared.Relation.the-variants.{Seq, And, Meets, Overlaps, Starts, During, Finishes, Equals}
 use Rattle.interval.specs.declared.Edges.{Edges}
 use Rattle.interval.specs.declared.Edges.the-variants.{ClosedClosed, OpenOpen, ClosedOpen, OpenClosed}
+use Rattle.interval.specs.declared.Nearest.the-variants.{Cut, Change}
 use Rattle.interval.specs.declared.LengthTest.{LengthTest}
 use Rattle.interval.specs.declared.LengthTest.the-variants.{Lasts, AtMost, AtLeast}
 use Rattle.model.specs.Lists.{keep}
 use Rattle.model.specs.Recognitions as R
-use Rattle.model.specs.Recognitions.{Operator, related, or, absence, lasting, after, recognitionsOf, withEntries, recognitions}
+use Rattle.model.specs.Recognitions.{Operator, related, or, absence, lasting, after, nearest, recognitionsOf, withEntries, recognitions}
 use Rattle.model.specs.Capacity.{capacity}
 use Rattle.model.specs.Order.{compare, listing, Row, row, none}
 use Rattle.model.specs.RowSteps.{extendRows, closeRows, dueEnds, nextDue, closeDue}
@@ -162,6 +163,37 @@ delays =
     case (R.event 1 ∷ after 0 2 ∷ []) 3000 (pos 0) (event 1 ∷ clock (pos 1) ∷ event 1 ∷ forget (pos 1) ∷ clock (pos 9) ∷ []) (taken 5)
     (row-l 0 2 1 1 ∷ row-l 1 0 1 3 ∷ []) ∷ []
 
+-- "First after, last before" (request N5): ties of s all count, a later s does not, and change takes the last r only; r and s of one instant; s' that end
+-- with s; an s' that starts at end r, which is a rival for an earlier r; document 003's A!((B D)||F), with a at 1, b at 2, f at 3 and d at 4: F, the
+-- first by end, is taken at 3, and at 4 (B D), the first by start, withdraws nothing and makes nothing; an r' that starts with r; an r' that starts earlier;
+-- an r' that ends where s starts; one entry as both operands; a floor between two r; behind a delay; change in cut in an absence
+abbrev nearests : List Case
+nearests =
+    case (R.event 1 ∷ R.event 2 ∷ nearest Cut 0 1 ∷ nearest Change 0 1 ∷ []) 3000 (pos 0) (event 1 ∷ clock (pos 1) ∷ event 1 ∷ clock (pos 3) ∷ event 2 ∷ event 2 ∷ clock (pos 4) ∷ event 2 ∷ clock (pos 5) ∷ []) (taken 9)
+    (row-l 0 1 0 0 ∷ row-l 0 2 1 1 ∷ row-l 1 3 3 3 ∷ row-l 1 4 3 3 ∷ row-lr 2 1 2 1 3 ∷ row-lr 2 1 3 1 3 ∷ row-lr 2 0 2 0 3 ∷ row-lr 2 0 3 0 3 ∷ row-lr 3 1 2 1 3 ∷ row-lr 3 1 3 1 3 ∷ row-l 1 5 4 4 ∷ []) ∷
+    case (R.event 1 ∷ R.event 2 ∷ nearest Cut 0 1 ∷ nearest Change 0 1 ∷ []) 3000 (pos 0) (event 1 ∷ event 2 ∷ clock (pos 1) ∷ []) (taken 3)
+    (row-l 0 1 0 0 ∷ row-l 1 2 0 0 ∷ []) ∷
+    case (R.event 1 ∷ R.event 2 ∷ R.event 3 ∷ related Seq 1 2 ∷ nearest Cut 0 3 ∷ []) 3000 (pos 0) (event 1 ∷ clock (pos 1) ∷ event 2 ∷ clock (pos 2) ∷ event 2 ∷ clock (pos 3) ∷ event 3 ∷ clock (pos 4) ∷ event 3 ∷ clock (pos 5) ∷ []) (taken 10)
+    (row-l 0 1 0 0 ∷ row-l 1 2 1 1 ∷ row-l 1 3 2 2 ∷ row-l 2 4 3 3 ∷ row-lr 3 2 3 2 3 ∷ row-lr 3 1 3 1 3 ∷ row-lr 4 0 4 0 3 ∷ row-lr 4 0 5 0 3 ∷ row-l 2 5 4 4 ∷ row-lr 3 2 8 2 4 ∷ row-lr 3 1 8 1 4 ∷ []) ∷
+    case (R.event 1 ∷ R.event 2 ∷ R.event 3 ∷ R.event 4 ∷ R.event 5 ∷ related Seq 1 2 ∷ related Seq 3 4 ∷ or 5 6 ∷ nearest Cut 0 7 ∷ []) 3000 (pos 0) (event 1 ∷ clock (pos 1) ∷ event 1 ∷ event 2 ∷ clock (pos 2) ∷ event 4 ∷ clock (pos 3) ∷ event 3 ∷ clock (pos 4) ∷ event 5 ∷ clock (pos 5) ∷ []) (taken 11)
+    (row-l 0 1 0 0 ∷ row-l 0 2 1 1 ∷ row-l 1 3 1 1 ∷ row-l 3 4 2 2 ∷ row-l 2 5 3 3 ∷ row-lr 5 2 4 1 3 ∷ row-l 7 5 1 3 ∷ row-lr 8 0 6 0 3 ∷ row-l 4 6 4 4 ∷ row-lr 6 3 8 2 4 ∷ row-r 7 9 2 4 ∷ row-lr 8 1 10 1 4 ∷ []) ∷
+    case (R.event 1 ∷ R.event 2 ∷ R.event 3 ∷ R.event 4 ∷ related Seq 1 3 ∷ or 4 2 ∷ nearest Cut 0 5 ∷ []) 3000 (pos 1) (event 1 ∷ clock (pos 2) ∷ event 2 ∷ clock (pos 3) ∷ event 3 ∷ clock (pos 4) ∷ event 4 ∷ clock (pos 5) ∷ []) (taken 8)
+    (row-l 0 1 1 1 ∷ row-l 1 2 2 2 ∷ row-l 2 3 3 3 ∷ row-r 5 2 3 3 ∷ row-lr 6 0 3 1 3 ∷ row-l 3 4 4 4 ∷ row-lr 4 1 5 2 4 ∷ row-l 5 6 2 4 ∷ []) ∷
+    case (R.event 1 ∷ R.event 2 ∷ R.event 3 ∷ related Seq 0 1 ∷ nearest Cut 3 2 ∷ nearest Change 3 2 ∷ []) 3000 (pos 0) (event 1 ∷ clock (pos 1) ∷ event 2 ∷ clock (pos 2) ∷ event 2 ∷ clock (pos 3) ∷ event 3 ∷ clock (pos 4) ∷ []) (taken 8)
+    (row-l 0 1 0 0 ∷ row-l 1 2 1 1 ∷ row-lr 3 0 1 0 1 ∷ row-l 1 3 2 2 ∷ row-lr 3 0 3 0 2 ∷ row-l 2 4 3 3 ∷ row-lr 4 2 5 0 3 ∷ row-lr 4 4 5 0 3 ∷ row-lr 5 4 5 0 3 ∷ []) ∷
+    case (R.event 1 ∷ R.event 2 ∷ R.event 3 ∷ R.event 4 ∷ R.event 5 ∷ related Seq 0 1 ∷ related Seq 2 3 ∷ or 5 6 ∷ nearest Change 7 4 ∷ []) 3000 (pos 1) (event 1 ∷ clock (pos 2) ∷ event 3 ∷ clock (pos 3) ∷ event 4 ∷ clock (pos 4) ∷ event 2 ∷ clock (pos 5) ∷ event 5 ∷ clock (pos 6) ∷ []) (taken 10)
+    (row-l 0 1 1 1 ∷ row-l 2 2 2 2 ∷ row-l 3 3 3 3 ∷ row-lr 6 1 2 2 3 ∷ row-r 7 3 2 3 ∷ row-l 1 4 4 4 ∷ row-lr 5 0 5 1 4 ∷ row-l 7 6 1 4 ∷ row-l 4 5 5 5 ∷ row-lr 8 4 8 2 5 ∷ row-lr 8 7 8 1 5 ∷ []) ∷
+    case (R.event 1 ∷ R.event 2 ∷ nearest Change 0 1 ∷ []) 3000 (pos 0) (event 1 ∷ clock (pos 1) ∷ event 1 ∷ event 2 ∷ clock (pos 2) ∷ event 2 ∷ clock (pos 3) ∷ []) (taken 7)
+    (row-l 0 1 0 0 ∷ row-l 0 2 1 1 ∷ row-l 1 3 1 1 ∷ row-lr 2 0 2 0 1 ∷ row-l 1 4 2 2 ∷ row-lr 2 1 4 1 2 ∷ []) ∷
+    case (R.event 1 ∷ nearest Cut 0 0 ∷ nearest Change 0 0 ∷ []) 3000 (pos 0) (event 1 ∷ clock (pos 1) ∷ event 1 ∷ clock (pos 2) ∷ event 1 ∷ clock (pos 3) ∷ []) (taken 6)
+    (row-l 0 1 0 0 ∷ row-l 0 2 1 1 ∷ row-lr 1 0 1 0 1 ∷ row-lr 2 0 1 0 1 ∷ row-l 0 3 2 2 ∷ row-lr 1 1 4 1 2 ∷ row-lr 2 1 4 1 2 ∷ []) ∷
+    case (R.event 1 ∷ R.event 2 ∷ nearest Cut 0 1 ∷ nearest Change 0 1 ∷ []) 3000 (pos 0) (event 1 ∷ clock (pos 1) ∷ event 1 ∷ clock (pos 2) ∷ forget (pos 1) ∷ event 2 ∷ clock (pos 3) ∷ []) (taken 7)
+    (row-l 0 2 1 1 ∷ row-l 1 3 2 2 ∷ row-lr 2 0 1 1 2 ∷ row-lr 3 0 1 1 2 ∷ []) ∷
+    case (R.event 1 ∷ R.event 2 ∷ after 0 2 ∷ nearest Cut 2 1 ∷ []) 3000 (pos 0) (event 1 ∷ clock (pos 1) ∷ event 2 ∷ clock (pos 2) ∷ event 2 ∷ clock (pos 3) ∷ event 2 ∷ clock (pos 4) ∷ event 2 ∷ clock (pos 5) ∷ []) (taken 10)
+    (row-l 0 1 0 0 ∷ row-l 1 2 1 1 ∷ row-l 1 3 2 2 ∷ row-l 2 0 0 2 ∷ row-l 1 4 3 3 ∷ row-lr 3 3 4 0 3 ∷ row-l 1 5 4 4 ∷ []) ∷
+    case (R.event 1 ∷ R.event 2 ∷ R.event 3 ∷ nearest Change 0 1 ∷ nearest Cut 3 2 ∷ absence ClosedClosed 4 1 ∷ []) 3000 (pos 0) (event 1 ∷ clock (pos 1) ∷ event 1 ∷ clock (pos 2) ∷ event 2 ∷ clock (pos 3) ∷ event 3 ∷ clock (pos 4) ∷ event 2 ∷ clock (pos 5) ∷ event 3 ∷ clock (pos 6) ∷ []) (taken 12)
+    (row-l 0 1 0 0 ∷ row-l 0 2 1 1 ∷ row-l 1 3 2 2 ∷ row-lr 3 1 2 1 2 ∷ row-l 2 4 3 3 ∷ row-lr 4 3 4 1 3 ∷ row-l 1 5 4 4 ∷ row-l 2 6 5 5 ∷ []) ∷ []
+
 -- An absence is not decided while its last instant is open: nothing stands there yet; a forbidding event may still come; once the
 -- instant is closed none comes too late.
 abbrev openInstants : List Case
@@ -204,10 +236,10 @@ refusals =
     case (R.event 1 ∷ []) 3000 (pos 0) (event 1 ∷ forget (negsuc 1000000000) ∷ forget (negsuc 999999999) ∷ forget (pos 1) ∷ forget (pos 0) ∷ forget (pos 0) ∷ forget (negsuc 0) ∷ clock (pos 1) ∷ []) (0 ∷ 0 ∷ 11 ∷ 0 ∷ 11 ∷ 0 ∷ 0 ∷ 11 ∷ 0 ∷ []) (row-l 0 1 0 0 ∷ []) ∷ []
 
 pub cases : List Case
-cases = relations ++ overlaps ++ absences ++ lengths ++ codes ++ orders ++ tightest ++ delays ++ openInstants ++ floors ++ fullTables ++ refusals
+cases = relations ++ overlaps ++ absences ++ lengths ++ codes ++ orders ++ tightest ++ delays ++ nearests ++ openInstants ++ floors ++ fullTables ++ refusals
 
 pub examples : map outcome cases ≡ map expected cases
-unfolding cases opening eventStep clockStep forgetStep run numbersOf listing compare recognitions withEntries recognitionsOf isInstant firstFloor isMarkRefused isForgetRefused isRelated isForbidding hasLength
+unfolding cases opening eventStep clockStep forgetStep run numbersOf listing compare recognitions withEntries recognitionsOf isInstant firstFloor isMarkRefused isForgetRefused isRelated isForbidding hasLength isRivalOfSecond isRivalOfFirst
 examples = refl
 
 -- "length divided by 5 rows, rounded down, and never more than 65,535"

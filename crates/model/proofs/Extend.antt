@@ -8,14 +8,16 @@ use mathlib.Core.List.{List, [], _∷_, _++_, map, List·Memᴰ, List·Memᴰ·n
 use lib.Dec.{T}
 use lib.IntN.{ℤ}
 use lib.ListN.{length}
+use Rattle.interval.proofs.Laws.{start-le-end}
 use Rattle.model.specs.Lists.{keep}
-use Rattle.model.specs.Recognitions.{Event, Operator, Arm, Recognition, entryOf, startOf, endOf, withEntries, recognitions}
+use Rattle.model.specs.Recognitions.{Event, Operator, Arm, Recognition, ofOne, ofTwo, entryOf, startOf, endOf, withEntries, recognitions}
 use Rattle.model.specs.RowSteps.{Node, part, pair, leaves, make, Rule, rules}
 use Rattle.model.specs.Statements.{OperatorAt}
 use Rattle.model.proofs.Sorted.{keep-mem, mem-keep}
-use Rattle.model.proofs.Trees.{tree, trees, tree-entry, make-recognitions}
+use Rattle.model.proofs.Trees.{end-by, tree, trees, tree-entry, make-recognitions}
 use Rattle.model.proofs.Made.{Made, make-made, made-make, made-all}
-use Rattle.model.proofs.Local.{Lower, Chart, Window, local}
+use Rattle.model.proofs.Leaves.{leaves-mem}
+use Rattle.model.proofs.Local.{Lower, Chart, Proper, Window, local}
 
 -- what a rule derives, on trees, and the rules one after another
 abbrev pub derived : Rule → List Event → List Recognition → List Recognition
@@ -75,6 +77,13 @@ extend-all P es a b c (j ∷ js) ts h t m = extend-all P es a b c js (ts ++ deri
     go u (inl k) = h u k
     go u (inr k) = let w = new j es ts u k in subst P (sym (w .is)) (made-all trees P (λ x. P (tree (j .entry) x)) ts h (b (j .entry)) (c (j .entry)) (j .operator) es (w .x) (a (j .entry) (w .x)) (w .made))
 
+-- what every event has, and with its parts every whole, every recognition has
+pub recs-all : (P : Recognition → Type 0) (ops : List Operator) (es : List Event) → ((n : ℕ) (x : Node Recognition) (k : ℕ) → List·Memᴰ x (leaves k es) → P (tree n x)) → ((n : ℕ) (m : Arm) (r : Recognition) → P r → P (ofOne n m r)) → ((n : ℕ) (l r : Recognition) → P l → P r → P (ofTwo n l r)) → (t : Recognition) → List·Memᴰ t (recognitions ops es) → P t
+recs-all P ops es a b c t m = extend-all P es a b c (rules always 0 ops) [] (λ u k. absurd (List·Memᴰ·not-nil k)) t (subst (List·Memᴰ t) (recognitions-extend ops es) m)
+
+pub recs-proper : (ops : List Operator) (es : List Event) (t : Recognition) → List·Memᴰ t (recognitions ops es) → Proper t
+recs-proper ops es = recs-all Proper ops es (λ n x k m. subst (λ z. Proper (tree n z)) (sym (leaves-mem k es x m .is)) (omega arith)) (λ n m r h. omega (arith, end-by m (endOf r))) (λ n l r h k. start-le-end (startOf l) (endOf l) (startOf r) (endOf r) h k)
+
 -- an entry with an operator is one of the chart
 pub op-low : (ops : List Operator) (n : ℕ) (op : Operator) → OperatorAt ops n op → n < length ops
 op-low [] n op a = absurd a
@@ -93,8 +102,8 @@ pub record From (ops : List Operator) (es : List Event) (all : List Recognition)
 plus-suc : (n k : ℕ) → n + suc k ≡ suc n + k
 plus-suc n k = omega arith
 
-everything : Window (λ t. Unit {0})
-everything = record { one = λ n m t h. tt; fst = λ n l r h. tt; snd = λ n l r h. tt; bar = λ c r s t h. tt }
+everything : Window (λ t. Unit {0}) (λ t. Unit {0})
+everything = record { one = λ n m t h. tt; fst = λ n l r h. tt; snd = λ n l r h. tt; bar = λ c r s t h. tt; secondRival = λ n r s u p t h. tt; firstRival = λ c n r s u p t h. tt }
 
 module _ (ops : List Operator) (es : List Event) where
   abbrev ruleOf : ℕ → Operator → Rule
@@ -126,10 +135,10 @@ module _ (ops : List Operator) (es : List Event) where
   -- operands of entry n: in the list so far just where they are among all
   module _ (n : ℕ) (us all : List Recognition) (f : (t : Recognition) → List·Memᴰ t us → List·Memᴰ t all) (g : (t : Recognition) → entryOf t < n → List·Memᴰ t all → List·Memᴰ t us) where
     wide : (o : Operator) → Lower n o → (x : Node Recognition) → Made trees o es us x → Made trees o es all x
-    wide o lo x = local everything n es es us all (λ t l h. f t) (λ t l h. g t l) o lo x tt (λ k m. m)
+    wide o lo x = local everything n es es us all (λ t l h. f t) (λ t l h. g t l) (λ t m. tt) o lo x tt (λ k m. m)
 
     narrow : (o : Operator) → Lower n o → (x : Node Recognition) → Made trees o es all x → Made trees o es us x
-    narrow o lo x = local everything n es es all us (λ t l h. g t l) (λ t l h. f t) o lo x tt (λ k m. m)
+    narrow o lo x = local everything n es es all us (λ t l h. g t l) (λ t l h. f t) (λ t m. tt) o lo x tt (λ k m. m)
 
   fall : (os : List Operator) (n : ℕ) (us : List Recognition) (t : Recognition) → entryOf t < n → List·Memᴰ t (G os n us) → List·Memᴰ t us
   fall os n us t l m = elim (extend-new os n us t m) [ inl k ↦ k | inr k ↦ absurd (omega arith) ]
@@ -165,7 +174,7 @@ from-recs ops c es t g = subst (List·Memᴰ t) (sym (recognitions-extend ops es
     go h = Memᴰ·cast (h .is ∙ ap (λ i. tree i (h .x)) (omega arith)) (from-extend ops es ops 0 [] c (entryOf t) (h .operator) (h .at) (h .x) (h .made))
 
 -- inside a window the recognitions are those of the events inside it
-module _ {W : Recognition → Type 0} (w : Window W) (ops : List Operator) (c : Chart 0 ops) (es es' : List Event)
+module _ {W : Recognition → Type 0} (w : Window Proper W) (ops : List Operator) (c : Chart 0 ops) (es es' : List Event)
     (e : (n k : ℕ) (x : Node Recognition) → W (tree n x) → List·Memᴰ x (leaves k es) → List·Memᴰ x (leaves k es'))
     (e' : (n k : ℕ) (x : Node Recognition) → W (tree n x) → List·Memᴰ x (leaves k es') → List·Memᴰ x (leaves k es)) where
   abbrev Same : Recognition → Type 0
@@ -175,10 +184,10 @@ module _ {W : Recognition → Type 0} (w : Window W) (ops : List Operator) (c : 
   one-more t h below = (λ m. there (recs-from ops c es t m), λ m. back (recs-from ops c es' t m))
     where
       there : From ops es (recognitions ops es) t → List·Memᴰ t (recognitions ops es')
-      there q = let h' : W (tree (entryOf t) (q .x)) = subst W (q .is) h in from-recs ops c es' t (record { operator = q .operator; at = q .at; lower = q .lower; x = q .x; is = q .is; made = local w (entryOf t) es es' (recognitions ops es) (recognitions ops es') (λ u k z. below u k z .0) (λ u k z. below u k z .1) (q .operator) (q .lower) (q .x) h' (λ k. e (entryOf t) k (q .x) h') (q .made) })
+      there q = let h' : W (tree (entryOf t) (q .x)) = subst W (q .is) h in from-recs ops c es' t (record { operator = q .operator; at = q .at; lower = q .lower; x = q .x; is = q .is; made = local w (entryOf t) es es' (recognitions ops es) (recognitions ops es') (λ u k z. below u k z .0) (λ u k z. below u k z .1) (recs-proper ops es) (q .operator) (q .lower) (q .x) h' (λ k. e (entryOf t) k (q .x) h') (q .made) })
 
       back : From ops es' (recognitions ops es') t → List·Memᴰ t (recognitions ops es)
-      back q = let h' : W (tree (entryOf t) (q .x)) = subst W (q .is) h in from-recs ops c es t (record { operator = q .operator; at = q .at; lower = q .lower; x = q .x; is = q .is; made = local w (entryOf t) es' es (recognitions ops es') (recognitions ops es) (λ u k z. below u k z .1) (λ u k z. below u k z .0) (q .operator) (q .lower) (q .x) h' (λ k. e' (entryOf t) k (q .x) h') (q .made) })
+      back q = let h' : W (tree (entryOf t) (q .x)) = subst W (q .is) h in from-recs ops c es t (record { operator = q .operator; at = q .at; lower = q .lower; x = q .x; is = q .is; made = local w (entryOf t) es' es (recognitions ops es') (recognitions ops es) (λ u k z. below u k z .1) (λ u k z. below u k z .0) (recs-proper ops es') (q .operator) (q .lower) (q .x) h' (λ k. e' (entryOf t) k (q .x) h') (q .made) })
 
   pub within : (n : ℕ) (t : Recognition) → entryOf t < n → W t → Same t
   within zero t l h = absurd (omega arith)

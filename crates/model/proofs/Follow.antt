@@ -9,7 +9,7 @@ use lib.Dec.{T, ltb, ltb→lt, nltb→le}
 use lib.IntN.{ℤ, pos}
 use lib.ListN.{length, getD}
 use Rattle.interval.proofs.Signed.{_<ᶻ_, least-is, greatest-is, le-cases}
-use Rattle.model.specs.Recognitions.{Event, Operator, event, related, or, absence, lasting, after, Recognition, ofEvent, ofOne, ofTwo, entryOf, startOf, endOf, recognitions}
+use Rattle.model.specs.Recognitions.{Event, Operator, event, related, or, absence, lasting, after, nearest, Recognition, ofEvent, ofOne, ofTwo, entryOf, startOf, endOf, recognitions}
 use Rattle.model.specs.Order.{before, listing, row, place, asRow, asRows}
 use Rattle.model.specs.RowSteps.{Node, rowAt}
 use Rattle.model.specs.Statements.{Sorted, Reads}
@@ -57,6 +57,7 @@ made-lower n (related c a b) es ts x l m = subst (λ z. Parts (λ u. entryOf u <
 made-lower n (or a b) es ts x l (inl m) = subst (λ z. Parts (λ u. entryOf u < n) (tree n z)) (sym (m .is)) (subst (λ z. z < n) (sym (m .hasr .entry)) (l .0))
 made-lower n (or a b) es ts x l (inr m) = subst (λ z. Parts (λ u. entryOf u < n) (tree n z)) (sym (m .is)) (subst (λ z. z < n) (sym (m .hasr .entry)) (l .1))
 made-lower n (absence c a b) es ts x l m = subst (λ z. Parts (λ u. entryOf u < n) (tree n z)) (sym (m .is)) (subst (λ z. z < n) (sym (m .hasr .entry)) (l .0))
+made-lower n (nearest c a b) es ts x l m = subst (λ z. Parts (λ u. entryOf u < n) (tree n z)) (sym (m .two .is)) (subst (λ z. z < n) (sym (m .two .hasl .entry)) (l .0), subst (λ z. z < n) (sym (m .two .hasr .entry)) (l .1))
 made-lower n (after a d) es ts x l m = subst (λ z. Parts (λ u. entryOf u < n) (tree n z)) (sym (m .is)) (subst (λ z. z < n) (sym (m .hasr .entry)) l)
 made-lower n (lasting c a d) es ts x l m = subst (λ z. Parts (λ u. entryOf u < n) (tree n z)) (sym (m .is)) (subst (λ z. z < n) (sym (m .hasr .entry)) l)
 

@@ -12,16 +12,16 @@ use lib.Signed.{ltZ, leZ}
 use Rattle.interval.specs.Instants.{eqZ, least}
 use Rattle.interval.proofs.Signed.{_≤ᶻ_, _<ᶻ_, eq-fact, eqZ→, eqZ-refl, ltZ→, leZ→, →leZ, nleZ→, lt-false, lt-true, least-is, least-most, greatest-most, add-fact, add-none, add-one-more}
 use Rattle.model.specs.Lists.{keep, each, numbers, sortStably}
-use Rattle.model.specs.Recognitions.{Event, Operator, event, related, or, absence, lasting, after, delayed}
+use Rattle.model.specs.Recognitions.{Event, Operator, event, related, or, absence, lasting, after, nearest, delayed}
 use Rattle.model.specs.Order.{Row, row}
 use Rattle.model.specs.RowSteps.{Node, leaf, part, pair, leaves, make, nodeEnd, Rule, rules, rowAt, places, nodeRow, startsLater, madeRows, derivedRows, extendRows, endsAt, closeRows, closeInstants, instantsTo, delayedEnds, dueEnds, firstFrom, nextDue, closeDue}
 use Rattle.model.specs.Statements.{NextDue}
 use Rattle.model.proofs.Sorted.{keep-mem, mem-keep, keep-append, each-mem, mem-each, stably-mem, mem-stably}
-use Rattle.model.proofs.Made.{Made, make-made, made-make}
+use Rattle.model.proofs.Made.{Two, Made, make-made, made-make}
 use Rattle.model.proofs.Place.{keep-none, getD-mem, mem-getD}
 use Rattle.model.proofs.Rows.{map-numbers, numbers-mem}
 use Rattle.model.proofs.Steps.{extend-more}
-use Rattle.model.proofs.Windows.{leaves-mem}
+use Rattle.model.proofs.Leaves.{leaves-mem}
 use Rattle.model.proofs.History.{instants-to}
 
 -- no row ends at o
@@ -46,10 +46,14 @@ module _ (o : ℤ) (es : List Event) (rs : List Row) (none : NoneAt o rs) (still
   abbrev Off : Node ℕ → Type 0
   Off x = nodeEnd (places rs) x ≡ o → ⊥
 
+  off-two : {p : ℕ → ℕ → Bool} {a b : ℕ} {x : Node ℕ} → Two (places rs) p a b nums x → Off x
+  off-two m = subst Off (sym (m .is)) (greatest-most (λ z. z ≡ o → ⊥) ((rowAt rs (m .l)) .end) ((rowAt rs (m .r)) .end) (none (rowAt rs (m .l)) (row-there (m .l) (m .hasl .there))) (none (rowAt rs (m .r)) (row-there (m .r) (m .hasr .there))))
+
   -- an operator makes nothing that ends at o
   off : (op : Operator) → (List·Memᴰ o (delayedEnds rs op) → ⊥) → (x : Node ℕ) → Made (places rs) op es nums x → Off x
   off (event k) d x m = let q = leaves-mem k es x m in subst Off (sym (q .is)) (still (q .e) (q .there))
-  off (related c a b) d x m = subst Off (sym (m .is)) (greatest-most (λ z. z ≡ o → ⊥) ((rowAt rs (m .l)) .end) ((rowAt rs (m .r)) .end) (none (rowAt rs (m .l)) (row-there (m .l) (m .hasl .there))) (none (rowAt rs (m .r)) (row-there (m .r) (m .hasr .there))))
+  off (related c a b) d x m = off-two m
+  off (nearest c a b) d x m = off-two (m .two)
   off (or a b) d x (inl m) = subst Off (sym (m .is)) (none (rowAt rs (m .r)) (row-there (m .r) (m .hasr .there)))
   off (or a b) d x (inr m) = subst Off (sym (m .is)) (none (rowAt rs (m .r)) (row-there (m .r) (m .hasr .there)))
   off (absence c a b) d x m = subst Off (sym (m .is)) (none (rowAt rs (m .r)) (row-there (m .r) (m .hasr .there)))
@@ -82,6 +86,7 @@ module _ (o : ℤ) (es : List Event) (still : (e : Event) → List·Memᴰ e es 
   no-event n (absence c a b) rs = refl
   no-event n (lasting c a d) rs = refl
   no-event n (after a d) rs = refl
+  no-event n (nearest c a b) rs = refl
 
   no-events : (ops : List Operator) (n : ℕ) (rs : List Row) → extendRows es (rules (endsAt o) n ops) rs ≡ extendRows [] (rules (endsAt o) n ops) rs
   unfolding extendRows

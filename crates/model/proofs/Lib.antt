@@ -2,11 +2,13 @@ pub mod Sorted
 pub mod Order
 pub mod Trees
 pub mod Made
+pub mod Leaves
 pub mod Local
 pub mod Extend
 pub mod Windows
 pub mod Rank
 pub mod Closing
+pub mod Rivals
 pub mod Place
 pub mod Rows
 pub mod Forget

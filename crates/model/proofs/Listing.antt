@@ -10,7 +10,7 @@ use lib.ListN.{length}
 use lib.IntN.{ℤ, pos, _+ℤ_}
 use Rattle.interval.proofs.Signed.{_≤ᶻ_, _<ᶻ_, eq-fact, leZ→, →leZ, least-is, greatest-is, least-most, add-fact, add-none, add-one-more}
 use Rattle.model.specs.Lists.{keep}
-use Rattle.model.specs.Recognitions.{Event, Operator, event, related, or, absence, lasting, after, Arm, Recognition, ofEvent, ofOne, ofTwo, entryOf, startOf, endOf, recognitions}
+use Rattle.model.specs.Recognitions.{Event, Operator, event, related, or, absence, lasting, after, nearest, Recognition, ofEvent, ofOne, ofTwo, entryOf, startOf, endOf, recognitions}
 use Rattle.model.specs.Order.{before, listing, asRows}
 use Rattle.model.specs.RowSteps.{Node, leaves, nodeStart, nodeEnd, rules, endsAt, closeRows, closeInstants, isEvent, isEventAt, forgetRows, numbered}
 use Rattle.model.specs.Statements.{Sorted, OperatorAt}
@@ -18,16 +18,13 @@ use Rattle.model.proofs.Sorted.{sorted-keep, keep-mem, mem-keep}
 use Rattle.model.proofs.Trees.{end-by, tree, trees, tree-start}
 use Rattle.model.proofs.Made.{Made}
 use Rattle.model.proofs.Local.{Chart}
-use Rattle.model.proofs.Extend.{always, recognitions-extend, extend-all, recs-from}
-use Rattle.model.proofs.Windows.{IsLeaf, leaves-mem, leaves-append, eventsFrom, event-same, floor-same}
+use Rattle.model.proofs.Extend.{always, recognitions-extend, recs-all, recs-from}
+use Rattle.model.proofs.Leaves.{IsLeaf, leaves-mem, leaves-append}
+use Rattle.model.proofs.Windows.{eventsFrom, event-same, floor-same}
 use Rattle.model.proofs.Rank.{bySerial, append}
 use Rattle.model.proofs.Rows.{Parts, Closed, extend-closed, append-writes}
 use Rattle.model.proofs.Closing.{Lists, lists-same, Due, Past, listing-lists, closing}
 use Rattle.model.proofs.Forget.{Shape, Shaped, lateTree, forget-writes}
-
--- what every event has, and with its parts every whole, every recognition has
-recs-all : (P : Recognition → Type 0) (ops : List Operator) (es : List Event) → ((n : ℕ) (x : Node Recognition) (k : ℕ) → List·Memᴰ x (leaves k es) → P (tree n x)) → ((n : ℕ) (m : Arm) (r : Recognition) → P r → P (ofOne n m r)) → ((n : ℕ) (l r : Recognition) → P l → P r → P (ofTwo n l r)) → (t : Recognition) → List·Memᴰ t (recognitions ops es) → P t
-recs-all P ops es a b c t m = extend-all P es a b c (rules always 0 ops) [] (λ u k. absurd (List·Memᴰ·not-nil k)) t (subst (List·Memᴰ t) (recognitions-extend ops es) m)
 
 -- no recognition starts before the first event
 pub recs-start : (ops : List Operator) (es : List Event) (f : ℤ) → ((e : Event) → List·Memᴰ e es → f ≤ᶻ e .instant) → (t : Recognition) → List·Memᴰ t (recognitions ops es) → f ≤ᶻ startOf t
@@ -37,6 +34,7 @@ recs-start ops es f h = recs-all (λ t. f ≤ᶻ startOf t) ops es (λ n x k m. 
 made-shape : (all : List Operator) (n : ℕ) (op : Operator) (es : List Event) (ts : List Recognition) (x : Node Recognition) → isEventAt all n ≡ isEvent op → Made trees op es ts x → Shape all (tree n x)
 made-shape all n (event k) es ts x e m = let q = leaves-mem k es x m in subst (λ z. Shape all (tree n z)) (sym (q .is)) (subst T (sym e) tt)
 made-shape all n (related c a b) es ts x e m = subst (λ z. Shape all (tree n z)) (sym (m .is)) (subst (λ z. T (not z)) (sym e) tt)
+made-shape all n (nearest c a b) es ts x e m = subst (λ z. Shape all (tree n z)) (sym (m .two .is)) (subst (λ z. T (not z)) (sym e) tt)
 made-shape all n (or a b) es ts x e (inl m) = subst (λ z. Shape all (tree n z)) (sym (m .is)) (subst (λ z. T (not z)) (sym e) tt)
 made-shape all n (or a b) es ts x e (inr m) = subst (λ z. Shape all (tree n z)) (sym (m .is)) (subst (λ z. T (not z)) (sym e) tt)
 made-shape all n (absence c a b) es ts x e m = subst (λ z. Shape all (tree n z)) (sym (m .is)) (subst (λ z. T (not z)) (sym e) tt)

@@ -3,14 +3,16 @@ use Prim.Native.Nat.{ℕ, suc, _<_}
 use native.Mathlib.Omega.{arith}
 use mathlib.Core.Path.{_≡_, subst}
 use mathlib.Core.Logic.{inl, inr}
-use mathlib.Core.Bool.{_&&_}
+use mathlib.Core.Bool.{Bool, _&&_}
 use mathlib.Core.List.{List, [], _∷_, List·Memᴰ}
 use lib.Dec.{T, ltb, ltb→lt}
 use Rattle.interval.specs.Conditions.{isForbidding}
 use Rattle.interval.specs.declared.Edges.{Edges}
-use Rattle.model.specs.Recognitions.{Event, Operator, event, related, or, absence, lasting, after, Arm, only, Recognition, ofOne, ofTwo, entryOf, startOf, endOf, isLower, areLower}
+use Rattle.interval.specs.declared.Nearest.{Nearest}
+use Rattle.interval.proofs.Signed.{_≤ᶻ_}
+use Rattle.model.specs.Recognitions.{Event, Operator, event, related, or, absence, lasting, after, nearest, Arm, only, Recognition, ofOne, ofTwo, entryOf, startOf, endOf, isLower, areLower, rivalsSecond, rivalsFirst}
 use Rattle.model.specs.RowSteps.{Node, leaves}
-use Rattle.model.proofs.Made.{Has, One, Made}
+use Rattle.model.proofs.Made.{Has, One, Two, Made}
 use Rattle.model.proofs.Trees.{tree, trees}
 use Rattle.model.proofs.Sorted.{T-and}
 
@@ -22,6 +24,7 @@ Lower n (or a b) = (a < n) × (b < n)
 Lower n (absence c a b) = (a < n) × (b < n)
 Lower n (lasting c a d) = a < n
 Lower n (after a d) = a < n
+Lower n (nearest c a b) = (a < n) × (b < n)
 
 abbrev pub Chart : ℕ → List Operator → Type 0
 Chart n [] = Unit {0}
@@ -37,19 +40,26 @@ lower n (or a b) h = two-lower a b n h
 lower n (absence c a b) h = two-lower a b n h
 lower n (lasting c a d) h = ltb→lt a n h
 lower n (after a d) h = ltb→lt a n h
+lower n (nearest c a b) h = two-lower a b n h
 
 pub chart-lower : (n : ℕ) (ops : List Operator) → T (areLower n ops) → Chart n ops
 chart-lower n [] h = tt
 chart-lower n (op ∷ ops) h = let p = T-and (isLower n op) (areLower (suc n) ops) h in (lower n op (p .0), chart-lower (suc n) ops (p .1))
 
--- a set that holds with a recognition its parts and whatever could forbid them
-pub record Window (W : Recognition → Type 0) : Type 0 where
+-- it starts no later than it ends
+abbrev pub Proper : Recognition → Type 0
+Proper t = startOf t ≤ᶻ endOf t
+
+-- a set W that holds with a recognition its parts, whatever could forbid them, and their rivals; P is known of the parts
+pub record Window (P W : Recognition → Type 0) : Type 0 where
   pub one : (n : ℕ) (m : Arm) (t : Recognition) → W (ofOne n m t) → W t
   pub fst : (n : ℕ) (l r : Recognition) → W (ofTwo n l r) → W l
   pub snd : (n : ℕ) (l r : Recognition) → W (ofTwo n l r) → W r
   pub bar : (c : Edges) (r s : Recognition) → T (isForbidding c (startOf r) (endOf r) (startOf s) (endOf s)) → W r → W s
+  pub secondRival : (n : ℕ) (r s u : Recognition) → P r → T (rivalsSecond r s u) → W (ofTwo n r s) → W u
+  pub firstRival : (c : Nearest) (n : ℕ) (r s u : Recognition) → P s → T (rivalsFirst c r s u) → W (ofTwo n r s) → W u
 
-module _ {W : Recognition → Type 0} (w : Window W) (n : ℕ) (es es' : List Event) (ts us : List Recognition) (f : (t : Recognition) → entryOf t < n → W t → List·Memᴰ t ts → List·Memᴰ t us) (g : (t : Recognition) → entryOf t < n → W t → List·Memᴰ t us → List·Memᴰ t ts) where
+module _ {P W : Recognition → Type 0} (w : Window P W) (n : ℕ) (es es' : List Event) (ts us : List Recognition) (f : (t : Recognition) → entryOf t < n → W t → List·Memᴰ t ts → List·Memᴰ t us) (g : (t : Recognition) → entryOf t < n → W t → List·Memᴰ t us → List·Memᴰ t ts) (known : (t : Recognition) → List·Memᴰ t ts → P t) where
   moved : {a : ℕ} {r : Recognition} → a < n → W r → Has trees ts a r → Has trees us a r
   moved {a} {r} l h k =
       let e : entryOf r ≡ a = k .entry in
@@ -63,11 +73,15 @@ module _ {W : Recognition → Type 0} (w : Window W) (n : ℕ) (es es' : List Ev
   in-one : {m : Arm} {a : ℕ} {x : Node Recognition} → a < n → W (tree n x) → One trees m a ts x → One trees m a us x
   in-one {m} {a} {x} l h k = record { r = k .r; is = k .is; hasr = moved l (w .one n m (k .r) (subst (λ z. W (tree n z)) (k .is) h)) (k .hasr) }
 
-  pub local : (op : Operator) → Lower n op → (x : Node Recognition) → W (tree n x) → ((k : ℕ) → List·Memᴰ x (leaves k es) → List·Memᴰ x (leaves k es')) → Made trees op es ts x → Made trees op es' us x
-  local (event k) lo x h e m = e k m
-  local (related c a b) lo x h e m =
+  in-two : {p : Recognition → Recognition → Bool} {a b : ℕ} {x : Node Recognition} → a < n → b < n → W (tree n x) → Two trees p a b ts x → Two trees p a b us x
+  in-two la lb h m =
       let h' : W (ofTwo n (m .l) (m .r)) = subst (λ z. W (tree n z)) (m .is) h in
-      record { l = m .l; r = m .r; is = m .is; hasl = moved (lo .0) (w .fst n (m .l) (m .r) h') (m .hasl); hasr = moved (lo .1) (w .snd n (m .l) (m .r) h') (m .hasr); ok = m .ok }
+      record { l = m .l; r = m .r; is = m .is; hasl = moved la (w .fst n (m .l) (m .r) h') (m .hasl); hasr = moved lb (w .snd n (m .l) (m .r) h') (m .hasr); ok = m .ok }
+
+  pub local : (op : Operator) → Lower n op → (x : Node Recognition) → W (tree n x) → ((k : ℕ) → List·Memᴰ x (leaves k es) → List·Memᴰ x (leaves k es')) → Made trees op es ts x → Made trees op es' us x
+  unfolding in-two
+  local (event k) lo x h e m = e k m
+  local (related c a b) lo x h e m = in-two (lo .0) (lo .1) h m
   local (or a b) lo x h e (inl m) = inl (in-one (lo .0) h m)
   local (or a b) lo x h e (inr m) = inr (in-one (lo .1) h m)
   local (absence c a b) lo x h e m =
@@ -75,3 +89,12 @@ module _ {W : Recognition → Type 0} (w : Window W) (n : ℕ) (es es' : List Ev
       record { r = m .r; is = m .is; hasr = moved (lo .0) h' (m .hasr); ok = λ u k t. m .ok u (back (lo .1) (w .bar c (m .r) u t h') k) t }
   local (lasting c a d) lo x h e m = record { r = m .r; is = m .is; hasr = moved lo (w .one n only (m .r) (subst (λ z. W (tree n z)) (m .is) h)) (m .hasr); ok = m .ok }
   local (after a d) lo x h e m = in-one lo h m
+  local (nearest c a b) lo x h e m =
+      let l = m .two .l in
+      let r = m .two .r in
+      let h' : W (ofTwo n l r) = subst (λ z. W (tree n z)) (m .two .is) h in
+      record {
+        two = in-two (lo .0) (lo .1) h (m .two);
+        first = λ u k t. m .first u (back (lo .1) (w .secondRival n l r u (known l (m .two .hasl .there)) t h') k) t;
+        last = λ u k t. m .last u (back (lo .0) (w .firstRival c n l r u (known r (m .two .hasr .there)) t h') k) t;
+      }

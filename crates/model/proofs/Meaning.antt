@@ -5,14 +5,14 @@ use mathlib.Core.Path.{_≡_, refl, ap, _∙_, subst}
 use mathlib.Core.Logic.{inl, inr, _↔_}
 use mathlib.Core.List.{List, [], _∷_, List·Memᴰ}
 use lib.ListN.{length}
-use Rattle.model.specs.Recognitions.{Event, Operator, event, related, or, absence, lasting, after, only, left, right, delayed, Recognition, entryOf, recognitions}
+use Rattle.model.specs.Recognitions.{Event, Operator, event, related, or, absence, lasting, after, nearest, only, left, right, delayed, Recognition, entryOf, recognitions}
 use Rattle.model.specs.RowSteps.{Node, leaf, part, pair}
 use Rattle.model.specs.Statements.{OperatorAt, Of, Asks, Line, IsWithin, IsRecognition}
 use Rattle.model.proofs.Trees.{tree, trees}
 use Rattle.model.proofs.Made.{Made}
 use Rattle.model.proofs.Local.{Lower, Chart}
 use Rattle.model.proofs.Extend.{op-low, recs-from, from-recs}
-use Rattle.model.proofs.Windows.{leaves-mem, mem-leaves}
+use Rattle.model.proofs.Leaves.{leaves-mem, mem-leaves}
 
 -- what a line asks depends only on the recognitions of lower entries
 module _ (n : ℕ) (es : List Event) (R S : Recognition → Type 0) (f : (u : Recognition) → entryOf u < n → R u → S u) (g : (u : Recognition) → entryOf u < n → S u → R u) where
@@ -30,6 +30,7 @@ module _ (n : ℕ) (es : List Event) (R S : Recognition → Type 0) (f : (u : Re
   asks-same (absence c a b) lo t h = (h .0, to a (h .0) (lo .0) (h .1), λ s k. h .2 s (fro b s (lo .1) k), h .3)
   asks-same (lasting c a d) lo t h = (h .0, to a (h .0) lo (h .1), h .2, h .3)
   asks-same (after a d) lo t h = (h .0, to a (h .0) lo (h .1), h .2)
+  asks-same (nearest c a b) lo t h = (h .0, h .1, to a (h .0) (lo .0) (h .2), to b (h .1) (lo .1) (h .3), h .4, λ u k. h .5 u (fro b u (lo .1) k), λ u k. h .6 u (fro a u (lo .0) k), h .7)
 
 chart-at : (ops : List Operator) (n k : ℕ) (op : Operator) → Chart n ops → OperatorAt ops k op → Lower (n + k) op
 chart-at [] n k op c a = absurd a
@@ -47,6 +48,7 @@ module _ (es : List Event) (all : List Recognition) where
   asked (or a b) x (inl m) t e = inl (m .r, (m .hasr .there, m .hasr .entry), e ∙ ap (tree (entryOf t)) (m .is))
   asked (or a b) x (inr m) t e = inr (m .r, (m .hasr .there, m .hasr .entry), e ∙ ap (tree (entryOf t)) (m .is))
   asked (absence c a b) x m t e = (m .r, (m .hasr .there, m .hasr .entry), λ s h. m .ok s (record { there = h .0; entry = h .1 }), e ∙ ap (tree (entryOf t)) (m .is))
+  asked (nearest c a b) x m t e = (m .two .l, m .two .r, (m .two .hasl .there, m .two .hasl .entry), (m .two .hasr .there, m .two .hasr .entry), m .two .ok, λ u h. m .first u (record { there = h .0; entry = h .1 }), λ u h. m .last u (record { there = h .0; entry = h .1 }), e ∙ ap (tree (entryOf t)) (m .two .is))
   asked (after a d) x m t e = (m .r, (m .hasr .there, m .hasr .entry), e ∙ ap (tree (entryOf t)) (m .is))
   asked (lasting c a d) x m t e = (m .r, (m .hasr .there, m .hasr .entry), m .ok, e ∙ ap (tree (entryOf t)) (m .is))
 
@@ -56,6 +58,7 @@ module _ (es : List Event) (all : List Recognition) where
   made (or a b) t (inl h) = (part left (h .0), h .2, inl (record { r = h .0; is = refl; hasr = record { there = h .1 .0; entry = h .1 .1 } }))
   made (or a b) t (inr h) = (part right (h .0), h .2, inr (record { r = h .0; is = refl; hasr = record { there = h .1 .0; entry = h .1 .1 } }))
   made (absence c a b) t h = (part only (h .0), h .3, record { r = h .0; is = refl; hasr = record { there = h .1 .0; entry = h .1 .1 }; ok = λ s k. h .2 s (k .there, k .entry) })
+  made (nearest c a b) t h = (pair (h .0) (h .1), h .7, record { two = record { l = h .0; r = h .1; is = refl; hasl = record { there = h .2 .0; entry = h .2 .1 }; hasr = record { there = h .3 .0; entry = h .3 .1 }; ok = h .4 }; first = λ u k. h .5 u (k .there, k .entry); last = λ u k. h .6 u (k .there, k .entry) })
   made (after a d) t h = (part (delayed d) (h .0), h .2, record { r = h .0; is = refl; hasr = record { there = h .1 .0; entry = h .1 .1 } })
   made (lasting c a d) t h = (part only (h .0), h .3, record { r = h .0; is = refl; hasr = record { there = h .1 .0; entry = h .1 .1 }; ok = h .2 })
 

@@ -11,9 +11,9 @@ use lib.Signed.{ltZ}
 use Rattle.interval.specs.Conditions.{hasLength}
 use Rattle.interval.proofs.Signed.{_≤ᶻ_, _<ᶻ_, eq-fact, ltZ→, nltZ→, neg-turns, le-cases}
 use Rattle.model.specs.Lists.{keep, each, sortStably}
-use Rattle.model.specs.Recognitions.{Event, Operator, event, related, or, absence, lasting, after, Arm, only, left, right, delayed, Recognition, entryOf, startOf, endOf}
+use Rattle.model.specs.Recognitions.{Event, Operator, event, related, or, absence, lasting, after, nearest, Arm, only, left, right, delayed, Recognition, entryOf, startOf, endOf}
 use Rattle.model.specs.Order.{armNumber, before}
-use Rattle.model.specs.RowSteps.{Node, leaf, part, pair, leaves, make, of, fits, forbidden, nodeStart, nodeEnd, Rule}
+use Rattle.model.specs.RowSteps.{Node, leaf, part, pair, leaves, pairs, make, of, fits, forbidden, near, nodeStart, nodeEnd, Rule}
 use Rattle.model.specs.Statements.{Sorted}
 use Rattle.model.proofs.Sorted.{sorted-append, sorted-keep, each-mem, keep-mem, keep-map, stably-mem, mem-stably, Decides, sorted-stably}
 use Rattle.model.proofs.Order.{lex, lex-lt, lex-eq, lex-behind, key, before→lex, lex→before, before-trans, before-append}
@@ -67,16 +67,19 @@ pairs-ranked l l' r r' h = lex-eq (pos 2) (pos 2) (key l ++ key r) (key l' ++ ke
 arms-ranked : (t u : Recognition) → T (ranked (part left t) (part right u))
 arms-ranked t u = lex-eq (pos 1) (pos 1) (pos 1 ∷ key t) (pos 2 ∷ key u) refl (lex-lt (pos 1) (pos 2) (key t) (key u) (omega arith))
 
+sorted-pairs : (p : Recognition → Recognition → Bool) (a b : ℕ) (ts : List Recognition) → Sorted before ts → Sorted ranked (pairs p (of trees a ts) (of trees b ts))
+sorted-pairs p a b ts h =
+    sorted-each before ranked (λ l. map (pair l) (keep (p l) (of trees b ts))) (of trees a ts)
+    (λ l. sorted-map before ranked (pair l) (keep (p l) (of trees b ts)) (λ r r' m m'. pair-ranked l r r') (sorted-keep before (p l) (of trees b ts) (sorted-keep before (λ x. eqb (entryOf x) b) ts h)))
+    (λ l l' x x' q m m'.
+    let w = Memᴰ·of-map (pair l) (keep (p l) (of trees b ts)) m in
+    let w' = Memᴰ·of-map (pair l') (keep (p l') (of trees b ts)) m' in
+    subst₂ (λ y z. T (ranked y z)) (w .2) (w' .2) (pairs-ranked l l' (w .0) (w' .0) q))
+    (sorted-keep before (λ x. eqb (entryOf x) a) ts h)
+
 pub make-ranked : (op : Operator) (es : List Event) (ts : List Recognition) → Sorted bySerial es → Sorted before ts → Sorted ranked (make trees op es ts)
 make-ranked (event k) es ts g h = sorted-leaves k es g
-make-ranked (related c a b) es ts g h =
-    sorted-each before ranked (λ l. map (pair l) (keep (fits trees c l) (of trees b ts))) (of trees a ts)
-    (λ l. sorted-map before ranked (pair l) (keep (fits trees c l) (of trees b ts)) (λ r r' m m'. pair-ranked l r r') (sorted-keep before (fits trees c l) (of trees b ts) (sorted-keep before (λ x. eqb (entryOf x) b) ts h)))
-    (λ l l' x x' p m m'.
-    let q = Memᴰ·of-map (pair l) (keep (fits trees c l) (of trees b ts)) m in
-    let q' = Memᴰ·of-map (pair l') (keep (fits trees c l') (of trees b ts)) m' in
-    subst₂ (λ y z. T (ranked y z)) (q .2) (q' .2) (pairs-ranked l l' (q .0) (q' .0) p))
-    (sorted-keep before (λ x. eqb (entryOf x) a) ts h)
+make-ranked (related c a b) es ts g h = sorted-pairs (fits trees c) a b ts h
 make-ranked (or a b) es ts g h =
     sorted-append ranked (map (part left) (of trees a ts)) (arm left a) (arm right b) (λ x y m n.
     let q = Memᴰ·of-map (part left) (of trees a ts) m in
@@ -86,6 +89,7 @@ make-ranked (or a b) es ts g h =
     arm : (m : Arm) (c : ℕ) → Sorted ranked (map (part m) (of trees c ts))
     arm m c = sorted-map before ranked (part m) (of trees c ts) (λ t u m′ n. part-ranked m t u) (sorted-keep before (λ x. eqb (entryOf x) c) ts h)
 make-ranked (absence c a b) es ts g h = sorted-map before ranked (part only) (keep (λ r. not (forbidden trees c (of trees b ts) r)) (of trees a ts)) (λ t u m n. part-ranked only t u) (sorted-keep before (λ r. not (forbidden trees c (of trees b ts) r)) (of trees a ts) (sorted-keep before (λ x. eqb (entryOf x) a) ts h))
+make-ranked (nearest c a b) es ts g h = sorted-pairs (near trees c (of trees a ts) (of trees b ts)) a b ts h
 make-ranked (after a d) es ts g h = sorted-map before ranked (part (delayed d)) (of trees a ts) (λ t u m n. part-ranked (delayed d) t u) (sorted-keep before (λ x. eqb (entryOf x) a) ts h)
 make-ranked (lasting c a d) es ts g h = sorted-map before ranked (part only) (keep (λ r. hasLength c d (startOf r) (endOf r)) (of trees a ts)) (λ t u m n. part-ranked only t u) (sorted-keep before (λ r. hasLength c d (startOf r) (endOf r)) (of trees a ts) (sorted-keep before (λ x. eqb (entryOf x) a) ts h))
 

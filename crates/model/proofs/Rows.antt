@@ -3,24 +3,25 @@ use Prim.Native.Nat.{ℕ, zero, suc, _+_, _<_}
 use native.Mathlib.Omega.{arith}
 use mathlib.Core.Path.{_≡_, refl, sym, ap, ap₂, _∙_, subst, fun-ext}
 use mathlib.Core.Logic.{_⊎_, inl, inr}
-use mathlib.Core.Bool.{Bool, not, _||_}
+use mathlib.Core.Bool.{Bool, not, _&&_, _||_}
 use mathlib.Core.List.{List, [], _∷_, _++_, map, map-append, List·Memᴰ, List·Memᴰ·head, List·Memᴰ·tail, List·Memᴰ·not-nil, List·Memᴰ·cases-cons, List·Memᴰ·append-cases, Memᴰ·append-left}
 use lib.Dec.{eqb}
 use lib.ListN.{length, getD, List·getD-append, length-append, length-map}
 use lib.IntN.{ℤ, pos}
 use lib.Signed.{ltZ}
 use Rattle.interval.specs.Instants.{least, greatest}
-use Rattle.interval.specs.Conditions.{hasLength}
+use Rattle.interval.specs.Conditions.{isForbidding, hasLength}
+use Rattle.interval.specs.declared.Relation.the-variants.{Seq}
 use Rattle.model.specs.Lists.{keep, some, each, numbers, sortStably}
-use Rattle.model.specs.Recognitions.{Event, Operator, event, related, or, absence, lasting, after, Arm, only, left, right, delayed, Recognition, ofEvent, ofOne, ofTwo, entryOf, startOf, endBy, endOf}
+use Rattle.model.specs.Recognitions.{Event, Operator, event, related, or, absence, lasting, after, nearest, Arm, only, left, right, delayed, Recognition, ofEvent, ofOne, ofTwo, entryOf, startOf, endBy, endOf}
 use Rattle.model.specs.Order.{before, Row, row, place, leftOf, rightOf, asRow, asRows}
-use Rattle.model.specs.RowSteps.{Node, leaf, part, pair, View, leaves, make, of, fits, forbidden, Rule, rowAt, places, nodeRow, startsLater, derivedRows, extendRows}
+use Rattle.model.specs.RowSteps.{Node, leaf, part, pair, View, leaves, pairs, make, of, fits, forbidden, rivalOfSecond, rivalOfFirst, near, Rule, rowAt, places, nodeRow, startsLater, derivedRows, extendRows}
 use Rattle.model.specs.Statements.{Sorted}
 use Rattle.model.proofs.Sorted.{keep-map, sorted-front, map-stably}
 use Rattle.model.proofs.Trees.{tree, trees, map-map}
 use Rattle.model.proofs.Made.{make-made, made-all}
 use Rattle.model.proofs.Extend.{derived, extend, New, new}
-use Rattle.model.proofs.Windows.{leaves-mem}
+use Rattle.model.proofs.Leaves.{leaves-mem}
 use Rattle.model.proofs.Place.{place-at, place-append}
 use Rattle.model.proofs.Rank.{laterTree, arranged, arranged-new, append}
 
@@ -55,15 +56,21 @@ module _ {A B : Type 0} (g : A → B) where
     arm : (m : Arm) (a : ℕ) → map (part m) (of v a (map g xs)) ≡ map node (map (part m) (of (pull v) a xs))
     arm m a = ap (map (part m)) (of-map a) ∙ map-node (part m) (part m) (λ x. refl) (of (pull v) a xs)
 
+    pairs-node : (p : B → B → Bool) (p′ : A → A → Bool) → ((x y : A) → p (g x) (g y) ≡ p′ x y) → (a b : ℕ) → pairs p (of v a (map g xs)) (of v b (map g xs)) ≡ map node (pairs p′ (of (pull v) a xs) (of (pull v) b xs))
+    pairs-node p p′ same a b = ap (each with-p) (of-map a) ∙ each-node with-p (λ l. map (pair l) (keep (p′ l) (of (pull v) b xs))) each-pair (of (pull v) a xs)
+      where
+        with-p : B → List (Node B)
+        with-p l = map (pair l) (keep (p l) (of v b (map g xs)))
+
+        each-pair : (x : A) → with-p (g x) ≡ map node (map (pair x) (keep (p′ x) (of (pull v) b xs)))
+        each-pair x = ap (λ z. map (pair (g x)) (keep (p (g x)) z)) (of-map b) ∙ ap (map (pair (g x))) (keep-map (p (g x)) g (of (pull v) b xs) ∙ ap (λ q. map g (keep q (of (pull v) b xs))) (fun-ext (same x))) ∙ map-node (pair (g x)) (pair x) (λ y. refl) (keep (p′ x) (of (pull v) b xs))
+
+    some-of : (p : B → Bool) (a : ℕ) → some p (of v a (map g xs)) ≡ some (λ r. p (g r)) (of (pull v) a xs)
+    some-of p a = ap (some p) (of-map a) ∙ some-map p (of (pull v) a xs)
+
     make-node : (op : Operator) (es : List Event) → make v op es (map g xs) ≡ map node (make (pull v) op es xs)
     make-node (event k) es = leaves-node k es
-    make-node (related c a b) es = ap (each pairs) (of-map a) ∙ each-node pairs (λ l. map (pair l) (keep (fits (pull v) c l) (of (pull v) b xs))) each-pair (of (pull v) a xs)
-      where
-        pairs : B → List (Node B)
-        pairs l = map (pair l) (keep (fits v c l) (of v b (map g xs)))
-
-        each-pair : (x : A) → pairs (g x) ≡ map node (map (pair x) (keep (fits (pull v) c x) (of (pull v) b xs)))
-        each-pair x = ap (λ z. map (pair (g x)) (keep (fits v c (g x)) z)) (of-map b) ∙ ap (map (pair (g x))) (keep-map (fits v c (g x)) g (of (pull v) b xs)) ∙ map-node (pair (g x)) (pair x) (λ y. refl) (keep (fits (pull v) c x) (of (pull v) b xs))
+    make-node (related c a b) es = pairs-node (fits v c) (fits (pull v) c) (λ x y. refl) a b
     make-node (or a b) es = ap₂ _++_ (arm left a) (arm right b) ∙ sym (map-append node (map (part left) (of (pull v) a xs)) (map (part right) (of (pull v) b xs)))
     make-node (absence c a b) es = ap (λ z. map (part only) (keep test z)) (of-map a) ∙ ap (map (part only)) (keep-map test g (of (pull v) a xs) ∙ ap (λ z. map g (keep z (of (pull v) a xs))) (fun-ext same-test)) ∙ map-node (part only) (part only) (λ x. refl) (keep test′ (of (pull v) a xs))
       where
@@ -74,7 +81,9 @@ module _ {A B : Type 0} (g : A → B) where
         test′ r = not (forbidden (pull v) c (of (pull v) b xs) r)
 
         same-test : (r : A) → test (g r) ≡ test′ r
-        same-test r = ap (λ z. not (forbidden v c z (g r))) (of-map b) ∙ ap not (some-map _ (of (pull v) b xs))
+        same-test r = ap not (some-of (λ s. isForbidding c (v .start (g r)) (v .end (g r)) (v .start s) (v .end s)) b)
+    make-node (nearest c a b) es = pairs-node (near v c (of v a (map g xs)) (of v b (map g xs))) (near (pull v) c (of (pull v) a xs) (of (pull v) b xs)) (λ x y.
+        ap₂ (λ p q. fits v Seq (g x) (g y) && (not p && not q)) (some-of (rivalOfSecond v (g x) (g y)) b) (some-of (rivalOfFirst v c (g x) (g y)) a)) a b
     make-node (after a d) es = arm (delayed d) a
     make-node (lasting c a d) es = ap (λ z. map (part only) (keep (λ r. hasLength c d (v .start r) (v .end r)) z)) (of-map a) ∙ ap (map (part only)) (keep-map (λ r. hasLength c d (v .start r) (v .end r)) g (of (pull v) a xs)) ∙ map-node (part only) (part only) (λ x. refl) (keep (λ r. hasLength c d (v .start (g r)) (v .end (g r))) (of (pull v) a xs))
 

@@ -14,15 +14,17 @@ use Rattle.model.specs.Order.{before, listing, place, asRows}
 use Rattle.model.specs.Reference.{opening, step, run, numbersOf}
 use Rattle.model.specs.RowSteps.{instantsTo, watchStep}
 use Rattle.model.specs.Consistency.{isConsistent}
-use Rattle.model.specs.Statements.{Reads, RecognitionHolds, RecognitionUnique, StrictOrder, ListingHolds, ListingUnique, FloorHolds, LaterEventHolds, ReferencesHold, SerialsHold, HistoryHolds, IdleHolds, NextDueHolds, JumpHolds, GrowthHolds, ConsistencyHolds}
+use Rattle.model.specs.Statements.{Reads, IsRecognition, RecognitionHolds, RecognitionUnique, StrictOrder, ListingHolds, ListingUnique, FloorHolds, LaterEventHolds, RivalsHold, ReferencesHold, SerialsHold, HistoryHolds, IdleHolds, NextDueHolds, JumpHolds, GrowthHolds, ConsistencyHolds}
 use Rattle.model.proofs.Sorted.{same, T-em}
 use Rattle.model.proofs.Order.{before-irrefl, before-trans, before-total}
-use Rattle.model.proofs.Local.{Chart, chart-lower}
+use Rattle.model.proofs.Local.{Chart, Proper, chart-lower}
+use Rattle.model.proofs.Extend.{recs-proper}
 use Rattle.model.proofs.Windows.{event-same}
 use Rattle.model.proofs.Meaning.{recognition-listed, recognition-line, recognition-only}
 use Rattle.model.proofs.Place.{place-at}
 use Rattle.model.proofs.Rows.{nil}
 use Rattle.model.proofs.Closing.{listing-lists}
+use Rattle.model.proofs.Rivals.{rivals-held}
 use Rattle.model.proofs.Listing.{listing-floor}
 use Rattle.model.proofs.History.{good-run, good-opening, opening-shown, history-from, instants-to}
 use Rattle.model.proofs.Jump.{idle, next-due, jump, grown}
@@ -63,6 +65,11 @@ later-event chart h es e o late t end =
     let c : Chart 0 chart = chart-lower 0 chart h in
     let q = event-same chart c es e o (leZ→ o (e .instant) late) t (ltZ→ (endOf t) o end) in
     (λ r. recognition-listed chart c es t .1 (q .1 (recognition-listed chart c (es ++ e ∷ []) t .0 r)), λ r. recognition-listed chart c (es ++ e ∷ []) t .1 (q .0 (recognition-listed chart c es t .0 r)))
+
+pub rivals : RivalsHold
+rivals chart h es f c a b r s hr hs above =
+    let proper : (t : Recognition) → IsRecognition chart es t → Proper t = λ t k. recs-proper chart es t (recognition-listed chart (chart-lower 0 chart h) es t .0 k) in
+    rivals-held chart es f r s (proper r hr) (proper s hs) (leZ→ f (startOf r) above) c a b
 
 pub references : ReferencesHold
 references chart h es f o us vs t e = subst (λ i. Reads (asRows (listing chart es f o)) i t) place-is (reads chart (chart-lower 0 chart h) es f o t (subst (List·Memᴰ t) (sym e) (Memᴰ·append-right us (List·Memᴰ·head refl))))

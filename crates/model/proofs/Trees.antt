@@ -1,7 +1,7 @@
 -- Recognitions as parts: what an operator makes of them are the recognitions that the definition has.
 use Prim.Native.Nat.{ℕ}
 use mathlib.Core.Path.{_≡_, refl, ap, ap₂, _∙_}
-use mathlib.Core.Bool.{not}
+use mathlib.Core.Bool.{Bool, not}
 use mathlib.Core.List.{List, [], _∷_, _++_, map, map-append}
 use native.Mathlib.Omega.{arith}
 use lib.Dec.{eqb}
@@ -9,8 +9,8 @@ use lib.IntN.{ℤ}
 use Rattle.interval.specs.Conditions.{hasLength}
 use Rattle.interval.proofs.Signed.{_≤ᶻ_, add-most}
 use Rattle.model.specs.Lists.{keep, each}
-use Rattle.model.specs.Recognitions.{Event, Operator, event, related, or, absence, lasting, after, Arm, only, left, right, delayed, Recognition, ofEvent, ofOne, ofTwo, entryOf, startOf, endBy, endOf, recognitionsOf}
-use Rattle.model.specs.RowSteps.{Node, leaf, part, pair, View, make, of, fits, forbidden, nodeStart, nodeEnd}
+use Rattle.model.specs.Recognitions.{Event, Operator, event, related, or, absence, lasting, after, nearest, Arm, only, left, right, delayed, Recognition, ofEvent, ofOne, ofTwo, entryOf, startOf, endBy, endOf, recognitionsOf}
+use Rattle.model.specs.RowSteps.{Node, leaf, part, pair, View, pairs, make, of, fits, forbidden, near, nodeStart, nodeEnd}
 
 -- a whole ends no earlier than its one part
 pub end-by : (m : Arm) (e : ℤ) → e ≤ᶻ endBy m e
@@ -50,11 +50,15 @@ map-each : {A B C : Type 0} (f : B → C) (g : A → List B) (h : A → List C) 
 map-each f g h e [] = refl
 map-each f g h e (x ∷ xs) = map-append f (g x) (each g xs) ∙ ap₂ _++_ (e x) (map-each f g h e xs)
 
+pairs-trees : (n : ℕ) (p : Recognition → Recognition → Bool) (rs ss : List Recognition) → map (tree n) (pairs p rs ss) ≡ each (λ r. map (ofTwo n r) (keep (p r) ss)) rs
+pairs-trees n p rs ss = map-each (tree n) (λ r. map (pair r) (keep (p r) ss)) (λ r. map (ofTwo n r) (keep (p r) ss)) (λ r. map-map (tree n) (pair r) (keep (p r) ss)) rs
+
 pub make-recognitions : (n : ℕ) (op : Operator) (es : List Event) (ts : List Recognition) → map (tree n) (make trees op es ts) ≡ recognitionsOf n op es ts
 unfolding recognitionsOf
 make-recognitions n (event k) es ts = map-map (tree n) (λ e. leaf (e .serial) (e .instant)) (keep (λ e. eqb (e .code) k) es)
-make-recognitions n (related c a b) es ts = map-each (tree n) (λ r. map (pair r) (keep (fits trees c r) (of trees b ts))) (λ r. map (ofTwo n r) (keep (fits trees c r) (of trees b ts))) (λ r. map-map (tree n) (pair r) (keep (fits trees c r) (of trees b ts))) (of trees a ts)
+make-recognitions n (related c a b) es ts = pairs-trees n (fits trees c) (of trees a ts) (of trees b ts)
 make-recognitions n (or a b) es ts = map-append (tree n) (map (part left) (of trees a ts)) (map (part right) (of trees b ts)) ∙ ap₂ _++_ (map-map (tree n) (part left) (of trees a ts)) (map-map (tree n) (part right) (of trees b ts))
 make-recognitions n (absence c a b) es ts = map-map (tree n) (part only) (keep (λ r. not (forbidden trees c (of trees b ts) r)) (of trees a ts))
+make-recognitions n (nearest c a b) es ts = pairs-trees n (near trees c (of trees a ts) (of trees b ts)) (of trees a ts) (of trees b ts)
 make-recognitions n (after a d) es ts = map-map (tree n) (part (delayed d)) (of trees a ts)
 make-recognitions n (lasting c a d) es ts = map-map (tree n) (part only) (keep (λ r. hasLength c d (startOf r) (endOf r)) (of trees a ts))

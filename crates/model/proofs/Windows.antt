@@ -1,47 +1,26 @@
--- Sets of recognitions closed under parts and under what could forbid them: those that lie inside one, those that end before an instant,
+-- Sets of recognitions closed under parts, under what could forbid them and under their rivals: those that lie inside one, those that end before an instant,
 -- those that start at an instant or later. So later events change no earlier recognition, and events before a floor none from the floor on.
 use Prim.Native.Nat.{ℕ, suc}
 use native.Mathlib.Omega.{arith}
 use mathlib.Core.Path.{_≡_, sym, ap, _∙_, subst}
 use mathlib.Core.Logic.{_⊎_, inl, inr, _↔_}
-use mathlib.Core.List.{List, [], _∷_, _++_, map, map-append, List·Memᴰ, List·Memᴰ·append-cases, Memᴰ·append-left, Memᴰ·cast, Memᴰ·map, Memᴰ·of-map, List·Memᴰ·eq-of-singleton}
-use lib.Dec.{T, eqb, eqb→eq, eqb-refl}
+use mathlib.Core.List.{List, [], _∷_, _++_, List·Memᴰ, List·Memᴰ·append-cases, Memᴰ·append-left, List·Memᴰ·eq-of-singleton}
+use lib.Dec.{T}
 use lib.IntN.{ℤ}
 use lib.Signed.{leZ}
 use Rattle.interval.specs.Conditions.{isForbidding}
 use Rattle.interval.specs.declared.Edges.{Edges}
 use Rattle.interval.proofs.Signed.{_≤ᶻ_, _<ᶻ_, eq-fact, →leZ, least-is, greatest-is, holds→}
-use Rattle.interval.proofs.Laws.{forbidding-inside}
+use Rattle.interval.proofs.Laws as Laws
+use Rattle.interval.proofs.Laws.{forbidding-inside, second-between, first-between}
 use Rattle.model.specs.Lists.{keep}
 use Rattle.model.specs.Recognitions.{Event, Operator, Recognition, ofOne, ofTwo, entryOf, startOf, endOf, recognitions}
-use Rattle.model.specs.RowSteps.{Node, leaf, leaves, nodeStart, nodeEnd}
-use Rattle.model.proofs.Sorted.{keep-mem, mem-keep, keep-append}
+use Rattle.model.specs.RowSteps.{Node, leaves, nodeStart, nodeEnd}
+use Rattle.model.proofs.Sorted.{keep-mem, mem-keep}
 use Rattle.model.proofs.Trees.{end-by, tree, trees, tree-start, tree-end}
-use Rattle.model.proofs.Local.{Chart, Window}
+use Rattle.model.proofs.Local.{Chart, Proper, Window}
+use Rattle.model.proofs.Leaves.{IsLeaf, leaves-append, leaves-mem, mem-leaves}
 use Rattle.model.proofs.Extend.{within}
-
--- the events of a code, as leaves
-module _ {A : Type 0} where
-  abbrev leafOf : Event → Node A
-  leafOf e = leaf (e .serial) (e .instant)
-
-  pub leaves-append : (k : ℕ) (es fs : List Event) → leaves {A = A} k (es ++ fs) ≡ leaves k es ++ leaves k fs
-  leaves-append k es fs = ap (map leafOf) (keep-append (λ e. eqb (e .code) k) es fs) ∙ map-append leafOf (keep (λ e. eqb (e .code) k) es) (keep (λ e. eqb (e .code) k) fs)
-
-  pub record IsLeaf (k : ℕ) (es : List Event) (x : Node A) : Type 0 where
-    pub e : Event
-    pub is : x ≡ leaf (e .serial) (e .instant)
-    pub code : e .code ≡ k
-    pub there : List·Memᴰ e es
-
-  pub leaves-mem : (k : ℕ) (es : List Event) (x : Node A) → List·Memᴰ x (leaves k es) → IsLeaf k es x
-  leaves-mem k es x m =
-      let p = Memᴰ·of-map leafOf (keep (λ e. eqb (e .code) k) es) m in
-      let q = keep-mem (λ e. eqb (e .code) k) es (p .1) in
-      record { e = p .0; is = sym (p .2); code = eqb→eq ((p .0) .code) k (q .1); there = q .0 }
-
-  pub mem-leaves : (k : ℕ) (es : List Event) (x : Node A) → IsLeaf k es x → List·Memᴰ x (leaves k es)
-  mem-leaves k es x h = Memᴰ·cast (h .is) (Memᴰ·map leafOf (mem-keep (λ e. eqb (e .code) k) es (h .there) (subst (λ z. T (eqb ((h .e) .code) z)) (h .code) (eqb-refl ((h .e) .code)))))
 
 -- u lies inside t
 abbrev pub Inside : Recognition → Recognition → Type 0
@@ -50,28 +29,36 @@ Inside t u = (startOf t ≤ᶻ startOf u) × (endOf u ≤ᶻ endOf t)
 forbids-in : (c : Edges) (r s : Recognition) → T (isForbidding c (startOf r) (endOf r) (startOf s) (endOf s)) → Inside r s
 forbids-in c r s h = let p = forbidding-inside c (startOf r) (endOf r) (startOf s) (endOf s) (holds→ _ h) in (p .start, p .end)
 
+rival-in : (n : ℕ) (r s u : Recognition) → Laws.Between (startOf r) (endOf s) (startOf u) (endOf u) → Inside (ofTwo n r s) u
+rival-in n r s u p =
+    let a = p .start in
+    let b = p .end in
+    omega (arith, least-is (startOf r) (startOf s), greatest-is (endOf r) (endOf s))
+
 -- what holds of a recognition and so of all that lies inside it
-pub window : {W : Recognition → Type 0} → ((t u : Recognition) → Inside t u → W t → W u) → Window W
+pub window : {W : Recognition → Type 0} → ((t u : Recognition) → Inside t u → W t → W u) → Window Proper W
 window f = record {
   one = λ n m t. f (ofOne n m t) t (omega (arith, end-by m (endOf t)));
   fst = λ n l r. f (ofTwo n l r) l (omega (arith, least-is (startOf l) (startOf r), greatest-is (endOf l) (endOf r)));
   snd = λ n l r. f (ofTwo n l r) r (omega (arith, least-is (startOf l) (startOf r), greatest-is (endOf l) (endOf r)));
   bar = λ c r s t. f r s (forbids-in c r s t);
+  secondRival = λ n r s u p t. f (ofTwo n r s) u (rival-in n r s u (second-between (startOf r) (endOf r) (endOf s) (startOf u) (endOf u) p (holds→ _ t)));
+  firstRival = λ c n r s u p t. f (ofTwo n r s) u (rival-in n r s u (first-between c (startOf r) (endOf r) (startOf s) (endOf s) (startOf u) (endOf u) p (holds→ _ t)));
 }
 
-pub inside : (t : Recognition) → Window (Inside t)
+pub inside : (t : Recognition) → Window Proper (Inside t)
 inside t = window (λ u v h k. omega arith)
 
 abbrev pub EndsBefore : ℤ → Recognition → Type 0
 EndsBefore o t = endOf t <ᶻ o
 
-pub earlier : (o : ℤ) → Window (EndsBefore o)
+pub earlier : (o : ℤ) → Window Proper (EndsBefore o)
 earlier o = window (λ t u h k. omega arith)
 
 abbrev pub StartsFrom : ℤ → Recognition → Type 0
 StartsFrom f t = f ≤ᶻ startOf t
 
-pub later : (f : ℤ) → Window (StartsFrom f)
+pub later : (f : ℤ) → Window Proper (StartsFrom f)
 later f = window (λ t u h k. omega arith)
 
 -- an event at o or later changes no recognition that ends before o

@@ -10,8 +10,9 @@ use lib.Signed.{ltZ, leZ}
 use Rattle.interval.specs.Instants.{isInstant, eqZ, least, greatest}
 use Rattle.interval.specs.Conditions.{isRelated, hasLength}
 use Rattle.interval.specs.declared.Relation.{Relation}
+use Rattle.interval.specs.declared.Relation.the-variants.{Seq}
 use Rattle.model.specs.Lists.{every, numbers}
-use Rattle.model.specs.Recognitions.{Operator, event, related, or, absence, lasting, after, Arm, only, left, right, delayed, endBy}
+use Rattle.model.specs.Recognitions.{Operator, event, related, or, absence, lasting, after, nearest, Arm, only, left, right, delayed, endBy}
 use Rattle.model.specs.Order.{Row, none}
 use Rattle.model.specs.RowSteps.{rowAt, Watch}
 
@@ -37,7 +38,8 @@ module _ (count : ℕ) (rs : List Row) (i : ℕ) (r : Row) where
   isSerial (pos n) = leb 1 n && leb n count
   isSerial (negsuc n) = false
 
-  -- "with -1 just where the operator table has it"; an absence's condition is not asked
+  -- "with -1 just where the operator table has it"; an absence's condition is not asked, and of cut and change only
+  -- "end r < start s"
   abbrev pub agrees : Operator → Bool
   agrees (event k) = isSerial (r .left) && (isNone (r .right) && eqZ (r .start) (r .end))
   agrees (related c a b) = refers (r .left) a (λ p. refers (r .right) b (spansTwo c p))
@@ -45,6 +47,7 @@ module _ (count : ℕ) (rs : List Row) (i : ℕ) (r : Row) where
   agrees (absence c a b) = refers (r .left) a (spansOne only) && isNone (r .right)
   agrees (lasting c a d) = refers (r .left) a (λ q. spansOne only q && hasLength c d (q .start) (q .end)) && isNone (r .right)
   agrees (after a d) = refers (r .left) a (spansOne (delayed d)) && isNone (r .right)
+  agrees (nearest c a b) = refers (r .left) a (λ p. refers (r .right) b (spansTwo Seq p))
 
   -- "a row whose entry is not in the chart"
   abbrev pub agreesAt : List Operator → ℕ → Bool

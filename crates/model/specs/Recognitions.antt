@@ -5,9 +5,11 @@ use mathlib.Core.List.{List, [], _∷_, _++_, map}
 use lib.Dec.{eqb, ltb}
 use lib.IntN.{ℤ, pos, _+ℤ_}
 use Rattle.interval.specs.Instants.{least, greatest}
-use Rattle.interval.specs.Conditions.{isRelated, isForbidding, hasLength}
+use Rattle.interval.specs.Conditions.{isRelated, isForbidding, isRivalOfSecond, isRivalOfFirst, hasLength}
 use Rattle.interval.specs.declared.Relation.{Relation}
+use Rattle.interval.specs.declared.Relation.the-variants.{Seq}
 use Rattle.interval.specs.declared.Edges.{Edges}
+use Rattle.interval.specs.declared.Nearest.{Nearest}
 use Rattle.interval.specs.declared.LengthTest.{LengthTest}
 use Rattle.model.specs.Lists.{keep, some, each}
 
@@ -19,7 +21,7 @@ pub record Event : Type 0 where
   pub instant : ℤ
 
 -- "Operators of a chart": event k; seq, and, meets, overlaps, starts, during, finishes, equals a b; or a b; -[] -][ -[[ -]] a b;
--- lasts, atmost, atleast a d; after a d (request N1). Here a and b are entry numbers, k is a code and d a length.
+-- lasts, atmost, atleast a d; after a d (request N1); cut, change a b (request N5). Here a and b are entry numbers, k is a code and d a length.
 -- A chart is the list of its entries' operators: "A chart has 1 to 32 entries, numbered from 0".
 pub data Operator : Type 0 where
   event : ℕ → Operator
@@ -28,6 +30,7 @@ pub data Operator : Type 0 where
   absence : Edges → ℕ → ℕ → Operator
   lasting : LengthTest → ℕ → ℕ → Operator
   after : ℕ → ℕ → Operator
+  nearest : Nearest → ℕ → ℕ → Operator
 
 -- "operands a and b are lower entry numbers and may be equal": of entry n, and of a chart's entries from n on
 abbrev pub isLower : ℕ → Operator → Bool
@@ -37,6 +40,7 @@ isLower n (or a b) = ltb a n && ltb b n
 isLower n (absence c a b) = ltb a n && ltb b n
 isLower n (lasting c a d) = ltb a n
 isLower n (after a d) = ltb a n
+isLower n (nearest c a b) = ltb a n && ltb b n
 
 abbrev pub areLower : ℕ → List Operator → Bool
 areLower n [] = true
@@ -89,6 +93,17 @@ forbids c s r = isForbidding c (startOf r) (endOf r) (startOf s) (endOf s)
 abbrev pub isLasting : LengthTest → ℕ → Recognition → Bool
 isLasting c d r = hasLength c d (startOf r) (endOf r)
 
+-- cut, change: s' is a rival of s, and r' one of r
+abbrev pub rivalsSecond : Recognition → Recognition → Recognition → Bool
+rivalsSecond r s s' = isRivalOfSecond (endOf r) (endOf s) (startOf s') (endOf s')
+
+abbrev pub rivalsFirst : Nearest → Recognition → Recognition → Recognition → Bool
+rivalsFirst c r s r' = isRivalOfFirst c (startOf r) (endOf r) (startOf s) (startOf r') (endOf r')
+
+-- "r and s with end r < start s, where no other ..."; rs and ss are the recognitions of a and of b
+abbrev pub areNearest : Nearest → List Recognition → List Recognition → Recognition → Recognition → Bool
+areNearest c rs ss r s = areRelated Seq r s && (not (some (rivalsSecond r s) ss) && not (some (rivalsFirst c r s) rs))
+
 -- those of a list that are recognitions of entry a
 abbrev pub ofEntry : ℕ → List Recognition → List Recognition
 ofEntry a ts = keep (λ t. eqb (entryOf t) a) ts
@@ -108,6 +123,8 @@ recognitionsOf n (absence c a b) es ts = map (ofOne n only) (keep (λ r. not (so
 recognitionsOf n (lasting c a d) es ts = map (ofOne n only) (keep (λ r. isLasting c d r) (ofEntry a ts))
 -- after a d: "for each row r of a"
 recognitionsOf n (after a d) es ts = map (ofOne n (delayed d)) (ofEntry a ts)
+-- cut, change a b: each r with each s that is nearest to it
+recognitionsOf n (nearest c a b) es ts = each (λ r. map (ofTwo n r) (keep (λ s. areNearest c (ofEntry a ts) (ofEntry b ts) r s) (ofEntry b ts))) (ofEntry a ts)
 
 -- to the recognitions of the entries below n, those of the entries from n on
 unfoldable pub withEntries : ℕ → List Operator → List Event → List Recognition → List Recognition

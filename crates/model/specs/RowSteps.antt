@@ -2,18 +2,20 @@
 -- model; the theorems say that these steps give the reference model's rows and numbers. The contracts of the watch cite them, for tables that no
 -- history left; `nodeStart`, `nodeEnd` and `moved` alone serve the proofs.
 use Prim.Native.Nat.{ℕ, zero, suc, _-_}
-use mathlib.Core.Bool.{Bool, true, false, cond, not}
+use mathlib.Core.Bool.{Bool, true, false, cond, not, _&&_}
 use mathlib.Core.List.{List, [], _∷_, _++_, map}
 use lib.Dec.{eqb, ltb, leb}
 use lib.IntN.{ℤ, pos, negsuc, natAbs, _+ℤ_, _-ℤ_}
 use lib.ListN.{length, getD, take}
 use lib.Signed.{ltZ, leZ}
 use Rattle.interval.specs.Instants.{isInstant, firstFloor, isMarkRefused, isForgetRefused, eqZ, least, greatest}
-use Rattle.interval.specs.Conditions.{isRelated, isForbidding, hasLength}
+use Rattle.interval.specs.Conditions.{isRelated, isForbidding, hasLength, isRivalOfSecond, isRivalOfFirst}
 use Rattle.interval.specs.declared.Relation.{Relation}
+use Rattle.interval.specs.declared.Relation.the-variants.{Seq}
 use Rattle.interval.specs.declared.Edges.{Edges}
+use Rattle.interval.specs.declared.Nearest.{Nearest}
 use Rattle.model.specs.Lists.{keep, some, each, numbers, sortStably}
-use Rattle.model.specs.Recognitions.{Event, Operator, event, related, or, absence, lasting, after, Arm, only, left, right, delayed, endBy}
+use Rattle.model.specs.Recognitions.{Event, Operator, event, related, or, absence, lasting, after, nearest, Arm, only, left, right, delayed, endBy}
 use Rattle.model.specs.Order.{Row, row, none, leftOf, rightOf}
 use Rattle.model.specs.Reference.{Model, Answer, accepted, refused, Call, isAt, rowsOf}
 
@@ -32,6 +34,10 @@ pub record View (A : Type 0) : Type 0 where
 abbrev pub leaves : {A : Type 0} → ℕ → List Event → List (Node A)
 leaves k es = map (λ e. leaf (e .serial) (e .instant)) (keep (λ e. eqb (e .code) k) es)
 
+-- each r with each s that passes the test
+abbrev pub pairs : {A : Type 0} → (A → A → Bool) → List A → List A → List (Node A)
+pairs p rs ss = each (λ r. map (pair r) (keep (p r) ss)) rs
+
 module _ {A : Type 0} (v : View A) where
   abbrev pub of : ℕ → List A → List A
   of a xs = keep (λ x. eqb (v .entry x) a) xs
@@ -42,14 +48,24 @@ module _ {A : Type 0} (v : View A) where
   abbrev pub forbidden : Edges → List A → A → Bool
   forbidden c ss r = some (λ s. isForbidding c (v .start r) (v .end r) (v .start s) (v .end s)) ss
 
+  abbrev pub rivalOfSecond : A → A → A → Bool
+  rivalOfSecond r s s' = isRivalOfSecond (v .end r) (v .end s) (v .start s') (v .end s')
+
+  abbrev pub rivalOfFirst : Nearest → A → A → A → Bool
+  rivalOfFirst c r s r' = isRivalOfFirst c (v .start r) (v .end r) (v .start s) (v .start r') (v .end r')
+
+  abbrev pub near : Nearest → List A → List A → A → A → Bool
+  near c rs ss r s = fits Seq r s && (not (some (rivalOfSecond r s) ss) && not (some (rivalOfFirst c r s) rs))
+
   -- what an operator makes of the events and the parts there are, in the order of rows, end, entry and start aside
   abbrev pub make : Operator → List Event → List A → List (Node A)
   make (event k) es xs = leaves k es
-  make (related c a b) es xs = each (λ r. map (pair r) (keep (fits c r) (of b xs))) (of a xs)
+  make (related c a b) es xs = pairs (fits c) (of a xs) (of b xs)
   make (or a b) es xs = map (part left) (of a xs) ++ map (part right) (of b xs)
   make (absence c a b) es xs = map (part only) (keep (λ r. not (forbidden c (of b xs) r)) (of a xs))
   make (lasting c a d) es xs = map (part only) (keep (λ r. hasLength c d (v .start r) (v .end r)) (of a xs))
   make (after a d) es xs = map (part (delayed d)) (of a xs)
+  make (nearest c a b) es xs = pairs (near c (of a xs) (of b xs)) (of a xs) (of b xs)
 
   abbrev pub nodeStart : Node A → ℤ
   nodeStart (leaf s i) = i
@@ -123,6 +139,7 @@ delayedEnds rs (related c a b) = []
 delayedEnds rs (or a b) = []
 delayedEnds rs (absence c a b) = []
 delayedEnds rs (lasting c a d) = []
+delayedEnds rs (nearest c a b) = []
 delayedEnds rs (after a d) = map (λ r. r .end +ℤ pos d) (keep (λ r. eqb (r .entry) a) rs)
 
 unfoldable pub dueEnds : List Event → List Operator → List Row → List ℤ
@@ -160,6 +177,7 @@ isEvent (or a b) = false
 isEvent (absence c a b) = false
 isEvent (lasting c a d) = false
 isEvent (after a d) = false
+isEvent (nearest c a b) = false
 
 abbrev pub isEventAt : List Operator → ℕ → Bool
 isEventAt [] n = false

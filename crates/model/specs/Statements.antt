@@ -8,8 +8,10 @@ use lib.Dec.{T}
 use lib.IntN.{ℤ, pos}
 use lib.ListN.{length}
 use lib.Signed.{ltZ, leZ}
+use Rattle.interval.specs.declared.Relation.the-variants.{Seq}
+use Rattle.interval.specs.declared.Nearest.{Nearest}
 use Rattle.model.specs.Lists.{keep, numbers}
-use Rattle.model.specs.Recognitions.{Event, Operator, event, related, or, absence, lasting, after, areLower, only, left, right, delayed, Recognition, ofEvent, ofOne, ofTwo, entryOf, startOf, endOf, areRelated, forbids, isLasting}
+use Rattle.model.specs.Recognitions.{Event, Operator, event, related, or, absence, lasting, after, nearest, areLower, only, left, right, delayed, Recognition, ofEvent, ofOne, ofTwo, entryOf, startOf, endOf, areRelated, forbids, rivalsSecond, rivalsFirst, isLasting, areNearest, ofEntry, recognitions}
 use Rattle.model.specs.Order.{before, listing, Row, row, none, leftOf, rightOf, asRows}
 use Rattle.model.specs.Reference.{Model, Call, opening, step, run, numbersOf}
 use Rattle.model.specs.RowSteps.{rowAt, closeRows, closeInstants, instantsTo, dueEnds, nextDue, closeDue, watchOpening, watchStep, shown}
@@ -44,6 +46,9 @@ Asks (or a b) es R t = ((r : Recognition) × Of R a r × (t ≡ ofOne (entryOf t
 Asks (absence c a b) es R t = (r : Recognition) × Of R a r × ((s : Recognition) → Of R b s → T (forbids c s r) → ⊥) × (t ≡ ofOne (entryOf t) only r)
 Asks (lasting c a d) es R t = (r : Recognition) × Of R a r × T (isLasting c d r) × (t ≡ ofOne (entryOf t) only r)
 Asks (after a d) es R t = (r : Recognition) × Of R a r × (t ≡ ofOne (entryOf t) (delayed d) r)
+Asks (nearest c a b) es R t =
+    (r : Recognition) × (s : Recognition) × Of R a r × Of R b s × T (areRelated Seq r s) × ((s' : Recognition) → Of R b s' → T (rivalsSecond r s s') → ⊥)
+    × ((r' : Recognition) → Of R a r' → T (rivalsFirst c r s r') → ⊥) × (t ≡ ofTwo (entryOf t) r s)
 
 -- what the line of its own entry asks of t
 abbrev pub Line : List Operator → List Event → (Recognition → Type 0) → Recognition → Type 0
@@ -92,6 +97,14 @@ FloorHolds = (chart : List Operator) → T (areLower 0 chart) → (es : List Eve
 -- An event added at the open instant, or later, changes no recognition that ends before it.
 abbrev pub LaterEventHolds : Type 0
 LaterEventHolds = (chart : List Operator) → T (areLower 0 chart) → (es : List Event) (e : Event) (openInstant : ℤ) → T (leZ openInstant (e .instant)) → (t : Recognition) → T (ltZ (endOf t) openInstant) → IsRecognition chart (es ++ e ∷ []) t ↔ IsRecognition chart es t
+
+-- Rivals from before the floor, or that come later, decide nothing (request N5): of a pair that starts at the floor or later the recognitions that do so too, and
+-- have ended before s ends, decide as all recognitions do. They are what the table holds while the instant is open at which s ends.
+abbrev pub RivalsHold : Type 0
+RivalsHold = (chart : List Operator) → T (areLower 0 chart) → (es : List Event) (floor : ℤ) (c : Nearest) (a b : ℕ) (r s : Recognition) → IsRecognition chart es r → IsRecognition chart es s → T (leZ floor (startOf r)) →
+    let held : List Recognition = listing chart es floor (endOf s) in
+    let all : List Recognition = recognitions chart es in
+    areNearest c (ofEntry a held) (ofEntry b held) r s ≡ areNearest c (ofEntry a all) (ofEntry b all) r s
 
 -- row i, its references followed down, gives the recognition's own tree; "a reference is the operand's place in that order, always an earlier one"
 unfoldable pub Reads : List Row → ℕ → Recognition → Type 0

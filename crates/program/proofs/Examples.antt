@@ -1,13 +1,13 @@
--- What the listing program prints, from text to text: P1 to P8, the four absences, the tightest match first, the ends of the range of instants, and refusals.
--- One list of cases, one theorem that the checker computes by the definition alone. What must be printed stands in document 01 or request N2 or was
--- found by hand from them and request N7. P1 to P8 stand here only; behind the list is the tree of P1's row 7.
+-- What the listing program prints, from text to text: P1 to P8, the four absences, the tightest match first, delays, first after and last before, the ends of the
+-- range of instants, and refusals. One list of cases, one theorem that the checker computes by the definition alone. What must be printed stands in document
+-- 01 or request N2 or was found by hand from them and requests N7, N1 and N5. P1 to P8 stand here only; behind the list is the tree of P1's row 7.
 use Prim.Native.Nat.{ℕ}
 use Prim.Native.String.{String}
 use mathlib.Core.Path.{_≡_, refl}
 use mathlib.Core.List.{List, [], _∷_, _++_, map}
 use lib.ListN.{replicate}
 use Rattle.interval.specs.Instants.{isInstant, isLength, firstFloor, isMarkRefused, isForgetRefused}
-use Rattle.interval.specs.Conditions.{isRelated, isForbidding, hasLength}
+use Rattle.interval.specs.Conditions.{isRelated, isForbidding, hasLength, isRivalOfSecond, isRivalOfFirst}
 use Rattle.text.specs.Text.{split, lines}
 use Rattle.text.specs.Quoted.{bytes, tabbed, unended, text}
 use Rattle.decimal.specs.Spelling.{isDigit, allDigits, valueFrom, hasLeadingZero, isNumber, numberOf, withoutMinus, withMinus, instantOf, digitsWithin, spelledNumber, spelled}
@@ -153,6 +153,27 @@ delays =
     again : List String
     again = "0 event 1" ∷ "1 after 0 2" ∷ "2 after 1 3" ∷ []
 
+-- "r and s with end r < start s, where no other row s' of b starts after end r and ends before end s"; "change also requires that no r' of a has
+-- start r' >= start r and end r < end r' < start s" (request N5)
+abbrev nearests : List Case
+nearests =
+    -- "the first exposure after a settling", for each settling, and the last settling before an exposure: 1 is a settling, 2 an exposure
+    lists 3000 nearest ("open 0" ∷ "event 1" ∷ "clock 400" ∷ "event 1" ∷ "clock 900" ∷ "event 2" ∷ "clock 1300" ∷ "event 2" ∷ "clock 1301" ∷ [])
+    ("0 0 1 -1 0 0" ∷ "1 0 2 -1 400 400" ∷ "2 1 3 -1 900 900" ∷ "3 2 1 2 400 900" ∷ "4 2 0 2 0 900" ∷ "5 3 1 2 400 900" ∷ "6 1 4 -1 1300 1300" ∷ []) ∷
+    -- "Document 003 ranks the first by start, which lets a late arrival withdraw a row already shown": row 4 stands at 3, and stays
+    lists 3000 ("0 event 1" ∷ "1 event 2" ∷ "2 event 3" ∷ "3 event 4" ∷ "4 seq 1 3" ∷ "5 or 4 2" ∷ "6 cut 0 5" ∷ [])
+    ("open 1" ∷ "event 1" ∷ "clock 2" ∷ "event 2" ∷ "clock 3" ∷ "event 3" ∷ "clock 4" ∷ "event 4" ∷ "clock 5" ∷ [])
+    ("0 0 1 -1 1 1" ∷ "1 1 2 -1 2 2" ∷ "2 2 3 -1 3 3" ∷ "3 5 -1 2 3 3" ∷ "4 6 0 3 1 3" ∷ "5 3 4 -1 4 4" ∷ "6 4 1 5 2 4" ∷ "7 5 6 -1 2 4" ∷ []) ∷
+    -- "ties all count"; a floor between two settlings
+    lists 3000 nearest ("open 0" ∷ "event 1" ∷ "clock 5" ∷ "event 1" ∷ "clock 9" ∷ "event 2" ∷ "event 2" ∷ "forget 5" ∷ "clock 10" ∷ [])
+    ("0 0 2 -1 5 5" ∷ "1 1 3 -1 9 9" ∷ "2 1 4 -1 9 9" ∷ "3 2 0 1 5 9" ∷ "4 2 0 2 5 9" ∷ "5 3 0 1 5 9" ∷ "6 3 0 2 5 9" ∷ []) ∷
+    -- one entry as both operands: from each event to the next
+    lists 3000 ("0 event 1" ∷ "1 cut 0 0" ∷ "2 change 0 0" ∷ []) ("open 0" ∷ "event 1" ∷ "clock 1" ∷ "event 1" ∷ "clock 2" ∷ "event 1" ∷ "clock 3" ∷ [])
+    ("0 0 1 -1 0 0" ∷ "1 0 2 -1 1 1" ∷ "2 1 0 1 0 1" ∷ "3 2 0 1 0 1" ∷ "4 0 3 -1 2 2" ∷ "5 1 1 4 1 2" ∷ "6 2 1 4 1 2" ∷ []) ∷ []
+  where
+    nearest : List String
+    nearest = "0 event 1" ∷ "1 event 2" ∷ "2 cut 0 1" ∷ "3 change 0 1" ∷ []
+
 -- the first and the last instant; a log that has only its opening; a table of no rows
 abbrev ends : List Case
 ends =
@@ -209,10 +230,10 @@ refusals =
     log calls line = prints 3000 ("0 event 1" ∷ []) calls (line ∷ [])
 
 pub cases : List Case
-cases = P1-P8 ++ absences ++ tightest ++ delays ++ ends ++ refusals
+cases = P1-P8 ++ absences ++ tightest ++ delays ++ nearests ++ ends ++ refusals
 
 pub examples : map (λ (c : Case). printedFor (c .room) (c .input)) cases ≡ map (λ (c : Case). c .printed) cases
-unfolding cases bytes tabbed unended text split lines isInstant isLength firstFloor isMarkRefused isForgetRefused isRelated isForbidding hasLength isDigit allDigits valueFrom hasLeadingZero isNumber numberOf withoutMinus withMinus instantOf digitsWithin spelledNumber spelled words sameBytes placeOf operatorOf edgesOf relationOf lengthTestOf kindOf inRange areLower withCode eventLine withOperands secondOperand operandsLine byOperator operatorLine numbered parsedLine checkedEntry checkedLine answerTo noEntries withEntry refusedChart readLines orNoLine recognitionsOf withEntries recognitions compare listing opening eventStep clockStep forgetStep operatorBy operatorsOf callWords eventCall instantCall wordCall fieldsCall callOf numbersText rowTexts callIn openingAnswer callAnswer playCalls playLog chartLines logLines playLines outcomeText printedFor
+unfolding cases bytes tabbed unended text split lines isInstant isLength firstFloor isMarkRefused isForgetRefused isRelated isForbidding hasLength isRivalOfSecond isRivalOfFirst isDigit allDigits valueFrom hasLeadingZero isNumber numberOf withoutMinus withMinus instantOf digitsWithin spelledNumber spelled words sameBytes placeOf operatorOf edgesOf relationOf lengthTestOf kindOf inRange areLower withCode eventLine withOperands secondOperand operandsLine byOperator operatorLine numbered parsedLine checkedEntry checkedLine answerTo noEntries withEntry refusedChart readLines orNoLine recognitionsOf withEntries recognitions compare listing opening eventStep clockStep forgetStep operatorBy operatorsOf callWords eventCall instantCall wordCall fieldsCall callOf numbersText rowTexts callIn openingAnswer callAnswer playCalls playLog chartLines logLines playLines outcomeText printedFor
 examples = refl
 
 -- the tree of row i of those that an input comes to, its references followed down

@@ -15,7 +15,8 @@ use Rattle.chart.proofs.Usable.{usable-few}
 use Rattle.interval.specs.declared.Relation.{Relation}
 use Rattle.interval.specs.declared.Edges.{Edges}
 use Rattle.interval.specs.declared.LengthTest.{LengthTest}
-use Rattle.model.specs.Recognitions.{Operator, event, related, or, absence, lasting, after}
+use Rattle.interval.specs.declared.Nearest.{Nearest}
+use Rattle.model.specs.Recognitions.{Operator, event, related, or, absence, lasting, after, nearest}
 use Rattle.model.specs.RowSteps.{isEvent, isEventAt}
 use Rattle.table.specs.Operators.{entryOperator, operatorsOf, arityOf, aritiesOf}
 use Rattle.table.proofs.Operators.{operatorsFrom, operators-all, length-operators}
@@ -45,6 +46,7 @@ event-none (or a b) = refl
 event-none (absence c a b) = refl
 event-none (lasting c a d) = refl
 event-none (after a d) = refl
+event-none (nearest c a b) = refl
 
 -- and how many each of the others has, for those who write a tree
 pub arity-related : (c : Relation) (a b : ℕ) → arityOf (related c a b) ≡ 2
@@ -66,6 +68,10 @@ arity-lasting c a d = refl
 pub arity-after : (a d : ℕ) → arityOf (after a d) ≡ 1
 unfolding arityOf
 arity-after a d = refl
+
+pub arity-nearest : (c : Nearest) (a b : ℕ) → arityOf (nearest c a b) ≡ 2
+unfolding arityOf
+arity-nearest c a b = refl
 
 event-at : (ops : List Operator) (n : ℕ) → n < length ops → isEventAt ops n ≡ eqb (getD (map arityOf ops) n 0) 0
 event-at [] n h = absurd (omega arith)

@@ -12,7 +12,7 @@ use Rattle.chart.specs.Operators.{kindOf}
 use Rattle.chart.specs.Charts.{entryAt, isUsable}
 use Rattle.chart.specs.declared.Chart.{Chart}
 use Rattle.chart.specs.declared.operator.Kind.{Kind}
-use Rattle.chart.specs.declared.operator.Kind.the-variants.{Event, Or, Pair, Absence, Length, After, Unknown}
+use Rattle.chart.specs.declared.operator.Kind.the-variants.{Event, Or, Pair, Absence, Length, After, Nearest, Unknown}
 use Rattle.chart.proofs.Usable.{Lower, usable-fits, fits-lower}
 use Rattle.model.specs.Lists.{numbers}
 use Rattle.model.specs.Recognitions as model
@@ -26,6 +26,7 @@ lower-kind (Pair c) n a b o e h = rw (e, lt-ltb a n (h .0), lt-ltb b n (h .1))
 lower-kind (Absence c) n a b o e h = rw (e, lt-ltb a n (h .0), lt-ltb b n (h .1))
 lower-kind (Length t) n a b o e h = rw (e, lt-ltb a n h)
 lower-kind After n a b o e h = rw (e, lt-ltb a n h)
+lower-kind (Nearest c) n a b o e h = rw (e, lt-ltb a n (h .0), lt-ltb b n (h .1))
 lower-kind Unknown n a b o e h = absurd h
 
 pub lower-entry : (c : Chart) → isUsable c ≡ true → (i : ℕ) → i < c .count → model.isLower i (entryOperator (entryAt c i)) ≡ true

@@ -10,11 +10,11 @@ use Rattle.chart.specs.Charts.{entryAt}
 use Rattle.chart.specs.declared.Chart.{Chart}
 use Rattle.chart.specs.declared.Entry.{Entry}
 use Rattle.chart.specs.declared.operator.Kind.{Kind}
-use Rattle.chart.specs.declared.operator.Kind.the-variants.{Event, Or, Pair, Absence, Length, After, Unknown}
+use Rattle.chart.specs.declared.operator.Kind.the-variants.{Event, Or, Pair, Absence, Length, After, Nearest, Unknown}
 use Rattle.chart.specs.declared.operator.Shape.{Shape}
 use Rattle.chart.specs.declared.operator.Shape.the-variants.{Leaf, Single, Arms, Double, Delayed}
 use Rattle.model.specs.Lists.{numbers}
-use Rattle.model.specs.Recognitions.{Operator, event, related, or, absence, lasting, after}
+use Rattle.model.specs.Recognitions.{Operator, event, related, or, absence, lasting, after, nearest}
 use Rattle.table.specs.Operators.{operatorBy, entryOperator, operatorsOf, arityOf}
 
 -- o is the operator of this kind with the operands a and b
@@ -25,6 +25,7 @@ IsOperator (Pair c) a b o = o ≡ related c a b
 IsOperator (Absence e) a b o = o ≡ absence e a b
 IsOperator (Length t) a b o = o ≡ lasting t a b
 IsOperator After a b o = o ≡ after a b
+IsOperator (Nearest c) a b o = o ≡ nearest c a b
 IsOperator Unknown a b o = o ≡ after a b
 
 pub operator-is : (k : Kind) (a b : ℕ) → IsOperator k a b (operatorBy k a b)
@@ -35,6 +36,7 @@ operator-is (Pair c) a b = refl
 operator-is (Absence e) a b = refl
 operator-is (Length t) a b = refl
 operator-is After a b = refl
+operator-is (Nearest c) a b = refl
 operator-is Unknown a b = refl
 
 -- the same of an entry whose kind is known
@@ -57,6 +59,7 @@ shape-arity (Pair c) a b = refl
 shape-arity (Absence e) a b = refl
 shape-arity (Length t) a b = refl
 shape-arity After a b = refl
+shape-arity (Nearest c) a b = refl
 shape-arity Unknown a b = refl
 
 -- k operators, from that of entry i on

@@ -7,14 +7,14 @@ use mathlib.Core.List.{List, [], _∷_, map}
 use lib.IntN.{ℤ, pos, natAbs}
 use lib.ListN.{length, getD}
 use Rattle.model.specs.Order.{Row, row, none, leftOf, rightOf}
-use Rattle.model.specs.Recognitions.{Event, Operator, event, related, or, absence, lasting, after, Arm, only, left, right, delayed, Recognition, ofEvent, ofOne, ofTwo, entryOf}
+use Rattle.model.specs.Recognitions.{Event, Operator, event, related, or, absence, lasting, after, nearest, Arm, only, left, right, delayed, Recognition, ofEvent, ofOne, ofTwo, entryOf}
 use Rattle.model.specs.RowSteps.{rowAt}
 use Rattle.model.specs.Statements.{OperatorAt, Asks, IsWithin, Reads}
 use Rattle.model.proofs.RowStepLaws.{reads-event, reads-one, reads-two}
 use Rattle.table.specs.Table.{cell, tableRow, rowsIn}
 use Rattle.table.specs.Operators.{arityOf}
 use Rattle.table.proofs.Rows.{row-at}
-use Rattle.table.proofs.Arities.{arity-event, arity-related, arity-or, arity-absence, arity-lasting, arity-after}
+use Rattle.table.proofs.Arities.{arity-event, arity-related, arity-or, arity-absence, arity-lasting, arity-after, arity-nearest}
 use Rattle.tree.specs.Tree.{recognitionBytes, rowBytes, referenceBytes, treeWithin, treeBytes, TreeHolds}
 
 arity-told : (ops : List Operator) (n : ℕ) (op : Operator) → OperatorAt ops n op → getD (map arityOf ops) n 0 ≡ arityOf op
@@ -74,6 +74,7 @@ module _ (arities : List ℕ) (rows : ℕ) (t : List ℤ) (f i : ℕ) (low : i <
   by-operator es (absence c a b) u q h = subst Written (sym (h .3)) (of-one (entryOf u) only (h .0) (q ∙ arity-absence c a b) (h .1 .0))
   by-operator es (lasting c a d) u q h = subst Written (sym (h .3)) (of-one (entryOf u) only (h .0) (q ∙ arity-lasting c a d) (h .1 .0))
   by-operator es (after a d) u q h = subst Written (sym (h .2)) (of-one (entryOf u) (delayed d) (h .0) (q ∙ arity-after a d) (h .1 .0))
+  by-operator es (nearest c a b) u q h = subst Written (sym (h .7)) (of-two (entryOf u) (h .0) (h .1) (q ∙ arity-nearest c a b) (h .2 .0) (h .3 .0))
 
 bytes-within : (ops : List Operator) (es : List Event) (rows : ℕ) (t : List ℤ) (m f i : ℕ) (u : Recognition) → i < rows → i < f → IsWithin m ops es u → Reads (rowsIn rows t) i u → treeWithin (map arityOf ops) t f i ≡ recognitionBytes u
 bytes-within ops es rows t zero f i u h k w r = absurd w

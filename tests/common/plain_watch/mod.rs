@@ -9,7 +9,7 @@ pub mod storage;
 use crate::chart_value;
 use crate::interface::{Answer, Calls, Chart, ChartAnswer, Entry, Rows, TreeAnswer, Watch, MOST_ENTRIES, MOST_PENDING};
 use crate::plain_chart;
-use closing::{Closing, AFTER, AT_LEAST, CLOSED_CLOSED, EQUALS, EVENT, LASTS, NONE, OPEN_CLOSED, OR, SEQ};
+use closing::{Closing, AFTER, AT_LEAST, CHANGE, CLOSED_CLOSED, CUT, EQUALS, EVENT, LASTS, NONE, OPEN_CLOSED, OR, SEQ};
 use std::ops::RangeInclusive;
 use storage::{Row, Span, Storage, END, ENTRY, START, UNUSED};
 
@@ -156,7 +156,7 @@ pub trait PlainWatch: Closing {
             let is_lower = |operand: u32| (operand as usize) < index;
             match entry.op {
                 EVENT => entry.a <= GREATEST_CODE && entry.b == 0,
-                SEQ..=EQUALS => is_lower(entry.a) && is_lower(entry.b),
+                SEQ..=EQUALS | CUT | CHANGE => is_lower(entry.a) && is_lower(entry.b),
                 LASTS..=AFTER => is_lower(entry.a) && entry.b <= GREATEST_LENGTH,
                 _ => false,
             }

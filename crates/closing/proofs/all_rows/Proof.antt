@@ -22,7 +22,7 @@ use Rattle.table.specs.Operators.{operatorsOf, entryOperator}
 use Rattle.chart.specs.Charts.{entryAt}
 use Rattle.ordering.proofs.Appended.{alike-behind}
 use Rattle.closing.specs.Added.{FilledBy, eventsAt, addedRows}
-use Rattle.closing.proofs.Derived.{Grown, all-ordered}
+use Rattle.closing.proofs.Grown.{Grown, all-ordered}
 use Rattle.closing.proofs.Growth.{grown-none, grown-settled}
 use Rattle.closing.proofs.Entries.{Closing, closing-none, same-size, least, closing-ended, leftRows, left-first, left-last, Entered, entered}
 use Rattle.closing.proofs.Waits.{entryEnds, ends-all, ends-more}

@@ -43,26 +43,26 @@ module _ (c : tie.After-kind-of) where
 fits : (c : tie.Start) (a : ℕ) → a < natAbs (c .args .f .entry) → SFits w32 (pos a)
 fits c a h = small a _ h (c .pre .0 .low)
 
+both-fit : (c : tie.Start) {a b : ℕ} → (a < natAbs (c .args .f .entry)) × (b < natAbs (c .args .f .entry)) → SFits w32 (pos a) × SFits w32 (pos b)
+both-fit c l = (fits c _ (l .0), fits c _ (l .1))
+
 or-fits : (c : tie.After-enum-told2) → let e = c .before .before .before .args .e in SFits w32 (pos (e .a)) × SFits w32 (pos (e .b))
-or-fits c =
-    let v = c .before .before .before in
-    let l = lower (c .before .before) _ (c .enum-told2 .given .1) in (fits v _ (l .0), fits v _ (l .1))
+or-fits c = both-fit (c .before .before .before) (lower (c .before .before) _ (c .enum-told2 .given .1))
 
 pair-fits : (c : tie.After-kind) → let e = c .before .before .before .args .e in SFits w32 (pos (e .a)) × SFits w32 (pos (e .b))
-pair-fits c =
-    let v = c .before .before .before in
-    let l = lower (c .before .before) _ (c .kind .given .1) in (fits v _ (l .0), fits v _ (l .1))
+pair-fits c = both-fit (c .before .before .before) (lower (c .before .before) _ (c .kind .given .1))
 
 absence-fits : (c : tie.After-kind2) → let e = c .before .before .before .args .e in SFits w32 (pos (e .a)) × SFits w32 (pos (e .b))
-absence-fits c =
-    let v = c .before .before .before in
-    let l = lower (c .before .before) _ (c .kind2 .given .1) in (fits v _ (l .0), fits v _ (l .1))
+absence-fits c = both-fit (c .before .before .before) (lower (c .before .before) _ (c .kind2 .given .1))
 
 length-fits : (c : tie.After-kind3) → SFits w32 (pos (c .before .before .before .args .e .a))
 length-fits c = fits (c .before .before .before) _ (lower (c .before .before) _ (c .kind3 .given .1))
 
 after-fits : (c : tie.After-enum-told3) → SFits w32 (pos (c .before .before .before .args .e .a))
 after-fits c = fits (c .before .before .before) _ (lower (c .before .before) _ (c .enum-told3 .given .1))
+
+nearest-fits : (c : tie.After-kind4) → let e = c .before .before .before .args .e in SFits w32 (pos (e .a)) × SFits w32 (pos (e .b))
+nearest-fits c = both-fit (c .before .before .before) (lower (c .before .before) _ (c .kind4 .given .1))
 
 instant : (c : tie.After-struct-told) → SFits w32 (c .before .before .before .before .before .args .f .instant)
 instant c = record { sfits = c .struct-told .given .1 .1 .1 .1 .0 .1 }
@@ -127,6 +127,14 @@ delay-added c =
       simp (same32 _ (instant (m .before)), same32 _ (s .fits .limit), same32 _ (after-fits y)) at (m .next-end .ensures),
     )
 
+nearest-added : tie.Need-returns-7
+unfolding addedRows
+nearest-added c =
+    let y = c .before .before .before .before in
+    let f = nearest-fits y in
+    let k = y .before .before in
+    simp (operator k _ (y .kind4 .given .1), same32 _ (limit k)) (simp (same32, f .0, f .1) at (c .before .nearest-rows .ensures), none k)
+
 pub entry-rows-spec : {M : Type 1} → statement M
 entry-rows-spec =
     tie.close
@@ -139,6 +147,7 @@ entry-rows-spec =
     (λ c. search needs) (λ c. length-fits (c .before .before)) (λ c κs. search needs)
     (λ c. search needs) (λ c. after-fits (c .before)) next-end-requires
     (λ c. after-fits (c .before .before .before .before)) (λ c κs. search needs)
+    (λ c. search needs) (λ c. nearest-fits (c .before .before) .0) (λ c. nearest-fits (c .before .before) .1) (λ c κs. search needs)
     (λ c. search needs)
     (λ c. search needs) event-added
     (λ c. search needs) or-added
@@ -146,4 +155,5 @@ entry-rows-spec =
     (λ c. search needs) absence-added
     (λ c. search needs) length-added
     (λ c. search needs) delay-added
+    (λ c. search needs) nearest-added
     (λ c. absurd (lower (c .before .before) _ (c .enum-told4 .given .1))))

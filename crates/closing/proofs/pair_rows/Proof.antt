@@ -1,22 +1,18 @@
 -- `pair_rows` meets its contract: what the rows r left append is what all were to append.
-use Prim.Native.Nat.{ℕ, _+_, _*_, _-_, _≤_, _<_}
+use Prim.Native.Nat.{_+_, _*_, _-_, _≤_}
 use native.Mathlib.Omega.{arith}
-use mathlib.Core.Path.{_≡_, refl, _∙_}
-use mathlib.Core.Bool.{true}
-use mathlib.Core.List.{List, []}
-use lib.IntN.{ℤ, natAbs}
+use mathlib.Core.Path.{_≡_, _∙_}
+use lib.IntN.{natAbs}
 use lib.ListN.{length}
 use mir.Syntax.{w32}
 use mir.Val.{toZ, ofZ}
-use Rattle.interval.specs.Instants.{eqZ}
 use Rattle.interval.specs.Conditions.{endingOf}
-use Rattle.interval.specs.declared.Relation.{Relation}
 use Rattle.interval.proofs.Machine.{same32}
 use Rattle.model.specs.Lists.{each}
-use Rattle.table.specs.Table.{cell}
 use Rattle.closing.specs.Added.{span, pairsOf, pairsWith, pairRows}
-use Rattle.closing.proofs.Filling.{Filling, begin, turn, stop, past, over, appendable}
-use Rattle.closing.proofs.Searches.{Found, found, next-least}
+use Rattle.closing.proofs.Filling.{Filling, begin, turn, stop, over, appendable}
+use Rattle.closing.proofs.Searches.{next-least}
+use Rattle.closing.proofs.Visits.{Visiting, visit}
 use Rattle.closing.proofs.Laws.{pairs-same, pairs-with, pairs-none, left-le}
 use Rattle.closing.proofs.pair_rows.Statement.{statement}
 use Rattle.closing.proofs.pair_rows.Tie as tie
@@ -24,8 +20,7 @@ use Rattle.closing.proofs.pair_rows.Tie as tie
 abbrev Inv-loop : tie.InvT-loop
 Inv-loop t₀ n f c a b end room count₀ first r₀ t count r =
     let rows = pairsWith c (natAbs (f .entry)) (toZ w32 a) (toZ w32 b) (f .first) (f .end) t₀ in
-    (r < f .end → eqZ (cell t₀ r 0) (toZ w32 a) ≡ true) ×
-    Filling (f .room) n (each rows (span first (f .end))) t₀ count (each rows (span r (f .end))) t
+    Visiting (toZ w32 a) (f .room) n (each rows (span first (f .end))) t₀ rows (f .end) count t r
 
 abbrev μ-loop : tie.MeasureT-loop
 μ-loop t₀ n f c a b end room count₀ first r₀ t count r = f .end - r
@@ -37,18 +32,12 @@ held c = let a = c .pre in omega (arith, a .held, a .fit, a .inside)
 from-least : (c : tie.After-left-from Inv-loop μ-loop) → c .left-from .result ≤ c .before .before .args .f .end
 from-least c = let s = c .before .before in omega (arith, c .left-from .ensures, left-le (endingOf (s .args .c)) (toZ w32 (ofZ w32 (s .args .b))) (s .args .f .first) (s .args .f .end) (s .args .t .now) (s .pre .few))
 
--- rows that are passed make no pair
-passed : (c : Relation) (entry : ℕ) (a b : ℤ) (m n : ℕ) (t : List ℤ) {i k : ℕ} → Found a i n t k → (j : ℕ) → i ≤ j → j < k → pairsWith c entry a b m n t j ≡ []
-passed c entry a b m n t f j p q = pairs-none c entry a b m n t j (f .none j p q)
-
 loop-holds : tie.Need-loop-holds Inv-loop μ-loop
 loop-holds c =
     let h = c .before .before in
     let s = h .before .before in
     let g = s .args in
-    let t = g .t .now in
-    let f = found (g .n) t t (λ i k p q. refl) (toZ w32 (ofZ w32 (g .a))) (h .left-from .result) (g .f .end) (c .next-of .result) (from-least h) (s .pre .inside) (c .next-of .ensures) in
-    (f .is, past _ _ _ (begin _ _ _ _ (s .pre .fit)) _ (f .least) (f .most) (passed (g .c) _ _ _ _ _ t f))
+    visit _ _ _ (g .f .end) (begin _ _ _ _ (s .pre .fit)) (pairs-none (g .c) _ _ _ _ _ (g .t .now)) (from-least h) (s .pre .inside) _ (c .next-of .ensures)
 
 pairs-with-requires : tie.Need-pairs-with-requires Inv-loop μ-loop
 pairs-with-requires c κs =
@@ -101,13 +90,10 @@ next-of-requires-2 c κs =
 loop-again : tie.Need-loop-again Inv-loop μ-loop
 loop-again c =
     let e = c .before .before in
-    let d = e .before .before in
-    let l = d .before .before .before in
+    let l = e .before .before .before .before .before in
     let s = l .before .before .before .before .before in
     let g = s .args in
-    let w = turned e in
-    let f = found (g .n) (d .pairs-with .last .0) (g .t .now) (w .kept) (toZ w32 (ofZ w32 (g .a))) (l .loop .r + 1) (g .f .end) (c .next-of2 .result) (omega arith) (s .pre .inside) (c .next-of2 .ensures) in
-    (f .is, past _ _ _ w _ (f .least) (f .most) (passed (g .c) _ _ _ _ _ (g .t .now) f))
+    visit _ _ (l .loop .r + 1) (g .f .end) (turned e) (pairs-none (g .c) _ _ _ _ _ (g .t .now)) (omega arith) (s .pre .inside) _ (c .next-of2 .ensures)
 
 loop-less : tie.Need-loop-less Inv-loop μ-loop
 loop-less c =

@@ -10,7 +10,7 @@ use Rattle.interval.proofs.Machine.{same32}
 use Rattle.model.specs.Lists.{each}
 use Rattle.closing.specs.Added.{span, pairRow, pairsOf}
 use Rattle.closing.proofs.Filling.{Filling, nothing, begin, turn, stop, over, appendable}
-use Rattle.closing.proofs.Laws.{pair-same}
+use Rattle.closing.proofs.Laws.{pair-same, pair-other}
 use Rattle.closing.proofs.pairs_with.Statement.{statement}
 use Rattle.closing.proofs.pairs_with.Tie as tie
 
@@ -65,14 +65,13 @@ loop-again c =
     turn _ (l .loop .s) (g .f .end) (l .loop .inv) (k .loop-test .taken) (pair-same (g .n) (l .loop .t) (g .t .now) (l .loop .inv .kept) _ _ _ _ _ _ (l .loop .s) (omega (arith, s .pre .0 .inside))) (d .push-pair .ensures) (c .if2 .left)
 
 loop-again-2 : tie.Need-loop-again-2 Inv-loop μ-loop
-unfolding pairRow
 loop-again-2 c =
     let l = c .before .before .before .before .before in
     let s = l .before .before .before .before .before in
     let g = s .args in
     let q = c .before in
     let no = sym (simp (q .before .row-at2 .ensures) at (q .is-wanted .ensures)) ∙ c .if1 .left in
-    turn _ (l .loop .s) (g .f .end) (l .loop .inv) (omega arith) (pair-same (g .n) (l .loop .t) (g .t .now) (l .loop .inv .kept) _ _ _ _ _ _ (l .loop .s) (omega (arith, s .pre .0 .inside))) (nothing _ _ _ _ (simp no)) (l .loop .inv .most)
+    turn _ (l .loop .s) (g .f .end) (l .loop .inv) (omega arith) (pair-same (g .n) (l .loop .t) (g .t .now) (l .loop .inv .kept) _ _ _ _ _ _ (l .loop .s) (omega (arith, s .pre .0 .inside))) (nothing _ _ _ _ (pair-other _ _ (l .loop .t) (l .loop .s) no)) (l .loop .inv .most)
 
 returns-2 : tie.Need-returns-2 Inv-loop μ-loop
 returns-2 c =

@@ -23,6 +23,16 @@ returns-5 c =
     let p = numbers (d .before .before .args .p) (c .before .struct-told6 .given) in
     simp (d .kind2 .given .1, c .has-length .ensures, same32, p .start, p .end)
 
+returns-7 : tie.Need-returns-7
+unfolding meetsCondition
+returns-7 c =
+    let b = c .before .before .before in
+    let e = b .before .before in
+    let g = e .before .before .args in
+    let p = numbers (g .p) (b .before .struct-told7 .given) in
+    let q = numbers (g .q) (c .before .struct-told10 .given) in
+    simp (e .enum-told5 .given .1, c .is-related2 .ensures, same32, p .start, p .end, q .start, q .end)
+
 pub meets-condition-spec : {M : Type 1} → statement M
 unfolding meetsCondition
 meets-condition-spec =
@@ -37,10 +47,13 @@ meets-condition-spec =
     (λ c κs. search needs)
     (λ c. search needs)
     (λ c. search needs)
+    (λ c κs. search needs)
+    (λ c. search needs)
     (λ c. search needs)
     (λ c. search needs)
     returns-3
     (λ c. search needs)
     returns-5
     (λ c. search needs)
+    returns-7
     (λ c. search needs))

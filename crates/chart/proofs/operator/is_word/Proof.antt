@@ -15,7 +15,7 @@ spelled : Spelled paddedWords wordLengths
 unfolding words allBelow spells sameBytes
 spelled = refl
 
-word : (letters sizes : List ℕ) → letters ≡ paddedWords → sizes ≡ wordLengths → (i : ℕ) → i < 18 → Word letters sizes i
+word : (letters sizes : List ℕ) → letters ≡ paddedWords → sizes ≡ wordLengths → (i : ℕ) → i < 20 → Word letters sizes i
 word letters sizes p q i h = rw (p, q) (word-at paddedWords wordLengths spelled i h)
 
 abbrev Inv-loop : tie.InvT-loop

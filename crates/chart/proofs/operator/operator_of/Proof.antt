@@ -10,10 +10,10 @@ use Rattle.chart.proofs.operator.operator_of.Statement.{statement}
 use Rattle.chart.proofs.operator.operator_of.Tie as tie
 
 abbrev Inv-loop : tie.InvT-loop
-Inv-loop s letters sizes i₀ i = (i ≤ 18) × (i + placeOf s (drop i words) ≡ placeOf s words)
+Inv-loop s letters sizes i₀ i = (i ≤ 20) × (i + placeOf s (drop i words) ≡ placeOf s words)
 
 abbrev μ-loop : tie.MeasureT-loop
-μ-loop s letters sizes i₀ i = 18 - i
+μ-loop s letters sizes i₀ i = 20 - i
 
 returns : tie.Need-returns Inv-loop μ-loop
 unfolding operatorOf

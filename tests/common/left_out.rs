@@ -1,0 +1,21 @@
+//! Operator words that a benchmark leaves out, since the proved code of an earlier commit does not know them.
+
+use crate::plain_chart::WORDS;
+
+pub struct LeftOut(Vec<String>);
+
+impl LeftOut {
+    /// The words behind the argument --without, parted by commas; none where there is no such argument.
+    pub fn of_arguments() -> LeftOut {
+        let words = std::env::args().skip_while(|argument| argument != "--without").nth(1).unwrap_or_default();
+        let words: Vec<String> = words.split(',').filter(|word| !word.is_empty()).map(str::to_string).collect();
+        let unknown = words.iter().find(|word| !WORDS.contains(&word.as_str()));
+        assert!(unknown.is_none(), "--without {}: no operator word", unknown.unwrap());
+        LeftOut(words)
+    }
+
+    /// Whether a chart has one of them.
+    pub fn is_in(&self, chart: &[u8]) -> bool {
+        chart.split(|byte| *byte == b'\t').any(|field| self.0.iter().any(|word| word.as_bytes() == field))
+    }
+}

@@ -31,10 +31,20 @@
  *
  *     PAIR is one of    seq or and -[] -][ -[[ -]]
  *                       meets overlaps starts during finishes equals
+ *                       cut      a row of a, and the first of b after it
+ *                       change   the same, with no other of a between
  *     LENGTH is one of  lasts    a lasts exactly d
  *                       atmost   d or less
  *                       atleast  d or more
  *     after             each row of a, and d has passed: it ends d later
+ *
+ * cut pairs each row r of a with each row s of b where r ends before s starts and
+ * no other row of b starts after r ends and ends before s ends: the first by end,
+ * and all of them where several end at once. change also asks that no row of a
+ * starts no earlier than r and ends after r ends and before s starts. Rows that
+ * forbid a pair in this way are rivals. All of them have ended when s has, and
+ * none starts before r: no later event withdraws a pair, and a forget drops one
+ * only where it drops r. a and b may be the same entry.
  *
  * A number has 1 to 10 decimal digits and no sign; only 0 itself begins with
  * the digit 0. The text is bytes: it needs no byte 0 at its end, and a byte 0
@@ -150,8 +160,9 @@
  * instant or is before the end of the row above it, whose references are not
  * lower rows of the operands, with -1 just where it belongs, whose start, end
  * (of after: d later than the row of a ends) or condition disagrees with them
- * (an absence's condition is not looked at), or an event's whose serial is not 1
- * to the count or whose start is not its end.
+ * (an absence's condition is not looked at; of cut and change it is only that r
+ * ends before s starts, and a rival in the table is no fault), or an event's whose
+ * serial is not 1 to the count or whose start is not its end.
  * It is found before anything is done: no call goes wrong on damaged memory.
  *
  *
@@ -203,7 +214,7 @@ struct chronicle_verdict {
  * An entry of a chart. Operators by their code:
  *     0 event   1 seq   2 or   3 and   4 -[]   5 -][   6 -[[   7 -]]
  *     8 meets   9 overlaps   10 starts   11 during   12 finishes   13 equals
- *     14 lasts   15 atmost   16 atleast   17 after
+ *     14 lasts   15 atmost   16 atleast   17 after   18 cut   19 change
  * An event has its code in a, and 0 in b; a length test and after have their length in b.
  */
 struct chronicle_entry {
@@ -301,6 +312,16 @@ struct chronicle_answer chronicle_event(struct chronicle_watch watch, struct chr
  *                                 rows
  *     seq                         at the new rows; where one is of b, at all rows and, for each
  *                                 of a, at the new rows
+ *     cut                         at the new rows; where one is of b, at the old rows back to the
+ *                                 last one of b, and further back as long as they end later
+ *                                 than the latest start of b found so far; then at the old rows
+ *                                 that end no earlier than this start and before the latest
+ *                                 start of the new rows of b, found by two binary searches, and
+ *                                 for each of a, at the new rows. If no old row is of b, all are
+ *                                 passed, and none ends too early
+ *     change                      as cut, and for each of those rows of a, at the rows behind it
+ *                                 that end before the latest start of the new rows of b, up to
+ *                                 the first one of a that starts no earlier and ends later
  *     and                         at the new rows; where one is of b, at all rows; for each of
  *                                 a, at the new rows, and for each new one of a, at all rows
  *     -[] -][ -[[ -]]             at the new rows; where one is of a, at the rows behind the

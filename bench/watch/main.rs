@@ -7,6 +7,7 @@
 mod blocks;
 mod delays;
 mod measure;
+mod nearest;
 
 use common::interface::{Chart, Watch};
 use common::left_out::LeftOut;
@@ -34,7 +35,9 @@ fn main() {
     if order == Order::Same {
         blocks::time_marks();
     }
-    delays::time_marks(order, &LeftOut::of_arguments());
+    let left_out = LeftOut::of_arguments();
+    delays::time_marks(order, &left_out);
+    nearest::time_marks(order, &left_out);
 }
 
 fn workload(name: &'static str, rows: usize) -> Workload {

@@ -784,7 +784,7 @@ fn entry_rows(t: &mut [i32], f: Frame, e: Entry, p: Pending, codes: &[u8; 64], l
 
 // The rows of all entries that end at the instant, in the entries' order, each entry's put in order before the next one refers to them; and when the next
 // delayed row is due, behind the instant and before the mark. Costs what the entries' functions cost, and what `ordering::later_start_first` costs
-// for each entry's rows.
+// for each entry's rows; an entry that makes none, as most do at a mark, is passed with one comparison.
 fn all_rows(
     chart: Chart,
     t: &mut [i32],
@@ -814,11 +814,13 @@ fn all_rows(
         let made = entry_rows(t, f, e, p, codes, next);
         n = made.rows;
         next = made.next;
-        if room < n {
-            return Made { rows: n, next };
-        }
-        ordering::later_start_first(t, first, n);
         i += 1;
+        if first < n {
+            if room < n {
+                return Made { rows: n, next };
+            }
+            ordering::later_start_first(t, first, n);
+        }
     }
     Made { rows: n, next }
 }

@@ -1,13 +1,14 @@
 -- `all_rows` meets its contract: what the entries left append is what all were to append; the limit is the next due end of the entries so far.
-use Prim.Native.Nat.{ℕ, _*_, _-_, _≤_, _<_}
+use Prim.Native.Nat.{ℕ, _+_, _*_, _-_, _≤_, _<_}
 use native.Mathlib.Omega.{arith}
-use mathlib.Core.Path.{_≡_, refl, ap, _∙_, subst}
+use mathlib.Core.Path.{_≡_, refl, sym, ap, _∙_, subst}
 use mathlib.Core.Bool.{true}
+use mathlib.Core.List.{List}
 use lib.IntN.{ℤ, pos, _+ℤ_}
 use lib.ListN.{length, drop}
 use lib.Signed.{ltZ}
 use mir.Syntax.{w32}
-use mir.Val.{SFits, toZ}
+use mir.Val.{SFits, toZ, ofZ}
 use mir.ValLaws.{toZ-pos}
 use Rattle.interval.proofs.Machine.{same32}
 use Rattle.interval.proofs.Signed.{lt-true, is-lt, is-le, leZ→, add-fact}
@@ -20,7 +21,9 @@ use Rattle.model.specs.Statements.{NextDue}
 use Rattle.table.specs.Table.{rowsIn}
 use Rattle.table.specs.Operators.{operatorsOf, entryOperator}
 use Rattle.chart.specs.Charts.{entryAt}
+use Rattle.ordering.specs.Ordered.{ordered}
 use Rattle.ordering.proofs.Appended.{alike-behind}
+use Rattle.ordering.proofs.Steps.{ordered-few}
 use Rattle.closing.specs.Added.{FilledBy, eventsAt, addedRows}
 use Rattle.closing.proofs.Grown.{Grown, all-ordered}
 use Rattle.closing.proofs.Growth.{grown-none, grown-settled}
@@ -137,35 +140,51 @@ module _ (d : tie.After-entry-rows Inv-loop μ-loop) where
       Entered (g .t1) o (g .p .first) (g .p .count) (g .codes .now) (start .pre .5) (g .rows) i (l .loop .n) (l .loop .t) (l .loop .inv .2) (below (d .before .before .before .before)) (l .loop .inv .3) room told
   known = entered _ _ _ _ _ _ _ _ _ _ _ _ _ _ _
 
--- the limit, read back
-next : (c : tie.After-struct-told3 Inv-loop μ-loop) → SFits w32 (c .before .before .entry-rows .result .next)
-next c = record { sfits = c .struct-told3 .given .1 .0 .1 }
+-- a turn, once the entry's rows stand in order in the table v: the limit is the next due end of one entry more
+module _ (c : tie.After-struct-told3 Inv-loop μ-loop) where
+  abbrev d : tie.After-entry-rows Inv-loop μ-loop
+  d = c .before .before
+
+  turned : (l : d .entry-rows .result .rows ≤ start d .args .room) (v : List ℤ) → v ≡ ordered (at d .loop .n) (d .entry-rows .result .rows - at d .loop .n) (d .entry-rows .last .0) → NextDue (entryEnds (start d .args .t1) (rowsIn (d .entry-rows .result .rows) v) (i d + 1)) (o d +ℤ pos 1) (start d .args .jump .mark) (toZ w32 (ofZ w32 (d .entry-rows .result .next)))
+  turned l v z =
+      let g = start d .args in
+      let x = at d .loop in
+      let next : SFits w32 (d .entry-rows .result .next) = record { sfits = c .struct-told3 .given .1 .0 .1 } in
+      let m = known d .more l v z in
+      let due = next-more _ _ (o d +ℤ pos 1) (g .jump .mark) (toZ w32 (x .next)) (d .entry-rows .result .next) (x .inv .4) (next-told d) in
+      rw (same32 _ next, m .0, ends-more (g .t1) (start d .pre .0) (rowsIn (x .n) (x .t)) _ (i d) (below (d .before .before .before .before)) (m .1)) due
 
 returns : tie.Need-returns Inv-loop μ-loop
-returns c = let d = c .before .before .before in (simp (whole (start d)) at (known d .full (c .if1 .taken)), λ h. absurd (omega (arith, c .if1 .taken)))
+returns c = let e = d (c .before .before) in (simp (whole (start e)) at (known e .full (c .if2 .taken)), λ h. absurd (omega (arith, c .if2 .taken)))
 
 same-length : tie.Need-same-length Inv-loop μ-loop
-same-length c = let d = c .before .before .before in d .entry-rows .kept .0 ∙ same-size (at d .loop .inv .3)
+same-length c = let e = d (c .before .before) in e .entry-rows .kept .0 ∙ same-size (at e .loop .inv .3)
 
 later-start-first-requires : tie.Need-later-start-first-requires Inv-loop μ-loop
 later-start-first-requires c κs =
-    let e = c .before in
-    let d = e .before .before .before in
-    let size : length (d .entry-rows .last .0) ≡ length (at d .loop .t) = d .entry-rows .kept .0 in
-    (omega (arith, room d), alike-behind (known d .alike (e .if1 .left)) (omega (arith, known d .grows (e .if1 .left))))
+    let f = c .before .if2 .left in
+    let e = d (c .before .before .before) in
+    let size : length (e .entry-rows .last .0) ≡ length (at e .loop .t) = e .entry-rows .kept .0 in
+    (omega (arith, room e), alike-behind (known e .alike f) (omega (arith, known e .grows f)))
 
 loop-again : tie.Need-loop-again Inv-loop μ-loop
 loop-again c =
     let v = c .before in
-    let e = v .before .before in
-    let d = e .before .before .before in
-    let l = at d in
-    let g = start d .args in
-    let low = below (d .before .before .before .before) in
-    let w = known d .next (e .if1 .left) (v .later-start-first .last .0) (v .later-start-first .ensures) in
-    let m = known d .more (e .if1 .left) (v .later-start-first .last .0) (v .later-start-first .ensures) in
-    let due = next-more _ _ (o d +ℤ pos 1) (g .jump .mark) (toZ w32 (l .loop .next)) (d .entry-rows .result .next) (l .loop .inv .4) (next-told d) in
-    (omega (arith, low), refl, w .1, w .0, rw (same32 _ (next (e .before)), m .0, ends-more (g .t1) (start d .pre .0) (rowsIn (l .loop .n) (l .loop .t)) _ (i d) low (m .1)) due)
+    let y = v .before .before in
+    let f = y .if2 .left in
+    let s = y .before .before in
+    let w = known (d s) .next f (v .later-start-first .last .0) (v .later-start-first .ensures) in
+    (omega (arith, below (d s .before .before .before .before)), refl, w .1, w .0, turned s f (v .later-start-first .last .0) (v .later-start-first .ensures))
+
+-- nothing was appended, and nothing is in order
+loop-again-2 : tie.Need-loop-again-2 Inv-loop μ-loop
+loop-again-2 c =
+    let s = c .before in
+    let e = d s in
+    let f : e .entry-rows .result .rows ≤ start e .args .room = omega (arith, at e .loop .inv .3 .most) in
+    let z = sym (ordered-few (at e .loop .n) (e .entry-rows .result .rows - at e .loop .n) (e .entry-rows .last .0) (omega arith) (λ j p q. absurd (omega arith))) in
+    let w = known e .next f (e .entry-rows .last .0) z in
+    (omega (arith, below (e .before .before .before .before)), refl, w .1, w .0, turned s f (e .entry-rows .last .0) z)
 
 returns-2 : tie.Need-returns-2 Inv-loop μ-loop
 returns-2 c =
@@ -189,11 +208,13 @@ all-rows-spec =
     (λ c. number c .0)
     (λ c. record { sfits = omega (arith, number (c .before) .0) })
     entry-rows-requires
+    (λ c. omega arith)
     same-length
     returns
     later-start-first-requires
     (λ c. omega arith)
-    (λ c. omega arith)
     loop-again
+    (λ c. omega arith)
+    loop-again-2
     (λ c. same-size (c .before .loop .inv .3))
     returns-2)

@@ -236,8 +236,8 @@ latestFrom b t i x (suc k) = latestFrom b t i (cond (eqZ (cell t (i + k) 0) b) (
 abbrev pub latestStart : ℤ → ℤ → ℕ → ℕ → List ℤ → ℤ
 latestStart b x i e t = latestFrom b t i x (e - i)
 
--- where the search for r begins and ends: at the rows that end no earlier than the latest start of the old rows of b, where rivals of s end, and
--- before the latest start of the new ones. Of the old rows none ends before the first does
+-- where the search for r begins and ends: at the first row that does not end before the latest start of the old rows of b, among which all rivals of a
+-- new s are; and at the first that does not end before the latest start of the new ones. No row ends before row 0 does, so that its end excludes none
 unfoldable pub nearFrom : ℤ → ℕ → List ℤ → ℕ
 nearFrom b m t = endingBefore m (latestStart b (cell t 0 4) 0 (topOf b m t) t) t
 
@@ -256,18 +256,19 @@ rivalFrom a r t x i (suc k) = cond (isLaterRow a r (storedRow t i)) (cell t i 4)
 abbrev pub rivalEnd : ℤ → stored.Row → ℤ → ℕ → ℕ → List ℤ → ℤ
 rivalEnd a r x i e t = rivalFrom a r t x i (e - i)
 
--- up to where s may start, given r: before the instant o and no later than the first rival of r ends
+-- up to where s may start, given r: the instant o, and for change no later than the first rival of r ends
 abbrev pub limitBy : Nearest → ℤ → ℤ → ℕ → List ℤ → ℕ → ℤ
 limitBy Cut o a to t r = o
 limitBy Change o a to t r = rivalEnd a (storedRow t r) o (r + 1) to t
 
+-- the pair with row s, if that starts at the limit or before; the pairs with the new rows
 unfoldable pub nearestRow : ℕ → Wanted → ℤ → List ℤ → ℕ → List Row
 nearestRow entry w limit t s = cond (leZ (cell t s 3) limit) (pairRow (w .relation) entry (w .operand) (w .left) (w .start) (w .end) t s) []
 
 unfoldable pub nearestPairs : ℕ → Wanted → ℤ → ℕ → ℕ → List ℤ → List Row
 nearestPairs entry w limit m n t = each (nearestRow entry w limit t) (span m n)
 
--- the pairs of row r
+-- the pairs of row r, and those of a row that may be none of a
 abbrev pub wantedBy : ℤ → List ℤ → ℕ → Wanted
 wantedBy b t r = record { relation = Seq; operand = b; left = r; start = cell t r 3; end = cell t r 4 }
 
@@ -277,6 +278,7 @@ nearestOf k entry o m n t r = nearestPairs entry (wantedBy (k .b) t r) (limitBy 
 unfoldable pub nearestWith : Sought → ℕ → ℤ → ℕ → ℕ → List ℤ → ℕ → List Row
 nearestWith k entry o m n t r = cond (eqZ (cell t r 0) (k .a)) (nearestOf k entry o m n t r) []
 
+-- all pairs; without a new row of b there is none
 abbrev pub soughtBy : Nearest → ℤ → ℤ → ℕ → Sought
 soughtBy c a b to = record { nearest = c; a = a; b = b; to = to }
 

@@ -702,13 +702,14 @@ fn nearest_with(t: &mut [i32], n: usize, f: Frame, k: Sought, r: usize) -> usize
 }
 
 // cut, change: the pairs of an r with a new s of which none has a rival. Where no row of b is new, one look at each new row and no more. Otherwise what
-// `between` looks at; one look at each row r between the two places that it finds; and for each of them that is one of a, what `nearest_with` looks at.
+// `between` looks at; one look at each row r between the two places that it finds, which are mostly few; and for each of them that is one of a, what
+// `nearest_with` looks at.
 fn nearest_rows(t: &mut [i32], n: usize, f: Frame, c: Nearest, a: i32, b: i32) -> usize
     requires { ⌜ (Appendable f n (now t)) × Proper (f .end) (now t) ⌝ }
     ensures { λ r. ⌜ Appended f n (nearestRows c (natAbs (f .entry)) (f .instant) a b (f .first) (f .end) (now (t .entry))) (now (t .entry)) r (now (t .exit)) ⌝ }
 {
     let end = f.end;
-    let s = next_of(t, f.first, end, b);
+    let s = first_of(t, f.first, end, b);
     if end <= s {
         return n;
     }
@@ -725,13 +726,13 @@ fn nearest_rows(t: &mut [i32], n: usize, f: Frame, c: Nearest, a: i32, b: i32) -
     };
     let room = f.room;
     let mut count = n;
-    let mut r = next_of(t, rows.from, to, a);
+    let mut r = first_of(t, rows.from, to, a);
     while r < to {
         count = nearest_with(t, count, f, k, r);
         if room < count {
             return count;
         }
-        r = next_of(t, r + 1, to, a);
+        r = first_of(t, r + 1, to, a);
     }
     count
 }

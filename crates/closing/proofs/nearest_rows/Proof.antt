@@ -35,13 +35,13 @@ returns : tie.Need-returns Inv-loop μ-loop
 returns c =
     let s = c .before .before .before in
     let g = s .args in
-    nothing _ _ _ (g .t .now) (nearest-old (g .c) _ _ (g .a) (g .b) _ _ (g .t .now) (omega (arith, c .if1 .taken, simp (same32 _ (s .fits .b)) at (c .before .next-of .ensures))))
+    nothing _ _ _ (g .t .now) (nearest-old (g .c) _ _ (g .a) (g .b) _ _ (g .t .now) (omega (arith, c .if1 .taken, simp (same32 _ (s .fits .b)) at (c .before .first-of .ensures))))
 
 between-requires : tie.Need-between-requires Inv-loop μ-loop
 between-requires c κs =
     let y = c .before in
     let s = y .before .before .before in
-    (y .before .next-of .ensures, omega arith, s .pre .0 .few, held s, s .pre .0 .ordered, s .pre .1)
+    (y .before .first-of .ensures, omega arith, s .pre .0 .few, held s, s .pre .0 .ordered, s .pre .1)
 
 -- what is sought, and in which rows
 module _ (c : tie.After-between Inv-loop μ-loop) where
@@ -93,7 +93,7 @@ module _ (c : tie.After-between Inv-loop μ-loop) where
       let f = start .fits .b in
       let y = c .before .before in
       let e = simp (same32 _ f) at (c .between .ensures .1) in
-      let h = simp (same32 _ f) at (y .before .next-of .ensures) in
+      let h = simp (same32 _ f) at (y .before .first-of .ensures) in
       simp (same32 _ (start .fits .a), same32 _ f) (simp e (nearest-new (start .args .c) entry O (start .args .a) (start .args .b) first end t₀ (omega (arith, y .if1 .left, h))))
 
 returns-2 : tie.Need-returns-2 Inv-loop μ-loop
@@ -101,8 +101,8 @@ returns-2 c =
     let d = c .before .before in
     simp (whole d) at (over (rows d) (from d) (to d) (begin _ _ _ (t₀ d) (start d .pre .0 .fit)) (omega (arith, c .if2 .taken, d .between .ensures .0)))
 
-next-of-requires-2 : tie.Need-next-of-requires-2 Inv-loop μ-loop
-next-of-requires-2 c κs =
+first-of-requires-2 : tie.Need-first-of-requires-2 Inv-loop μ-loop
+first-of-requires-2 c κs =
     let y = c .before in
     let d = y .before .before in
     (omega (arith, y .if2 .left), omega (arith, low d, held (start d)))
@@ -112,7 +112,7 @@ loop-holds : tie.Need-loop-holds Inv-loop μ-loop
 loop-holds c =
     let y = c .before .before in
     let d = y .before .before in
-    visit (A d) (rows d) (from d) (to d) (begin _ _ _ (t₀ d) (start d .pre .0 .fit)) (nearest-none (sought d) (entry d) (O d) (first d) (end d) (t₀ d)) (omega (arith, y .if2 .left, d .between .ensures .0)) (inside d) (c .next-of2 .result) (c .next-of2 .ensures ∙ ap (λ i. nextRow (A d) i (to d) (t₀ d)) (d .between .ensures .0))
+    visit (A d) (rows d) (from d) (to d) (begin _ _ _ (t₀ d) (start d .pre .0 .fit)) (nearest-none (sought d) (entry d) (O d) (first d) (end d) (t₀ d)) (omega (arith, y .if2 .left, d .between .ensures .0)) (inside d) (c .first-of2 .result) (c .first-of2 .ensures ∙ ap (λ i. nextRow (A d) i (to d) (t₀ d)) (d .between .ensures .0))
 
 -- row r of the table t, while the one before this loop was t₀
 module _ (c : tie.In-loop Inv-loop μ-loop) where
@@ -151,8 +151,8 @@ turned c =
     let i = w .before .before in
     turn (rows (d i)) (l i .loop .r) (to (d i)) (l i .loop .inv .1) (omega (arith, i .loop-test .taken)) (same i) (w .nearest-with .ensures) (c .if3 .left)
 
-next-of-requires-3 : tie.Need-next-of-requires-3 Inv-loop μ-loop
-next-of-requires-3 c κs =
+first-of-requires-3 : tie.Need-first-of-requires-3 Inv-loop μ-loop
+first-of-requires-3 c κs =
     let y = c .before in
     let i = y .before .before .before .before in
     (omega (arith, i .loop-test .taken), omega (arith, low (d i), held (start (d i)), turned y .size))
@@ -161,14 +161,14 @@ loop-less : tie.Need-loop-less Inv-loop μ-loop
 loop-less c =
     let w = c .before .before .before .before in
     let i = w .before .before in
-    omega (arith, i .loop-test .taken, c .next-of3 .ensures, next-least (A (d i)) (w .nearest-with .last .0) (l i .loop .r + 1) (to (d i)))
+    omega (arith, i .loop-test .taken, c .first-of3 .ensures, next-least (A (d i)) (w .nearest-with .last .0) (l i .loop .r + 1) (to (d i)))
 
 loop-again : tie.Need-loop-again Inv-loop μ-loop
 loop-again c =
     let y = c .before .before in
     let i = y .before .before .before .before in
     let b = d i in
-    visit (A b) (rows b) (l i .loop .r + 1) (to b) (turned y) (nearest-none (sought b) (entry b) (O b) (first b) (end b) (t₀ b)) (omega (arith, i .loop-test .taken)) (inside b) (c .next-of3 .result) (c .next-of3 .ensures)
+    visit (A b) (rows b) (l i .loop .r + 1) (to b) (turned y) (nearest-none (sought b) (entry b) (O b) (first b) (end b) (t₀ b)) (omega (arith, i .loop-test .taken)) (inside b) (c .first-of3 .result) (c .first-of3 .ensures)
 
 returns-4 : tie.Need-returns-4 Inv-loop μ-loop
 returns-4 c =
@@ -188,13 +188,13 @@ nearest-rows-spec =
     between-requires
     (λ c. refl)
     returns-2
-    next-of-requires-2
+    first-of-requires-2
     loop-holds
     nearest-with-requires
     same-length
     returns-3
     (λ c. omega arith)
-    next-of-requires-3
+    first-of-requires-3
     loop-less
     loop-again
     (λ c. c .before .loop .inv .1 .size)

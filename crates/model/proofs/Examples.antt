@@ -165,8 +165,9 @@ delays =
 
 -- "First after, last before" (request N5): ties of s all count, a later s does not, and change takes the last r only; r and s of one instant; s' that end
 -- with s; an s' that starts at end r, which is a rival for an earlier r; document 003's A!((B D)||F), with a at 1, b at 2, f at 3 and d at 4: F, the
--- first by end, is taken at 3, and at 4 (B D), the first by start, withdraws nothing and makes nothing; an r' that starts with r; an r' that starts earlier;
--- an r' that ends where s starts; one entry as both operands; a floor between two r; behind a delay; change in cut in an absence
+-- first by end, is taken at 3, and at 4 (B D), the first by start, withdraws nothing and makes nothing; document 003's A!(B D E) and (A B)!!D, each
+-- recognized twice (remark 5); an r' that starts with r; an r' that starts earlier; an r' that ends where s starts; one entry as both operands; a floor between
+-- two r; behind a delay; change in cut in an absence
 abbrev nearests : List Case
 nearests =
     case (R.event 1 ∷ R.event 2 ∷ nearest Cut 0 1 ∷ nearest Change 0 1 ∷ []) 3000 (pos 0) (event 1 ∷ clock (pos 1) ∷ event 1 ∷ clock (pos 3) ∷ event 2 ∷ event 2 ∷ clock (pos 4) ∷ event 2 ∷ clock (pos 5) ∷ []) (taken 9)
@@ -179,6 +180,10 @@ nearests =
     (row-l 0 1 0 0 ∷ row-l 0 2 1 1 ∷ row-l 1 3 1 1 ∷ row-l 3 4 2 2 ∷ row-l 2 5 3 3 ∷ row-lr 5 2 4 1 3 ∷ row-l 7 5 1 3 ∷ row-lr 8 0 6 0 3 ∷ row-l 4 6 4 4 ∷ row-lr 6 3 8 2 4 ∷ row-r 7 9 2 4 ∷ row-lr 8 1 10 1 4 ∷ []) ∷
     case (R.event 1 ∷ R.event 2 ∷ R.event 3 ∷ R.event 4 ∷ related Seq 1 3 ∷ or 4 2 ∷ nearest Cut 0 5 ∷ []) 3000 (pos 1) (event 1 ∷ clock (pos 2) ∷ event 2 ∷ clock (pos 3) ∷ event 3 ∷ clock (pos 4) ∷ event 4 ∷ clock (pos 5) ∷ []) (taken 8)
     (row-l 0 1 1 1 ∷ row-l 1 2 2 2 ∷ row-l 2 3 3 3 ∷ row-r 5 2 3 3 ∷ row-lr 6 0 3 1 3 ∷ row-l 3 4 4 4 ∷ row-lr 4 1 5 2 4 ∷ row-l 5 6 2 4 ∷ []) ∷
+    case (R.event 1 ∷ R.event 2 ∷ R.event 3 ∷ R.event 4 ∷ related Seq 1 2 ∷ related Seq 4 3 ∷ nearest Cut 0 5 ∷ []) 3000 (pos 1) (event 1 ∷ clock (pos 2) ∷ event 2 ∷ clock (pos 3) ∷ event 3 ∷ clock (pos 4) ∷ event 3 ∷ clock (pos 5) ∷ event 4 ∷ clock (pos 6) ∷ event 4 ∷ clock (pos 7) ∷ []) (taken 12)
+    (row-l 0 1 1 1 ∷ row-l 1 2 2 2 ∷ row-l 2 3 3 3 ∷ row-lr 4 1 2 2 3 ∷ row-l 2 4 4 4 ∷ row-lr 4 1 4 2 4 ∷ row-l 3 5 5 5 ∷ row-lr 5 3 6 2 5 ∷ row-lr 5 5 6 2 5 ∷ row-lr 6 0 7 1 5 ∷ row-lr 6 0 8 1 5 ∷ row-l 3 6 6 6 ∷ row-lr 5 3 11 2 6 ∷ row-lr 5 5 11 2 6 ∷ []) ∷
+    case (R.event 1 ∷ R.event 2 ∷ R.event 3 ∷ related Seq 0 1 ∷ nearest Change 3 2 ∷ []) 3000 (pos 1) (event 1 ∷ clock (pos 2) ∷ event 1 ∷ clock (pos 3) ∷ event 2 ∷ clock (pos 4) ∷ event 3 ∷ clock (pos 5) ∷ event 3 ∷ clock (pos 6) ∷ []) (taken 10)
+    (row-l 0 1 1 1 ∷ row-l 0 2 2 2 ∷ row-l 1 3 3 3 ∷ row-lr 3 1 2 2 3 ∷ row-lr 3 0 2 1 3 ∷ row-l 2 4 4 4 ∷ row-lr 4 3 5 2 4 ∷ row-lr 4 4 5 1 4 ∷ row-l 2 5 5 5 ∷ []) ∷
     case (R.event 1 ∷ R.event 2 ∷ R.event 3 ∷ related Seq 0 1 ∷ nearest Cut 3 2 ∷ nearest Change 3 2 ∷ []) 3000 (pos 0) (event 1 ∷ clock (pos 1) ∷ event 2 ∷ clock (pos 2) ∷ event 2 ∷ clock (pos 3) ∷ event 3 ∷ clock (pos 4) ∷ []) (taken 8)
     (row-l 0 1 0 0 ∷ row-l 1 2 1 1 ∷ row-lr 3 0 1 0 1 ∷ row-l 1 3 2 2 ∷ row-lr 3 0 3 0 2 ∷ row-l 2 4 3 3 ∷ row-lr 4 2 5 0 3 ∷ row-lr 4 4 5 0 3 ∷ row-lr 5 4 5 0 3 ∷ []) ∷
     case (R.event 1 ∷ R.event 2 ∷ R.event 3 ∷ R.event 4 ∷ R.event 5 ∷ related Seq 0 1 ∷ related Seq 2 3 ∷ or 5 6 ∷ nearest Change 7 4 ∷ []) 3000 (pos 1) (event 1 ∷ clock (pos 2) ∷ event 3 ∷ clock (pos 3) ∷ event 4 ∷ clock (pos 4) ∷ event 2 ∷ clock (pos 5) ∷ event 5 ∷ clock (pos 6) ∷ []) (taken 10)

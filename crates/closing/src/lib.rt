@@ -737,49 +737,45 @@ fn nearest_rows(t: &mut [i32], n: usize, f: Frame, c: Nearest, a: i32, b: i32) -
     count
 }
 
-// The rows of one entry, by its operator; only a delay makes an end behind the instant. Costs what that operator's function costs. The structs are written
-// out in the arms: made by a function, they take a mark some instructions more at each entry.
-fn entry_rows(t: &mut [i32], f: Frame, e: Entry, p: Pending, codes: &[u8; 64], limit: i32) -> Made
-    requires { ⌜ Appendable f (f .end) (now t) × SerialsFit p × (entryFits (natAbs (f .entry)) e ≡ true) × Settled (f .instant +ℤ pos 1) (f .end) (now t) × (ltZ (f .instant) limit ≡ true) ⌝ }
-    ensures { λ r. ⌜ Appended f (f .end) (addedRows (entryOperator e) (natAbs (f .entry)) (f .instant) p (now (codes .entry)) (f .first) (f .end) (now (t .entry))) (now (t .entry)) (r .rows) (now (t .exit)) × NextDue (delayedEnds (rowsIn (f .end) (now (t .entry))) (entryOperator e)) (f .instant +ℤ pos 1) limit (r .next) ⌝ }
+// The rows of one entry, by its operator; only a delay makes an end behind the instant, and `next` is the first of these so far, or the mark. Costs what
+// that operator's function costs. The structs are written out in the arms: made by a function, they take a mark some instructions more at each entry.
+fn entry_rows(t: &mut [i32], f: Frame, e: Entry, p: Pending, codes: &[u8; 64], next: i32) -> Made
+    requires { ⌜ Appendable f (f .end) (now t) × SerialsFit p × (entryFits (natAbs (f .entry)) e ≡ true) × Settled (f .instant +ℤ pos 1) (f .end) (now t) × (ltZ (f .instant) next ≡ true) ⌝ }
+    ensures { λ r. ⌜ Appended f (f .end) (addedRows (entryOperator e) (natAbs (f .entry)) (f .instant) p (now (codes .entry)) (f .first) (f .end) (now (t .entry))) (now (t .entry)) (r .rows) (now (t .exit)) × NextDue (delayedEnds (rowsIn (f .end) (now (t .entry))) (entryOperator e)) (f .instant +ℤ pos 1) next (r .next) ⌝ }
 {
-    let n = f.end;
     let a = e.a;
     let b = e.b;
     let kind = chart::operator::kind_of(e.op);
     match kind {
         Kind::Event => Made {
-            rows: event_rows(t, n, f, a, p, codes),
-            next: limit,
+            rows: event_rows(t, f.end, f, a, p, codes),
+            next,
         },
         Kind::Or => Made {
-            rows: or_rows(t, n, f, a as i32, b as i32),
-            next: limit,
+            rows: or_rows(t, f.end, f, a as i32, b as i32),
+            next,
         },
         Kind::Pair(c) => Made {
-            rows: pair_rows(t, n, f, c, a as i32, b as i32),
-            next: limit,
+            rows: pair_rows(t, f.end, f, c, a as i32, b as i32),
+            next,
         },
         Kind::Absence(edges) => Made {
-            rows: absence_rows(t, n, f, edges, a as i32, b as i32),
-            next: limit,
+            rows: absence_rows(t, f.end, f, edges, a as i32, b as i32),
+            next,
         },
         Kind::Length(test) => Made {
-            rows: taken_rows(t, n, f, a as i32, Taken::Lasting(test, b), false),
-            next: limit,
+            rows: taken_rows(t, f.end, f, a as i32, Taken::Lasting(test, b), false),
+            next,
         },
         Kind::After => Made {
-            next: next_end(t, n, a as i32, b, f.instant, limit),
-            rows: delayed_rows(t, n, f, a as i32, b),
+            next: next_end(t, f.end, a as i32, b, f.instant, next),
+            rows: delayed_rows(t, f.end, f, a as i32, b),
         },
         Kind::Nearest(c) => Made {
-            rows: nearest_rows(t, n, f, c, a as i32, b as i32),
-            next: limit,
+            rows: nearest_rows(t, f.end, f, c, a as i32, b as i32),
+            next,
         },
-        Kind::Unknown => Made {
-            rows: n,
-            next: limit,
-        },
+        Kind::Unknown => Made { rows: f.end, next },
     }
 }
 

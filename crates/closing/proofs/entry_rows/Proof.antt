@@ -30,14 +30,14 @@ module _ (c : tie.After-kind-of) (k : Kind) (h : c .kind-of .result ≡ k) where
 
 module _ (c : tie.After-kind-of) where
   -- no end behind the instant
-  none : let g = c .before .args in NextDue [] (g .f .instant +ℤ pos 1) (g .limit) (g .limit)
+  none : let g = c .before .args in NextDue [] (g .f .instant +ℤ pos 1) (g .next) (g .next)
   none =
       let s = c .before in
       let o = s .args .f .instant in
-      next-none (o +ℤ pos 1) (s .args .limit) (omega (arith, lt-true o (s .args .limit) (s .pre .4), add-fact o (pos 1)))
+      next-none (o +ℤ pos 1) (s .args .next) (omega (arith, lt-true o (s .args .next) (s .pre .4), add-fact o (pos 1)))
 
-  limit : SFits w32 (c .before .args .limit)
-  limit = c .before .fits .limit
+  limit : SFits w32 (c .before .args .next)
+  limit = c .before .fits .next
 
 -- the operands are small numbers, by the operator
 fits : (c : tie.Start) (a : ℕ) → a < natAbs (c .args .f .entry) → SFits w32 (pos a)
@@ -112,7 +112,7 @@ next-end-requires c κs =
     let y = c .before .before in
     let s = y .before .before .before in
     let p = s .pre in
-    simp (same32 _ (instant c), same32 _ (s .fits .limit), same32 _ (after-fits y)) (p .3, omega (arith, p .0 .held, p .0 .fit, p .0 .inside), p .4, is-le (pos 0) (pos (s .args .e .a)) (omega arith))
+    simp (same32 _ (instant c), same32 _ (s .fits .next), same32 _ (after-fits y)) (p .3, omega (arith, p .0 .held, p .0 .fit, p .0 .inside), p .4, is-le (pos 0) (pos (s .args .e .a)) (omega arith))
 
 delay-added : tie.Need-returns-6
 unfolding addedRows
@@ -124,7 +124,7 @@ delay-added c =
     let f : SFits w32 (m .next-end .result) = record { sfits = m .next-end .ok } in
     simp (operator (y .before .before) _ (y .enum-told3 .given .1), same32 _ f) (
       simp (same32, after-fits y) at (d .delayed-rows .ensures),
-      simp (same32 _ (instant (m .before)), same32 _ (s .fits .limit), same32 _ (after-fits y)) at (m .next-end .ensures),
+      simp (same32 _ (instant (m .before)), same32 _ (s .fits .next), same32 _ (after-fits y)) at (m .next-end .ensures),
     )
 
 nearest-added : tie.Need-returns-7

@@ -52,30 +52,34 @@ pub fn charts(calls: &Calls, met: &mut Met) -> Compared {
 /// P1 on a table of each length from 0 to 60, which takes it from 40 on, and a forget after it.
 pub fn short_tables(calls: &Calls, met: &mut Met) -> Compared {
     let entries = entries("0\tevent\t1\n1\tevent\t2\n2\tevent\t3\n3\tseq\t0\t1\n4\t-[[\t3\t2\n");
-    let log = [
-        Call::Event(1),
-        Call::Clock(0),
-        Call::Event(2),
-        Call::Clock(3),
-        Call::Event(3),
-        Call::Event(2),
-        Call::Clock(4),
-        Call::Forget(0),
-        Call::Clock(5),
-    ];
+    let log = calls_of("e1 c0 e2 c3 e3 e2 c4 f0 c5");
     for length in 0..=60 {
         let table: Vec<i32> = (0..length).map(|place| 1_000 - place).collect();
         let mut run = Run::open(calls, &entries, chart_value::of(&entries), &table, -2, 0, met)?;
-        log.into_iter().try_for_each(|call| run.play(call, met))?;
+        log.iter().try_for_each(|call| run.play(*call, met))?;
     }
     Ok(())
 }
 
-/// A log under a chart.
+/// A log under a chart; `calls_of` reads it.
 struct Planned {
     chart: &'static str,
     opening: i32,
-    log: &'static [Call],
+    log: &'static str,
+}
+
+/// The calls of a log in short: `e1` is an event of code 1, `c5` a mark at 5, `f2` a forget at 2.
+fn calls_of(log: &str) -> Vec<Call> {
+    let call = |word: &str| {
+        let number: i64 = word[1..].parse().expect("a number follows the letter");
+        match &word[..1] {
+            "e" => Call::Event(number as u8),
+            "c" => Call::Clock(number),
+            "f" => Call::Forget(number),
+            _ => panic!("{word} is no call"),
+        }
+    };
+    log.split(' ').map(call).collect()
 }
 
 const DELAYS: [Planned; 7] = [
@@ -83,66 +87,42 @@ const DELAYS: [Planned; 7] = [
     Planned {
         chart: "0\tevent\t1\n1\tafter\t0\t5\n2\tafter\t1\t0\n3\tafter\t2\t3\n4\tand\t1\t3\n",
         opening: 0,
-        log: &[Call::Event(1), Call::Clock(5), Call::Clock(6), Call::Event(1), Call::Clock(100), Call::Clock(101)],
+        log: "e1 c5 c6 e1 c100 c101",
     },
     // The jump's length, an instant less and one more: only the first delay ends before the mark.
     Planned {
         chart: "0\tevent\t1\n1\tafter\t0\t6\n2\tafter\t0\t5\n3\tafter\t0\t4\n4\tor\t1\t3\n",
         opening: -5,
-        log: &[Call::Event(1), Call::Event(1), Call::Clock(0), Call::Clock(1), Call::Clock(2)],
+        log: "e1 e1 c0 c1 c2",
     },
     // A wait after a stop (1) that no move (2) follows, and an opened shutter (3) after that.
     Planned {
         chart: "0\tevent\t1\n1\tevent\t2\n2\tevent\t3\n3\tafter\t0\t2000\n4\t-]]\t3\t1\n5\tseq\t4\t2\n",
         opening: -7,
-        log: &[
-            Call::Event(1),
-            Call::Clock(1_000),
-            Call::Event(2),
-            Call::Clock(1_500),
-            Call::Event(1),
-            Call::Clock(3_500),
-            Call::Event(3),
-            Call::Clock(3_501),
-            Call::Event(3),
-            Call::Clock(9_000),
-        ],
+        log: "e1 c1000 e2 c1500 e1 c3500 e3 c3501 e3 c9000",
     },
     // Absences between delays: -[] forbids, -][ does not.
     Planned {
         chart: "0\tevent\t1\n1\tafter\t0\t3\n2\tafter\t0\t7\n3\t-[]\t2\t1\n4\t-][\t2\t1\n5\t-[]\t1\t2\n",
         opening: 0,
-        log: &[Call::Event(1), Call::Clock(2), Call::Event(1), Call::Clock(30)],
+        log: "e1 c2 e1 c30",
     },
     // Forgets before the end of a delay, at the row's start, and after it.
     Planned {
         chart: "0\tevent\t1\n1\tafter\t0\t10\n2\tafter\t1\t10\n",
         opening: 0,
-        log: &[
-            Call::Event(1),
-            Call::Clock(2),
-            Call::Event(1),
-            Call::Clock(4),
-            Call::Event(1),
-            Call::Clock(5),
-            Call::Forget(2),
-            Call::Clock(13),
-            Call::Forget(3),
-            Call::Clock(50),
-            Call::Forget(50),
-            Call::Clock(51),
-        ],
+        log: "e1 c2 e1 c4 e1 c5 f2 c13 f3 c50 f50 c51",
     },
     // Ends at and behind the end of the range.
     Planned {
         chart: "0\tevent\t1\n1\tafter\t0\t9\n2\tafter\t0\t10\n3\tafter\t0\t2000000000\n4\tafter\t1\t1\n",
         opening: 999_999_990,
-        log: &[Call::Event(1), Call::Clock(999_999_999), Call::Event(1), Call::Clock(1_000_000_000), Call::Event(1)],
+        log: "e1 c999999999 e1 c1000000000 e1",
     },
     Planned {
         chart: "0\tevent\t1\n1\tafter\t0\t1999999999\n2\tafter\t0\t2000000000\n3\tafter\t1\t2000000000\n",
         opening: -1_000_000_000,
-        log: &[Call::Event(1), Call::Event(2), Call::Clock(999_999_999), Call::Clock(1_000_000_000)],
+        log: "e1 e2 c999999999 c1000000000",
     },
 ];
 
@@ -153,7 +133,7 @@ pub fn delays(calls: &Calls, met: &mut Met) -> Compared {
 
 fn on_each_length(calls: &Calls, planned: &[Planned], longest: i32, met: &mut Met) -> Compared {
     for Planned { chart, opening, log } in planned {
-        let entries = entries(chart);
+        let (entries, log) = (entries(chart), calls_of(log));
         for length in 0..=longest {
             let table: Vec<i32> = (0..length).map(|place| 1_000 - place).collect();
             let mut run = Run::open(calls, &entries, chart_value::of(&entries), &table, *opening, 0, met)?;
@@ -168,175 +148,57 @@ const NEAREST: [Planned; 9] = [
     Planned {
         chart: "0\tevent\t1\n1\tevent\t2\n2\tcut\t0\t1\n3\tchange\t0\t1\n",
         opening: 0,
-        log: &[
-            Call::Event(1),
-            Call::Clock(1),
-            Call::Event(1),
-            Call::Clock(2),
-            Call::Event(2),
-            Call::Clock(3),
-            Call::Event(2),
-            Call::Clock(4),
-            Call::Event(1),
-            Call::Event(1),
-            Call::Clock(6),
-            Call::Event(2),
-            Call::Event(2),
-            Call::Clock(7),
-            Call::Event(2),
-            Call::Clock(8),
-        ],
+        log: "e1 c1 e1 c2 e2 c3 e2 c4 e1 e1 c6 e2 e2 c7 e2 c8",
     },
     // One entry as both operands.
     Planned {
         chart: "0\tevent\t1\n1\tcut\t0\t0\n2\tchange\t0\t0\n3\tcut\t1\t1\n4\tchange\t2\t2\n",
         opening: -3,
-        log: &[
-            Call::Event(1),
-            Call::Clock(0),
-            Call::Event(1),
-            Call::Event(1),
-            Call::Clock(1),
-            Call::Event(1),
-            Call::Clock(5),
-            Call::Event(1),
-            Call::Clock(6),
-        ],
+        log: "e1 c0 e1 e1 c1 e1 c5 e1 c6",
     },
     // An s' that starts where r ends, and then one that starts an instant later; two s of one end and different starts.
     Planned {
         chart: "0\tevent\t1\n1\tevent\t2\n2\tevent\t3\n3\tseq\t1\t2\n4\tcut\t0\t3\n5\tchange\t0\t3\n",
         opening: 5,
-        log: &[
-            Call::Event(1),
-            Call::Event(2),
-            Call::Clock(7),
-            Call::Event(3),
-            Call::Clock(8),
-            Call::Event(2),
-            Call::Event(1),
-            Call::Clock(9),
-            Call::Event(2),
-            Call::Clock(10),
-            Call::Event(2),
-            Call::Clock(11),
-            Call::Event(3),
-            Call::Clock(12),
-            Call::Event(3),
-            Call::Clock(13),
-        ],
+        log: "e1 e2 c7 e3 c8 e2 e1 c9 e2 c10 e2 c11 e3 c12 e3 c13",
     },
     // An r' that starts before r, with it and after it, and ends between r and s.
     Planned {
         chart: "0\tevent\t1\n1\tevent\t2\n2\tevent\t3\n3\tevent\t4\n4\tevent\t5\n5\tseq\t0\t1\n6\tseq\t3\t4\n\
             7\tor\t5\t6\n8\tchange\t7\t2\n9\tcut\t7\t2\n",
         opening: 0,
-        log: &[
-            Call::Event(4),
-            Call::Clock(1),
-            Call::Event(1),
-            Call::Clock(2),
-            Call::Event(2),
-            Call::Clock(3),
-            Call::Event(5),
-            Call::Clock(5),
-            Call::Event(3),
-            Call::Clock(6),
-            Call::Event(4),
-            Call::Event(1),
-            Call::Clock(7),
-            Call::Event(2),
-            Call::Clock(8),
-            Call::Event(5),
-            Call::Clock(10),
-            Call::Event(3),
-            Call::Clock(11),
-        ],
+        log: "e4 c1 e1 c2 e2 c3 e5 c5 e3 c6 e4 e1 c7 e2 c8 e5 c10 e3 c11",
     },
     Planned {
         chart: "0\tevent\t1\n1\tevent\t2\n2\tevent\t3\n3\tseq\t0\t1\n4\tchange\t3\t2\n5\tcut\t3\t2\n",
         opening: 0,
-        log: &[
-            Call::Event(1),
-            Call::Clock(1),
-            Call::Event(2),
-            Call::Clock(2),
-            Call::Event(2),
-            Call::Event(1),
-            Call::Clock(3),
-            Call::Event(2),
-            Call::Event(3),
-            Call::Clock(4),
-        ],
+        log: "e1 c1 e2 c2 e2 e1 c3 e2 e3 c4",
     },
     // Document 003's `A!((B D)||F)`: what is first by its end stays, though another starts earlier.
     Planned {
         chart: "0\tevent\t1\n1\tevent\t2\n2\tevent\t3\n3\tevent\t4\n4\tseq\t1\t2\n5\tor\t4\t3\n\
             6\tcut\t0\t5\n7\tchange\t0\t5\n",
         opening: 1,
-        log: &[
-            Call::Event(1),
-            Call::Clock(2),
-            Call::Event(2),
-            Call::Clock(3),
-            Call::Event(4),
-            Call::Clock(4),
-            Call::Event(3),
-            Call::Clock(5),
-        ],
+        log: "e1 c2 e2 c3 e4 c4 e3 c5",
     },
     // Each in the other, in an absence and in a delay, and over delayed rows, several of them by one mark.
     Planned {
         chart: "0\tevent\t1\n1\tevent\t2\n2\tcut\t0\t1\n3\tchange\t2\t0\n4\t-[]\t3\t2\n5\t-[]\t2\t3\n\
             6\tafter\t2\t3\n7\tchange\t6\t6\n8\tcut\t0\t6\n",
         opening: 0,
-        log: &[
-            Call::Event(1),
-            Call::Clock(1),
-            Call::Event(2),
-            Call::Clock(2),
-            Call::Event(1),
-            Call::Clock(3),
-            Call::Event(2),
-            Call::Clock(7),
-            Call::Event(1),
-            Call::Clock(8),
-            Call::Event(2),
-            Call::Clock(30),
-        ],
+        log: "e1 c1 e2 c2 e1 c3 e2 c7 e1 c8 e2 c30",
     },
     // Forgets that drop r and keep r', that drop r and keep s, and that drop r before s comes.
     Planned {
         chart: "0\tevent\t1\n1\tevent\t2\n2\tcut\t0\t1\n3\tchange\t0\t1\n",
         opening: 0,
-        log: &[
-            Call::Event(1),
-            Call::Clock(1),
-            Call::Event(1),
-            Call::Clock(2),
-            Call::Forget(1),
-            Call::Event(2),
-            Call::Clock(3),
-            Call::Forget(2),
-            Call::Event(1),
-            Call::Clock(4),
-            Call::Forget(4),
-            Call::Event(2),
-            Call::Clock(5),
-        ],
+        log: "e1 c1 e1 c2 f1 e2 c3 f2 e1 c4 f4 e2 c5",
     },
     // A pair over the whole range.
     Planned {
         chart: "0\tevent\t1\n1\tcut\t0\t0\n2\tchange\t0\t0\n",
         opening: -1_000_000_000,
-        log: &[
-            Call::Event(1),
-            Call::Clock(999_999_999),
-            Call::Event(1),
-            Call::Event(1),
-            Call::Clock(1_000_000_000),
-            Call::Event(1),
-        ],
+        log: "e1 c999999999 e1 e1 c1000000000 e1",
     },
 ];
 

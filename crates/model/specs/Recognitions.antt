@@ -100,7 +100,8 @@ rivalsSecond r s s' = isRivalOfSecond (endOf r) (endOf s) (startOf s') (endOf s'
 abbrev pub rivalsFirst : Nearest → Recognition → Recognition → Recognition → Bool
 rivalsFirst c r s r' = isRivalOfFirst c (startOf r) (endOf r) (startOf s) (startOf r') (endOf r')
 
--- "r and s with end r < start s, where no other ..."; rs and ss are the recognitions of a and of b
+-- "r and s with end r < start s, where no other row s' of b starts after end r and ends before end s. change also requires that no r' of a has
+-- start r' >= start r and end r < end r' < start s"; rs and ss are the recognitions of a and of b
 abbrev pub areNearest : Nearest → List Recognition → List Recognition → Recognition → Recognition → Bool
 areNearest c rs ss r s = areRelated Seq r s && (not (some (rivalsSecond r s) ss) && not (some (rivalsFirst c r s) rs))
 

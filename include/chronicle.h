@@ -90,9 +90,53 @@
  *
  * Watch and chart are values. A call gets copies and hands the new watch back;
  * give it to the next call, with the same chart and the same table, of the same
- * length and as the last call left it. Keeping an older watch is harmless, but
- * it no longer fits a table that a mark or a forget has altered: such a call is
+ * length and as the last call left it. An addition (below) hands back a watch
+ * and a chart: give both to the next call. A watch of before the addition does
+ * not fit the new chart, nor the new watch the old chart: such a call is
+ * refused with 13. Keeping an older watch, with its chart, is harmless, but it
+ * no longer fits a table that a mark or a forget has altered: such a call is
  * most likely refused with 13.
+ *
+ *
+ * ADDING ENTRIES
+ *
+ * Lines may be added to the chart of an open watch. Nothing is lost: no row is
+ * altered, and the old entries go on as before.
+ *
+ *     struct chronicle_addition more =
+ *         chronicle_add_lines(now.watch, read.chart, table, 5 * 3000, lines, size);
+ *     if (more.refusal == 0)
+ *         now = chronicle_event(more.watch, more.chart, table, 5 * 3000, 2);
+ *
+ * The lines have the form above and are numbered on from the chart's last entry:
+ * to a chart of entries 0 to 2 the first line added is that of entry 3. Their
+ * operands are any lower entries, old or added. Either all lines are taken or
+ * none is. Lines may be added more than once, up to 32 entries in all.
+ *
+ * A watch holds for each entry the instant from which it counts. For the entries
+ * of the opening it is -1000000000, for added ones the instant that was open at
+ * the addition. A recognition becomes a row only if it starts no earlier than
+ * its entry counts, and no earlier than the floor. So the events of the open
+ * instant count for the new entries, whether they come before the addition or
+ * after it, and what started before does not: not a pair of which a part did,
+ * not a wait that was under way. No row of a new entry refers to a row that
+ * started earlier, and none that did forbids one. A forget alters no entry's
+ * instant; the later of this and the floor decides.
+ *
+ *     refusal  line  meaning
+ *     0        0     taken: the new watch and the new chart
+ *     14, 13   0     as of every call on a watch: see below
+ *     1        1     no line: size is 0
+ *     2        n     line n would be a 33rd entry, whatever stands in it
+ *     3 to 6   n     as of a chart; 4: not numbered on from the last entry
+ *
+ * Lines are counted from 1, which is the first line added, whatever its entry's
+ * number. The order is 14, 13, 1, then lines from the first, and in a line 2, 3,
+ * 4, 6, 5. A refused addition hands back the watch and the chart given.
+ * examples/add_at_noon.c is a whole program.
+ *
+ * An input of chronicle_list, and of the listing program, has no line that adds
+ * entries: its chart is fixed for the whole log.
  *
  *
  * THE TABLE
@@ -134,7 +178,8 @@
  *         the mark closes, exceed the rows that the table can hold
  *     13  watch or table out of joint: no history leaves them so (see below)
  *     14  a chart of no entries, of over 32, or with an entry that breaks the
- *         operator table; never a chart that chronicle_read_chart has taken
+ *         operator table; never a chart that chronicle_read_chart or
+ *         chronicle_add_lines has taken
  *     15  a row number not in use
  *     16  a tree longer than the output
  *
@@ -143,36 +188,42 @@
  *     chronicle_event        14, 13, 10, 9
  *     chronicle_clock        14, 13, 8, 12
  *     chronicle_forget       14, 13, 11
+ *     chronicle_add_lines    14, 13, then 1 to 6 of its lines
  *     chronicle_check        14, 13
  *     chronicle_rows_ending  14, 13: no rows; chronicle_check says which it was
  *     chronicle_tree         14, 13, 15, 16
  *
  * After a refusal all lent memory holds what it held before. A refused event,
- * mark or forget returns the watch given, so the caller may go on: after 12,
- * forget and mark again. A refused opening returns an empty watch at instant 0
- * with the floor at -1000000000, a refused tree the length 0.
+ * mark, forget or addition returns the watch given, so the caller may go on:
+ * after 12, forget and mark again. A refused opening returns an empty watch at
+ * instant 0 with the floor at -1000000000 and no entries: with a usable chart,
+ * every call on it is refused with 13. A refused tree returns the length 0.
  *
  * Out of joint is a watch or table with: the open instant or the floor out of
- * range, or the floor above the open instant; over 64 pending events, more of
- * them than events counted, or over 1000000 events; more rows than fit; a row
- * not in use that is not all zeros; or a row in use whose entry is not in the
- * chart, whose start is below the floor, whose end is not before the open
- * instant or is before the end of the row above it, whose references are not
- * lower rows of the operands, with -1 just where it belongs, whose start, end
- * (of after: d later than the row of a ends) or condition disagrees with them
- * (an absence's condition is not looked at; of cut and change it is only that r
- * ends before s starts, and a rival in the table is no fault), or an event's whose
- * serial is not 1 to the count or whose start is not its end.
+ * range, or the floor above the open instant; another number of entries than
+ * the chart's; an entry that counts from an instant below -1000000000, above
+ * the open instant or before that of the entry above it; over 64 pending
+ * events, more of them than events counted, or over 1000000 events; more rows
+ * than fit; a row not in use that is not all zeros; or a row in use whose entry
+ * is not in the chart, whose start is below the floor or before the instant
+ * from which its entry counts, whose end is not before the open instant or is
+ * before the end of the row above it, whose references are not lower rows of
+ * the operands, with -1 just where it belongs, whose start, end (of after: d
+ * later than the row of a ends) or condition disagrees with them (an absence's
+ * condition is not looked at; of cut and change it is only that r ends before s
+ * starts, and a rival in the table is no fault), or an event's whose serial is
+ * not 1 to the count or whose start is not its end.
  * It is found before anything is done: no call goes wrong on damaged memory.
  *
  *
  * MEMORY, THREADS, TIME
  *
  * All memory stays the caller's. A call touches only the `length` numbers or
- * bytes behind a pointer that it is given, keeps no pointer and allocates
- * nothing; answers are values, and there is nothing to free. No pointer may be
- * NULL, not even where its length is 0: pass any valid pointer then. A table
- * must be aligned for int32_t, and an output must not overlap the table.
+ * bytes, of added lines the `size` bytes, behind a pointer that it is given,
+ * keeps no pointer and allocates nothing; answers are values, and there is
+ * nothing to free. No pointer may be NULL, not even where its length is 0: pass
+ * any valid pointer then. A table must be aligned for int32_t, and an output
+ * must not overlap the table.
  *
  * There is no state between calls. Any number of threads may make calls at
  * once; on one table they may only do so while none of them writes to it.
@@ -180,8 +231,8 @@
  * No call makes a system call, sets errno, or runs on for ever. No call needs
  * more than CHRONICLE_STACK bytes of stack, whatever it is given. What a call
  * costs stands above it. "A check" there is one look at each entry of the chart
- * and one walk of the table: constant work for each row in use, and one look at
- * every number of the other rows.
+ * and at the instant from which it counts, and one walk of the table: constant
+ * work for each row in use, and one look at every number of the other rows.
  */
 #ifndef CHRONICLE_H
 #define CHRONICLE_H
@@ -239,7 +290,16 @@ struct chronicle_chart_answer {
 /*
  * A watch: the open instant, the floor, how many events were accepted, how many rows are in use, and the events of the
  * open instant: how many, and their codes in their order. The codes behind these are zeros in a watch that calls have
- * made. No call looks at them; an event and a forget leave them as they are, and a mark sets all codes to 0.
+ * made. No call looks at them; an event, a forget and an addition leave them as they are, and a mark sets all codes to 0.
+ * Then how many entries there are, as many as the chart has, and for each the instant from which it counts. The instants
+ * behind these are zeros in a watch that calls have made. No call looks at them, and only an addition writes there, as
+ * many as it adds entries.
+ *
+ * chronicle_open fills in every field: a program sets none of them. `entries` and `since` came later than the others and
+ * made the struct longer, 232 bytes where it had 96: a program compiled with an earlier header must be compiled again,
+ * not only linked. A watch that was stored before has neither; read back with zeros behind it, it has no entries and is
+ * refused with 13. With the chart's count for `entries` and -1000000000 in that many places of `since`, it is the watch
+ * that it was.
  */
 struct chronicle_watch {
     int32_t instant;
@@ -248,12 +308,26 @@ struct chronicle_watch {
     size_t rows;
     size_t pending;
     uint8_t codes[64];
+    size_t entries;
+    int32_t since[32];
 };
 
 /* What a call on a watch answers: the refusal's number, 0 for none, and the new watch. */
 struct chronicle_answer {
     uint32_t refusal;
     struct chronicle_watch watch;
+};
+
+/*
+ * What an addition answers: the refusal's number and the line, both 0 where it is taken, and the watch and the chart to go
+ * on with: the new ones, or where it is refused those given. The line is counted from the first line added; for 14 and 13
+ * it is 0.
+ */
+struct chronicle_addition {
+    uint32_t refusal;
+    uint32_t line;
+    struct chronicle_watch watch;
+    struct chronicle_chart chart;
 };
 
 /*
@@ -298,7 +372,8 @@ struct chronicle_answer chronicle_event(struct chronicle_watch watch, struct chr
 /*
  * A clock mark: closes every instant from the open one to the last before the mark, and opens the mark's own. Time: a
  * check and a search for new rows at the open instant and at each later one at which a row of after is due. The instants
- * between cost nothing, however many they are. New rows are those that end at the instant closed. An entry looks
+ * between cost nothing, however many they are. New rows are those that end at the instant closed. For an added entry the
+ * rows that started before it counts are looked at like the others, and give none. An entry looks
  *
  *     event                       at the pending events, at the open instant alone
  *     after                       at the rows, old or new, that ended d before, found by two
@@ -333,9 +408,9 @@ struct chronicle_answer chronicle_event(struct chronicle_watch watch, struct chr
  * stand so already, two writes of each where no start is before the one above it, otherwise k log k steps.
  *
  * At each of these instants an after also finds when its next row is due: by one or two binary searches, and one look at
- * each row that ended d before an instant between this one and the mark, up to the first one of a. Every later instant
- * gives a new row, so that the rows that fit bound how many there are. Where no event is pending and nothing is due, rows
- * are looked at for after alone, each by one mark.
+ * each row that ended d before an instant between this one and the mark, up to the first one of a that starts no earlier
+ * than the after counts. Every later instant gives a new row, so that the rows that fit bound how many there are. Where no
+ * event is pending and nothing is due, rows are looked at for after alone, each by one mark.
  */
 CHRONICLE_CALL
 struct chronicle_answer chronicle_clock(struct chronicle_watch watch, struct chronicle_chart chart, int32_t *table,
@@ -348,6 +423,15 @@ struct chronicle_answer chronicle_clock(struct chronicle_watch watch, struct chr
 CHRONICLE_CALL
 struct chronicle_answer chronicle_forget(struct chronicle_watch watch, struct chronicle_chart chart, int32_t *table,
                                          size_t length, int32_t floor);
+
+/*
+ * Adds lines, `size` bytes, to the chart of an open watch, numbered on from its last entry; the new entries count from the
+ * open instant. The table is checked and not altered. Time: a check, and proportional to the bytes of the lines up to that
+ * of a 33rd entry.
+ */
+CHRONICLE_CALL
+struct chronicle_addition chronicle_add_lines(struct chronicle_watch watch, struct chronicle_chart chart,
+                                              const int32_t *table, size_t length, const uint8_t *bytes, size_t size);
 
 /* The number that every call on this watch, chart and table is refused with: 14, 13, or 0 for none. Time: a check. */
 CHRONICLE_CALL

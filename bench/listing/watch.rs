@@ -27,7 +27,7 @@ impl Watch {
             entries_of_code[entry.first as usize] |= 1 << number;
         }
         Ok(Watch {
-            watch: interface::Watch::empty(instant as i32),
+            watch: interface::Watch::opened(instant as i32, entries.len()),
             chart: chart_value::of(entries),
             table: vec![UNUSED; table_rows].into(),
             index: Index::new(entries.len()),

@@ -16,16 +16,29 @@ use measure::{print_line, print_method, taken, Call, Order, Workload};
 
 const ROWS_IN_USE: [usize; 4] = [100, 1_000, 10_000, 60_000];
 
+const CALLS: [&str; 8] = [
+    "check", "mark, none pending", "mark, few new", "mark, many new", "forget a tenth", "forget half", "add a line",
+    "add 22 lines",
+];
+
 /// Stage settled (1), shutter opened (2), focus moved (3), temperature sampled (4); and 5, which only fills the table.
 const CHART: &[u8] = b"0\tevent\t1\n1\tevent\t2\n2\tevent\t3\n3\tevent\t4\n4\tevent\t5\n\
     5\tseq\t0\t1\n6\t-[]\t5\t2\n7\tor\t2\t3\n8\tatmost\t7\t5\n9\tequals\t0\t0\n";
+
+const LINE: &[u8] = b"10\tseq\t0\t7\n";
+/// As many as the chart has room for.
+const LINES: &[u8] =
+    b"10\tseq\t0\t7\n11\tcut\t0\t1\n12\tafter\t10\t5000\n13\t-[]\t12\t2\n14\tevent\t6\n15\tand\t14\t3\n\
+    16\tmeets\t12\t1\n17\toverlaps\t10\t11\n18\tstarts\t0\t5\n19\tduring\t2\t5\n20\tfinishes\t1\t5\n21\tequals\t2\t3\n\
+    22\tlasts\t20\t30\n23\tatmost\t5\t400\n24\tatleast\t5\t400\n25\t-][\t24\t0\n26\t-[[\t24\t1\n27\t-]]\t24\t2\n\
+    28\tchange\t5\t1\n29\tor\t28\t11\n30\tafter\t29\t2000000000\n31\tevent\t255\n";
 
 fn main() {
     let has_argument = |wanted: &str| std::env::args().any(|argument| argument == wanted);
     let order = if has_argument("--any-order") { Order::Any } else { Order::Same };
     println!("                     rows     new    plain   proved          plain  proved");
     println!("call               in use    rows       us       us  ratio  ns/row  ns/row");
-    for name in ["check", "mark, none pending", "mark, few new", "mark, many new", "forget a tenth", "forget half"] {
+    for name in CALLS {
         for rows in ROWS_IN_USE {
             print_line(&workload(name, rows), order, |in_use, _| in_use);
         }
@@ -50,6 +63,8 @@ fn workload(name: &'static str, rows: usize) -> Workload {
         "check" => Call::Check,
         "forget a tenth" => Call::Forget(start_of(rows / 10)),
         "forget half" => Call::Forget(start_of(rows / 2)),
+        "add a line" => Call::Add(LINE),
+        "add 22 lines" => Call::Add(LINES),
         _ => Call::Clock(next),
     };
     let codes = match name {

@@ -4,7 +4,7 @@
 #[path = "../../tests/common/proved_watch.rs"]
 mod proved_watch;
 
-use common::interface::{Answer, Calls, Chart, Watch};
+use common::interface::{Addition, Answer, Calls, Chart, Watch};
 use common::plain_watch::{self, Plain};
 use common::timing::{median, processor_time};
 use std::hint::black_box;
@@ -18,6 +18,7 @@ pub enum Call {
     Check,
     Clock(i32),
     Forget(i32),
+    Add(&'static [u8]),
 }
 
 pub struct Workload {
@@ -56,13 +57,19 @@ pub fn taken(answer: Answer) -> Watch {
     answer.watch
 }
 
-fn play(calls: &Calls, workload: &Workload, table: &mut [i32]) -> Answer {
+/// What a call answers, and the chart after it.
+fn play(calls: &Calls, workload: &Workload, table: &mut [i32]) -> (Answer, Chart) {
     let Workload { watch, chart, call, .. } = workload;
-    match *call {
+    let answer = match *call {
         Call::Check => Answer { refusal: (calls.check)(*watch, *chart, table), watch: *watch },
         Call::Clock(instant) => (calls.clock)(*watch, *chart, table, instant),
         Call::Forget(floor) => (calls.forget)(*watch, *chart, table, floor),
-    }
+        Call::Add(lines) => {
+            let Addition { refusal, watch, chart, .. } = (calls.add_lines)(*watch, *chart, table, lines);
+            return (Answer { refusal, watch }, chart);
+        }
+    };
+    (answer, *chart)
 }
 
 /// Returns how many rows are new.
@@ -71,7 +78,7 @@ fn compare(workload: &Workload, plain: &Calls, proved: &Calls, order: Order) -> 
     let (answer, other) = (play(plain, workload, &mut by_plain), play(proved, workload, &mut by_proved));
     let is_same = by_plain == by_proved || (order == Order::Any && intervals(&by_plain) == intervals(&by_proved));
     assert!(answer == other && is_same, "the two watches differ on: {}", workload.name);
-    taken(answer).rows.saturating_sub(workload.watch.rows)
+    taken(answer.0).rows.saturating_sub(workload.watch.rows)
 }
 
 /// End, entry and start of each row: what does not depend on the order of rows.

@@ -6,12 +6,17 @@ use crate::plain_chart::{has_lower_operands, is_in_range, operator, Entry, Opera
 
 /// The chart of 1 to 32 sound entries; blank entries follow them.
 pub fn of(entries: &[Entry]) -> Chart {
-    let mut chart = Chart::no_entries();
-    for (place, entry) in chart.entries.iter_mut().zip(entries) {
+    with_added(&Chart::no_entries(), entries)
+}
+
+/// A chart of at most 32 entries with more behind them, all together at most 32; what stands behind these stays.
+pub fn with_added(chart: &Chart, added: &[Entry]) -> Chart {
+    let mut longer = *chart;
+    for (place, entry) in longer.entries.iter_mut().skip(chart.count).zip(added) {
         *place = interface::Entry { op: code(entry.operator), a: entry.first as u32, b: entry.second as u32 };
     }
-    chart.count = entries.len();
-    chart
+    longer.count += added.len();
+    longer
 }
 
 fn code(searched: Operator) -> u8 {

@@ -3,6 +3,8 @@
 
 pub const MOST_ENTRIES: usize = 32;
 pub const MOST_PENDING: usize = 64;
+/// The floor of an opened watch, from which the entries of its opening count.
+pub const FIRST_FLOOR: i32 = -1_000_000_000;
 
 #[repr(C)]
 #[derive(Clone, Copy, Debug, PartialEq)]
@@ -36,6 +38,9 @@ pub struct Watch {
     pub rows: usize,
     pub pending: usize,
     pub codes: [u8; 64],
+    pub entries: usize,
+    /// The instant from which each entry counts.
+    pub since: [i32; 32],
 }
 
 #[repr(C)]
@@ -43,6 +48,16 @@ pub struct Watch {
 pub struct Answer {
     pub refusal: u32,
     pub watch: Watch,
+}
+
+/// What an addition answers: the refusal's number and the line, both 0 where it is taken; watch and chart after it.
+#[repr(C)]
+#[derive(Clone, Copy, Debug, PartialEq)]
+pub struct Addition {
+    pub refusal: u32,
+    pub line: u32,
+    pub watch: Watch,
+    pub chart: Chart,
 }
 
 /// The rows `first` to `first + count - 1`. Where no row has the end asked for, `count` is 0 and `first` is how many
@@ -72,6 +87,7 @@ pub struct Calls {
     pub check: fn(Watch, Chart, &[i32]) -> u32,
     pub rows_ending: fn(Watch, Chart, &[i32], i32) -> Rows,
     pub tree: fn(Watch, Chart, &[i32], usize, &mut [u8]) -> TreeAnswer,
+    pub add_lines: fn(Watch, Chart, &[i32], &[u8]) -> Addition,
 }
 
 impl Chart {
@@ -81,8 +97,16 @@ impl Chart {
 }
 
 impl Watch {
-    /// "Floor -1,000,000,000, counts 0, no events."
+    /// "Floor -1,000,000,000, counts 0, no events"; and of entries, "an empty watch has none".
     pub fn empty(instant: i32) -> Watch {
-        Watch { instant, floor: -1_000_000_000, events: 0, rows: 0, pending: 0, codes: [0; MOST_PENDING] }
+        let (codes, since) = ([0; MOST_PENDING], [0; MOST_ENTRIES]);
+        Watch { instant, floor: FIRST_FLOOR, events: 0, rows: 0, pending: 0, codes, entries: 0, since }
+    }
+
+    /// What an opening under a chart of so many entries, at most 32, hands back: each counts from the opening floor.
+    pub fn opened(instant: i32, entries: usize) -> Watch {
+        let mut watch = Watch { entries, ..Watch::empty(instant) };
+        watch.since[..entries].fill(FIRST_FLOOR);
+        watch
     }
 }

@@ -153,9 +153,15 @@ fn entry_of(line: &[u8], index: usize) -> Result<Entry, u32> {
 
 /// The entries of a chart, or why it is refused: "lines from the first".
 pub fn read(bytes: &[u8]) -> Result<Vec<Entry>, Verdict> {
+    read_more(0, bytes)
+}
+
+/// The entries of lines that are added to a chart of so many, "numbered on from the last entry", or why they are
+/// refused: "the chart reader's number and line, counted from the first added line, 2 now being a 33rd entry".
+pub fn read_more(before: usize, bytes: &[u8]) -> Result<Vec<Entry>, Verdict> {
     let mut entries = Vec::with_capacity(MOST_ENTRIES);
-    for (index, line) in lines(bytes).enumerate() {
-        let entry = entry_of(line, index).map_err(|refusal| Verdict { refusal, line: index as u32 + 1 })?;
+    for (place, line) in lines(bytes).enumerate() {
+        let entry = entry_of(line, before + place).map_err(|refusal| Verdict { refusal, line: place as u32 + 1 })?;
         entries.push(entry);
     }
     if entries.is_empty() {

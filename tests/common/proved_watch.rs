@@ -1,6 +1,6 @@
 //! The proved watch, linked from the archive that `rt staticlib host` writes. include/chronicle.h declares the same.
 
-use common::interface::{Answer, Calls, Chart, ChartAnswer, Rows, TreeAnswer, Watch};
+use common::interface::{Addition, Answer, Calls, Chart, ChartAnswer, Rows, TreeAnswer, Watch};
 
 #[link(name = "host", kind = "static")]
 extern "C" {
@@ -20,11 +20,19 @@ extern "C" {
         out: *mut u8,
         out_length: usize,
     ) -> TreeAnswer;
+    fn chronicle_add_lines(
+        watch: Watch,
+        chart: Chart,
+        table: *const i32,
+        length: usize,
+        bytes: *const u8,
+        size: usize,
+    ) -> Addition;
 }
 
 // The sizes that the C compiler gives the structs, and the archive's code takes them to have.
 const _: () = assert!(size_of::<Chart>() == 392 && size_of::<ChartAnswer>() == 400);
-const _: () = assert!(size_of::<Watch>() == 96 && size_of::<Answer>() == 104);
+const _: () = assert!(size_of::<Watch>() == 232 && size_of::<Answer>() == 240 && size_of::<Addition>() == 632);
 
 // SAFETY of every call: a slice is valid for its whole length during the call, a mutable one is lent to nobody else,
 // and no call keeps a pointer.
@@ -44,5 +52,8 @@ pub const CALLS: Calls = Calls {
     },
     tree: |watch, chart, table, row, out| unsafe {
         chronicle_tree(watch, chart, table.as_ptr(), table.len(), row, out.as_mut_ptr(), out.len())
+    },
+    add_lines: |watch, chart, table, bytes| unsafe {
+        chronicle_add_lines(watch, chart, table.as_ptr(), table.len(), bytes.as_ptr(), bytes.len())
     },
 };

@@ -1,5 +1,6 @@
 //! Charts from a seed: valid ones, and ones damaged as a careless hand, a wrong editor or a broken line would.
 
+use crate::paper::number;
 use crate::plain_chart::{operator, Operator, WORDS};
 use crate::random::Random;
 
@@ -10,6 +11,8 @@ type Damage = fn(&mut Random, &mut Lines);
 const CODES: [u64; 5] = [0, 1, 99, 254, 255];
 const LENGTHS: [u64; 6] = [0, 1, 5, 1_000_000, 1_999_999_999, 2_000_000_000];
 const LINE_COUNTS: [usize; 14] = [0, 1, 2, 3, 4, 5, 8, 16, 30, 31, 32, 32, 33, 34];
+/// Two more than a chart may have.
+const MOST_LINES: usize = 34;
 
 /// Spellings that are no number, and numbers at the edges of a range or of a machine word.
 pub const SPELLINGS: [&str; 30] = [
@@ -37,13 +40,19 @@ const DAMAGES: [Damage; 21] = [
 
 /// A chart of so many lines, 1 to 32, that every reader must take.
 pub fn valid(random: &mut Random, line_count: usize) -> Vec<u8> {
-    valid_lines(random, line_count).concat()
+    (0..line_count).flat_map(|index| valid_line(random, index)).collect()
 }
 
 /// A chart of 0 to 34 lines, sound but for their count or damaged in one to three places.
 pub fn any(random: &mut Random) -> Vec<u8> {
+    any_more(random, 0)
+}
+
+/// Such lines to be added to a chart of so many entries: up to two more than it may have.
+pub fn any_more(random: &mut Random, before: usize) -> Vec<u8> {
     let line_count = if random.one_in(2) { random.pick(&LINE_COUNTS) } else { 1 + random.below(32) };
-    let mut lines = valid_lines(random, line_count);
+    let line_count = if before == 0 { line_count } else { line_count % (MOST_LINES - before + 1) };
+    let mut lines: Lines = (before..before + line_count).map(|index| valid_line(random, index)).collect();
     if !random.one_in(4) {
         for _ in 0..1 + random.below(3) {
             let damage = random.pick(&DAMAGES);
@@ -53,10 +62,6 @@ pub fn any(random: &mut Random) -> Vec<u8> {
         }
     }
     lines.concat()
-}
-
-fn valid_lines(random: &mut Random, line_count: usize) -> Lines {
-    (0..line_count).map(|index| valid_line(random, index)).collect()
 }
 
 fn valid_line(random: &mut Random, index: usize) -> Vec<u8> {
@@ -215,20 +220,14 @@ fn add_field(random: &mut Random, lines: &mut Lines) {
 /// An entry number that is not the next, by one or by a machine word.
 fn misnumber(random: &mut Random, lines: &mut Lines) {
     let off = random.pick(&[1u64, 2, 1 << 8, 1 << 16, 1 << 32]);
-    change_fields(random, lines, |_, index, fields| {
-        let number = index as u64 + off;
-        set_field(fields, 0, &number.to_string());
-    });
+    change_fields(random, lines, |_, number, fields| set_field(fields, 0, &(number + off).to_string()));
 }
 
 /// An operand that is the entry itself, a later one, or one that is lower only when cut to a machine word.
 fn raise_operand(random: &mut Random, lines: &mut Lines) {
     let above = random.pick(&[0u64, 0, 1, 2, (1 << 8) - 1, (1 << 16) - 1, (1 << 32) - 1]);
     let place = random.pick(&[2, 3]);
-    change_fields(random, lines, |_, index, fields| {
-        let number = index as u64 + above;
-        set_field(fields, place, &number.to_string());
-    });
+    change_fields(random, lines, |_, number, fields| set_field(fields, place, &(number + above).to_string()));
 }
 
 /// A code or a length above its range, some of them in range when cut to a machine word.
@@ -246,12 +245,14 @@ fn set_field(fields: &mut [Vec<u8>], place: usize, text: &str) {
     }
 }
 
-/// Takes one line apart at its tabs, has its fields changed, and puts it together again with a byte 10.
-fn change_fields(random: &mut Random, lines: &mut Lines, change: impl FnOnce(&mut Random, usize, &mut Vec<Vec<u8>>)) {
+/// Takes one line apart at its tabs, has its fields changed, by the entry number that it has or by its place where it
+/// has none, and puts it together again with a byte 10.
+fn change_fields(random: &mut Random, lines: &mut Lines, change: impl FnOnce(&mut Random, u64, &mut Vec<Vec<u8>>)) {
     let index = any_line(random, lines);
     let text = lines[index].strip_suffix(b"\n").unwrap_or(&lines[index]);
     let mut fields: Vec<Vec<u8>> = text.split(|byte| *byte == b'\t').map(<[u8]>::to_vec).collect();
-    change(random, index, &mut fields);
+    let entry_number = number(&fields[0]).unwrap_or(index as u64);
+    change(random, entry_number, &mut fields);
     lines[index] = fields.join(&b'\t');
     lines[index].push(b'\n');
 }

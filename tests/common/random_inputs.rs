@@ -1,7 +1,7 @@
 //! Inputs of the listing program from a seed: a chart, an empty line and a log, small enough for all recognitions to be
 //! enumerated.
 
-use crate::plain_chart::{operator, Operator, WORDS};
+use crate::plain_chart::{operator, Entry, Operator, WORDS};
 use crate::random::Random;
 
 /// The most leaves of a recognition's tree in `any`.
@@ -47,10 +47,37 @@ pub fn nearest_chart(random: &mut Random, operators: usize, most_leaves: usize) 
     chart_of(random, event_entries, &draws, most_leaves)
 }
 
+/// So many sound lines more for a chart of these entries: events too, and operators over entries old and new.
+pub fn more_lines(random: &mut Random, chart: &[Entry], count: usize, most_leaves: usize) -> String {
+    let kinds: [DrawEntry; 10] =
+        [late_event, entry, entry_over_last, relation, relation, condition, condition, delay, interval, nearest];
+    let draws: Vec<DrawEntry> = (0..count).map(|_| random.pick(&kinds)).collect();
+    lines_of(random, leaves_of(chart), &draws, most_leaves)
+}
+
+/// The leaves of a recognition's tree of each entry, or the most that it may have.
+fn leaves_of(chart: &[Entry]) -> Vec<usize> {
+    let mut leaves: Vec<usize> = Vec::new();
+    for entry in chart {
+        let of = |operand: u64| leaves[operand as usize];
+        leaves.push(match entry.operator {
+            Operator::Event => 1,
+            Operator::Or => of(entry.first).max(of(entry.second)),
+            Operator::Pair(_) | Operator::Nearest(_) => of(entry.first) + of(entry.second),
+            Operator::Absence(..) | Operator::Length(_) | Operator::After => of(entry.first),
+        });
+    }
+    leaves
+}
+
 fn chart_of(random: &mut Random, event_entries: usize, draws: &[DrawEntry], most_leaves: usize) -> String {
-    let mut leaves: Vec<usize> = vec![1; event_entries];
-    let mut text: String =
-        (0..event_entries).map(|index| format!("{index}\t{}\n", event_entry(random, index))).collect();
+    let events: String = (0..event_entries).map(|index| format!("{index}\t{}\n", event_entry(random, index))).collect();
+    events + &lines_of(random, vec![1; event_entries], draws, most_leaves)
+}
+
+/// A line for each draw, behind entries with these leaves.
+fn lines_of(random: &mut Random, mut leaves: Vec<usize>, draws: &[DrawEntry], most_leaves: usize) -> String {
+    let mut text = String::new();
     for draw in draws {
         let (rest, count) = draw(random, &leaves, most_leaves);
         text += &format!("{}\t{rest}\n", leaves.len());
@@ -106,6 +133,12 @@ fn event_entry(random: &mut Random, index: usize) -> String {
     format!("event\t{code}")
 }
 
+/// An event behind operators, mostly of a code that an earlier entry names too.
+fn late_event(random: &mut Random, _: &[usize], _: usize) -> (String, usize) {
+    let index = random.below(3);
+    (event_entry(random, index), 1)
+}
+
 fn entry(random: &mut Random, leaves: &[usize], most_leaves: usize) -> (String, usize) {
     let operands = (random.below(leaves.len()), random.below(leaves.len()));
     entry_over(random, operands, leaves, most_leaves)
@@ -150,6 +183,24 @@ fn interval(random: &mut Random, leaves: &[usize], _: usize) -> (String, usize) 
     }
 }
 
+/// A relation of two entries, rather of later ones than of events; of events where too many leaves are drawn.
+fn relation(random: &mut Random, leaves: &[usize], most_leaves: usize) -> (String, usize) {
+    let (a, b) = later_operands(random, leaves, most_leaves);
+    let word = random.pick(&["meets", "overlaps", "overlaps", "starts", "during", "during", "finishes", "equals"]);
+    (format!("{word}\t{a}\t{b}"), leaves[a] + leaves[b])
+}
+
+/// An absence or a length test of one entry, rather of a later one than of an event.
+fn condition(random: &mut Random, leaves: &[usize], _: usize) -> (String, usize) {
+    let mut operand = || random.below(leaves.len()).max(random.below(leaves.len()));
+    let (a, b) = (operand(), operand());
+    let (word, second) = match random.below(7) {
+        0..=3 => (random.pick(&["-[]", "-][", "-[[", "-]]"]), b),
+        _ => (random.pick(&["lasts", "lasts", "atmost", "atleast"]), random.below(6)),
+    };
+    (format!("{word}\t{a}\t{second}"), leaves[a])
+}
+
 /// The last entry's rows among those of another, which may begin and end within them.
 fn mixed(random: &mut Random, leaves: &[usize], _: usize) -> (String, usize) {
     let (last, other) = (leaves.len() - 1, random.below(leaves.len()));
@@ -158,10 +209,15 @@ fn mixed(random: &mut Random, leaves: &[usize], _: usize) -> (String, usize) {
 
 /// A `cut` or a `change`, rather of later entries than of events; of events where too many leaves are drawn.
 fn nearest(random: &mut Random, leaves: &[usize], most_leaves: usize) -> (String, usize) {
+    let (a, b) = later_operands(random, leaves, most_leaves);
+    (format!("{}\t{a}\t{b}", random.pick(&["cut", "change"])), leaves[a] + leaves[b])
+}
+
+/// Two operands, rather later ones; the first entry twice where they have too many leaves.
+fn later_operands(random: &mut Random, leaves: &[usize], most_leaves: usize) -> (usize, usize) {
     let mut operand = || random.below(leaves.len()).max(random.below(leaves.len()));
     let mut drawn = (0..4).map(|_| (operand(), operand()));
-    let (a, b) = drawn.find(|(a, b)| leaves[*a] + leaves[*b] <= most_leaves).unwrap_or((0, 0));
-    (format!("{}\t{a}\t{b}", random.pick(&["cut", "change"])), leaves[a] + leaves[b])
+    drawn.find(|(a, b)| leaves[*a] + leaves[*b] <= most_leaves).unwrap_or((0, 0))
 }
 
 fn delay_length(random: &mut Random) -> u32 {

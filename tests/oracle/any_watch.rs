@@ -8,8 +8,8 @@ use crate::layout::{self, flat, rows_held, rows_in_use};
 use crate::model::{Call, INSTANTS, MOST_EVENTS, MOST_PENDING};
 use crate::recognitions::Row;
 use common::chart_value;
-use common::interface::{Answer, Chart, Watch};
-use common::plain_chart::{Entry, Nearest, Operator, Relation};
+use common::interface::{Addition, Answer, Chart, Watch, FIRST_FLOOR};
+use common::plain_chart::{self, Entry, Nearest, Operator, Relation, Verdict};
 use std::cmp::Reverse;
 use std::ops::Range;
 
@@ -26,7 +26,21 @@ pub fn open(chart: &Chart, table: &[i32], instant: i32) -> Outcome {
     if refusal != 0 {
         return (Answer { refusal, watch: Watch::empty(0) }, table.to_vec());
     }
-    (Answer { refusal, watch: Watch::empty(instant) }, flat(&[], table))
+    (Answer { refusal, watch: Watch::opened(instant, chart.count) }, flat(&[], table))
+}
+
+/// "After 14 and 13, whose line is 0, bad lines, or none, give the chart reader's number and line, [...] and the old
+/// chart and watch stay." An addition that is taken leaves the table, too.
+pub fn add_lines(watch: &Watch, chart: &Chart, table: &[i32], lines: &[u8]) -> Addition {
+    let consistent = entries_consistent(watch, chart, table).map_err(|refusal| Verdict { refusal, line: 0 });
+    match consistent.and_then(|entries| plain_chart::read_more(entries.len(), lines)) {
+        Ok(added) => {
+            let mut next = Watch { entries: watch.entries + added.len(), ..*watch };
+            (watch.entries..next.entries).for_each(|number| next.since[number] = watch.instant);
+            Addition { refusal: 0, line: 0, watch: next, chart: chart_value::with_added(chart, &added) }
+        }
+        Err(Verdict { refusal, line }) => Addition { refusal, line, watch: *watch, chart: *chart },
+    }
 }
 
 /// 14, 13 or 0 for none.
@@ -132,13 +146,13 @@ fn delayed_ends<'a>(chart: &'a [Entry], rows: &'a [Row]) -> impl Iterator<Item =
     })
 }
 
-/// Adds, entry by entry, the rows that end at an instant; none where they are more than fit. An entry's rows stand
-/// "later start first, then the order of document 01", in which they are made and which a stable sort leaves; later
-/// entries refer to them there.
+/// Adds, entry by entry, the rows that end at an instant and start no earlier than their entry counts; none where they
+/// are more than fit. An entry's rows stand "later start first, then the order of document 01", in which they are made
+/// and which a stable sort leaves; later entries refer to them there.
 fn add_rows_ending(instant: i64, watch: &Watch, chart: &[Entry], held: usize, rows: &mut Vec<Row>) -> Option<()> {
     for (number, entry) in chart.iter().enumerate() {
-        let ends_now = |row: &Row| row.end == instant;
-        let mut made: Vec<Row> = rows_of(watch, number, entry, rows).filter(ends_now).take(held + 1).collect();
+        let is_due = |row: &Row| row.end == instant && row.start >= i64::from(watch.since[number]);
+        let mut made: Vec<Row> = rows_of(watch, number, entry, rows).filter(is_due).take(held + 1).collect();
         made.sort_by_key(|row| Reverse(row.start));
         rows.extend(made);
         if rows.len() > held {
@@ -146,6 +160,18 @@ fn add_rows_ending(instant: i64, watch: &Watch, chart: &[Entry], held: usize, ro
         }
     }
     Some(())
+}
+
+/// The rows that a mark would have added to those that it left, had their entries counted from the opening: what is
+/// made of these rows and starts too early for its entry.
+pub fn barred_rows(watch: &Watch, chart: &[Entry], rows: &[Row], mark: i64) -> Vec<Row> {
+    let closed = i64::from(watch.instant)..mark;
+    let of_entry = |(number, entry): (usize, &Entry)| {
+        let is_barred = |row: &Row| closed.contains(&row.end) && row.start < i64::from(watch.since[number]);
+        rows_of(watch, number, entry, rows).filter(is_barred).collect::<Vec<Row>>()
+    };
+    let added = chart.iter().enumerate().filter(|(number, _)| watch.since[*number] > FIRST_FLOOR);
+    added.flat_map(of_entry).collect()
 }
 
 /// What an entry's line of the operator table makes of the pending events, which are at the open instant, and the rows,

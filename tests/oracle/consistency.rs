@@ -1,4 +1,4 @@
-//! When watch and table are out of joint with a chart: document 01, "Out of joint", cause by cause.
+//! When watch and table are out of joint with a chart: document 01, "Out of joint", and request N13, cause by cause.
 
 use crate::conditions::{has_length, is_related, Interval};
 use crate::layout::rows_held;
@@ -29,9 +29,14 @@ pub enum Cause {
     ConditionDisagrees,
     SerialOutOfRange,
     EventStartNotEnd,
+    EntriesNotAsInChart,
+    EntryInstantBelowRange,
+    EntryInstantAboveOpen,
+    EntryInstantFalls,
+    StartBeforeEntryInstant,
 }
 
-pub const CAUSES: [Cause; 19] = [
+pub const CAUSES: [Cause; 24] = [
     Cause::OpenInstantOutOfRange,
     Cause::FloorOutOfRange,
     Cause::FloorAboveOpenInstant,
@@ -51,6 +56,11 @@ pub const CAUSES: [Cause; 19] = [
     Cause::ConditionDisagrees,
     Cause::SerialOutOfRange,
     Cause::EventStartNotEnd,
+    Cause::EntriesNotAsInChart,
+    Cause::EntryInstantBelowRange,
+    Cause::EntryInstantAboveOpen,
+    Cause::EntryInstantFalls,
+    Cause::StartBeforeEntryInstant,
 ];
 
 /// Five numbers of the table, whatever they are.
@@ -66,6 +76,7 @@ struct Numbers {
 pub fn causes(watch: &Watch, chart: &[Entry], table: &[i32]) -> BTreeSet<Cause> {
     let mut found = BTreeSet::new();
     add_causes_of_watch(watch, &mut found);
+    add_causes_of_entries(watch, chart.len(), &mut found);
     let held = rows_held(table.len());
     if watch.rows > held {
         found.insert(Cause::MoreRowsThanFit);
@@ -102,8 +113,21 @@ fn add_causes_of_watch(watch: &Watch, found: &mut BTreeSet<Cause>) {
     found.extend(causes.into_iter().filter(|(holds, _)| *holds).map(|(_, cause)| cause));
 }
 
+/// "A watch with another number of entries than the chart is out of joint", and an entry's instant "may not fall from
+/// one entry to the next, nor lie below -1,000,000,000 or above the open instant". The places behind are not looked at.
+fn add_causes_of_entries(watch: &Watch, entries: usize, found: &mut BTreeSet<Cause>) {
+    let since = &watch.since[..entries.min(watch.entries)];
+    let causes = [
+        (watch.entries != entries, Cause::EntriesNotAsInChart),
+        (since.iter().any(|instant| i64::from(*instant) < *INSTANTS.start()), Cause::EntryInstantBelowRange),
+        (since.iter().any(|instant| *instant > watch.instant), Cause::EntryInstantAboveOpen),
+        (since.windows(2).any(|pair| pair[1] < pair[0]), Cause::EntryInstantFalls),
+    ];
+    found.extend(causes.into_iter().filter(|(holds, _)| *holds).map(|(_, cause)| cause));
+}
+
 /// "A row whose entry is not in the chart, start is below the floor, end is not before the open instant or is before
-/// its predecessor's end, ..."
+/// its predecessor's end, ..."; "the out-of-joint rule" uses "the entry's own instant" too.
 fn add_causes_of_row(watch: &Watch, chart: &[Entry], rows: &[Numbers], index: usize, found: &mut BTreeSet<Cause>) {
     let row = rows[index];
     if row.interval.start < i64::from(watch.floor) {
@@ -115,7 +139,11 @@ fn add_causes_of_row(watch: &Watch, chart: &[Entry], rows: &[Numbers], index: us
     if index > 0 && row.interval.end < rows[index - 1].interval.end {
         found.insert(Cause::EndBeforePredecessors);
     }
-    match usize::try_from(row.entry).ok().and_then(|number| chart.get(number)) {
+    let number = usize::try_from(row.entry).ok().filter(|number| *number < chart.len());
+    if number.is_some_and(|number| row.interval.start < i64::from(watch.since[number])) {
+        found.insert(Cause::StartBeforeEntryInstant);
+    }
+    match number.map(|number| &chart[number]) {
         None => drop(found.insert(Cause::EntryNotInChart)),
         Some(entry) if entry.operator == Operator::Event => add_causes_of_event(watch, row, found),
         Some(entry) => match operands(entry, row, &rows[..index]) {

@@ -3,12 +3,12 @@
 use crate::layout::{flat, rows_ending, rows_held};
 use crate::model::{Call, Model, Over, Refusal, MOST_PENDING};
 use crate::recognitions::{Recognitions, Row};
-use common::interface::Watch;
-use common::plain_chart::Entry;
+use common::interface::{Watch, MOST_ENTRIES};
+use common::plain_chart::{Entry, Verdict};
 use std::ops::Range;
 
-pub struct History<'a> {
-    model: Model<'a>,
+pub struct History {
+    model: Model,
     found: Recognitions,
     /// Which recognitions the rows are, in their order.
     in_order: Vec<usize>,
@@ -17,14 +17,9 @@ pub struct History<'a> {
     pub table: Vec<i32>,
 }
 
-impl<'a> History<'a> {
+impl History {
     /// An opening on a table, after which so many events, of codes that no entry names, have come and gone.
-    pub fn open(
-        chart: &'a [Entry],
-        table: &[i32],
-        instant: i32,
-        unlisted_events: usize,
-    ) -> Result<History<'a>, Refusal> {
+    pub fn open(chart: &[Entry], table: &[i32], instant: i32, unlisted_events: usize) -> Result<History, Refusal> {
         let model = Model::open(chart, rows_held(table.len()), Over::EventsFromFloor, instant.into())?;
         let model = model.with_unlisted_events(unlisted_events);
         let (found, in_order) = model.recognitions();
@@ -37,12 +32,23 @@ impl<'a> History<'a> {
     pub fn play(&mut self, call: Call) -> Result<(), Refusal> {
         self.model.play(call)?;
         if !matches!(call, Call::Event(_)) {
-            (self.found, self.in_order) = self.model.recognitions();
-            self.rows = self.found.rows(&self.in_order);
-            self.table = flat(&self.rows, &self.table);
+            self.lay_out_table();
         }
         self.lay_out_watch();
         Ok(())
+    }
+
+    /// An addition, taken or refused. Rows and table are laid out anew: "existing rows are unchanged".
+    pub fn add_lines(&mut self, lines: &[u8]) -> Result<(), Verdict> {
+        self.model.add_lines(lines)?;
+        self.lay_out_table();
+        self.lay_out_watch();
+        Ok(())
+    }
+
+    /// The chart as the last addition left it.
+    pub fn chart(&self) -> &[Entry] {
+        self.model.chart()
     }
 
     /// The numbers of the rows with this end; where there are none, the empty range at the place they would have.
@@ -56,10 +62,17 @@ impl<'a> History<'a> {
         Some(self.found.tree(index)).filter(|tree| tree.len() <= room).ok_or(16)
     }
 
+    fn lay_out_table(&mut self) {
+        (self.found, self.in_order) = self.model.recognitions();
+        self.rows = self.found.rows(&self.in_order);
+        self.table = flat(&self.rows, &self.table);
+    }
+
     fn lay_out_watch(&mut self) {
-        let mut codes = [0; MOST_PENDING];
+        let (mut codes, mut since) = ([0; MOST_PENDING], [0; MOST_ENTRIES]);
         let pending = self.model.pending();
         pending.iter().zip(&mut codes).for_each(|(event, code)| *code = event.code);
+        self.model.since().iter().zip(&mut since).for_each(|(instant, place)| *place = *instant as i32);
         self.watch = Watch {
             instant: self.model.open_instant as i32,
             floor: self.model.floor as i32,
@@ -67,6 +80,8 @@ impl<'a> History<'a> {
             rows: self.rows.len(),
             pending: pending.len(),
             codes,
+            entries: self.model.since().len(),
+            since,
         };
     }
 }

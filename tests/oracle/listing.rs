@@ -58,7 +58,7 @@ fn table_at_end(input: &[u8], table_rows: usize, over: Over) -> Result<Vec<Row>,
 }
 
 /// The model after the log's first line: 7 where it is no `open`.
-fn opened<'a>(chart: &'a [plain_chart::Entry], line: &[u8], table_rows: usize, over: Over) -> Result<Model<'a>, u32> {
+fn opened(chart: &[plain_chart::Entry], line: &[u8], table_rows: usize, over: Over) -> Result<Model, u32> {
     match record(line) {
         Some(Record::Open(instant)) => Model::open(chart, table_rows, over, instant),
         _ => Err(7),

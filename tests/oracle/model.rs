@@ -1,7 +1,8 @@
-//! The state that the calls on a watch determine, and the refusals 8 to 12. Document 01 calls it the book.
+//! The state that the calls on a watch determine, and the refusals 8 to 12. Document 01 calls it the book. Request N13
+//! adds lines to its chart.
 
 use crate::recognitions::{enumerate, Event, Limits, Recognitions, Row, NO_LIMITS};
-use common::plain_chart::Entry;
+use common::plain_chart::{self, Entry, Verdict};
 use std::ops::RangeInclusive;
 
 pub const INSTANTS: RangeInclusive<i64> = -1_000_000_000..=1_000_000_000;
@@ -16,7 +17,8 @@ pub enum Over {
     /// Those at the floor or later and before the instant asked for, and only recognitions that end before it. The same
     /// rows come out, since "the events of a recognition that starts at the floor or later are all at the floor or
     /// later, and so are those that could forbid it"; the rivals of `cut` and `change` start no earlier than r either.
-    /// tests.rs compares the two. No more are enumerated than the table can hold, and one.
+    /// Of an added entry, only those that start no earlier than it counts: the same is true of its instant. tests.rs
+    /// compares the two. No more are enumerated than the table can hold, and one.
     EventsFromFloor,
 }
 
@@ -31,8 +33,10 @@ pub enum Call {
     Forget(i64),
 }
 
-pub struct Model<'a> {
-    chart: &'a [Entry],
+pub struct Model {
+    chart: Vec<Entry>,
+    /// "For each entry, the instant from which it counts."
+    since: Vec<i64>,
     /// The rows that the table can hold.
     table_rows: usize,
     over: Over,
@@ -43,17 +47,18 @@ pub struct Model<'a> {
     events: Vec<Event>,
 }
 
-impl<'a> Model<'a> {
-    pub fn open(chart: &'a [Entry], table_rows: usize, over: Over, instant: i64) -> Result<Model<'a>, Refusal> {
+impl Model {
+    pub fn open(chart: &[Entry], table_rows: usize, over: Over, instant: i64) -> Result<Model, Refusal> {
         if !INSTANTS.contains(&instant) {
             return Err(8);
         }
         let floor = *INSTANTS.start();
-        Ok(Model { chart, table_rows, over, open_instant: instant, floor, unlisted: 0, events: Vec::new() })
+        let (chart, since) = (chart.to_vec(), vec![floor; chart.len()]);
+        Ok(Model { chart, since, table_rows, over, open_instant: instant, floor, unlisted: 0, events: Vec::new() })
     }
 
     /// The same as if so many events, of codes that no entry names, had come at instants before the open one.
-    pub fn with_unlisted_events(self, unlisted: usize) -> Model<'a> {
+    pub fn with_unlisted_events(self, unlisted: usize) -> Model {
         Model { unlisted, ..self }
     }
 
@@ -96,6 +101,24 @@ impl<'a> Model<'a> {
         Ok(())
     }
 
+    /// "The book turns one back when its lines are bad or none, by the chart reader's number, and otherwise takes it."
+    /// The added entries count from the open instant.
+    pub fn add_lines(&mut self, lines: &[u8]) -> Result<(), Verdict> {
+        let added = plain_chart::read_more(self.chart.len(), lines)?;
+        self.chart.extend(added);
+        self.since.resize(self.chart.len(), self.open_instant);
+        Ok(())
+    }
+
+    /// "The opened one with its additions."
+    pub fn chart(&self) -> &[Entry] {
+        &self.chart
+    }
+
+    pub fn since(&self) -> &[i64] {
+        &self.since
+    }
+
     /// How many events were accepted.
     pub fn event_count(&self) -> usize {
         self.unlisted + self.events.len()
@@ -121,24 +144,24 @@ impl<'a> Model<'a> {
     /// The recognitions found, and which of them the rows are, in their order.
     pub fn recognitions(&self) -> (Recognitions, Vec<usize>) {
         let found = self.enumerated(self.open_instant, usize::MAX).expect("their number is not limited");
-        let in_order = found.due_in_order(self.floor, self.open_instant);
+        let in_order = found.due_in_order(self.floor, &self.since, self.open_instant);
         (found, in_order)
     }
 
-    /// Whether the recognitions that end before the instant and start at the floor or later are no more than the rows
-    /// that the table can hold.
+    /// Whether the recognitions that end before the instant, and start at the floor or later and no earlier than their
+    /// entry counts, are no more than the rows that the table can hold.
     fn fits(&self, instant: i64) -> bool {
         let found = self.enumerated(instant, self.table_rows);
-        found.is_some_and(|found| found.due(self.floor, instant).count() <= self.table_rows)
+        found.is_some_and(|found| found.due(self.floor, &self.since, instant).count() <= self.table_rows)
     }
 
     /// All recognitions, or enough of them where only ends before the instant are asked for and no more than `most`.
     fn enumerated(&self, before: i64, most: usize) -> Option<Recognitions> {
         match self.over {
-            Over::AllEvents => enumerate(self.chart, &self.events, NO_LIMITS),
+            Over::AllEvents => enumerate(&self.chart, &self.events, NO_LIMITS),
             Over::EventsFromFloor => {
                 let events = &self.events[self.events_before(self.floor)..self.events_before(before)];
-                enumerate(self.chart, events, Limits { end_before: before, most })
+                enumerate(&self.chart, events, Limits { end_before: before, since: &self.since, most })
             }
         }
     }

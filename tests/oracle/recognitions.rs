@@ -3,7 +3,7 @@
 //! `change`.
 
 use crate::conditions::{has_length, is_forbidding, is_related, is_rival_of_first, is_rival_of_second, Interval};
-use common::plain_chart::{Entry, Nearest, Operator, Relation};
+use common::plain_chart::{Entry, Nearest, Operator, Relation, MOST_ENTRIES};
 use std::cmp::Ordering;
 use std::ops::Range;
 
@@ -56,23 +56,28 @@ pub struct Row {
 
 /// Which recognitions are looked for.
 #[derive(Clone, Copy)]
-pub struct Limits {
+pub struct Limits<'a> {
     /// Only those that end before this instant.
     pub end_before: i64,
+    /// Of each entry only those that start at its instant or later; these instants do not fall.
+    pub since: &'a [i64],
     /// None at all where there are more.
     pub most: usize,
 }
 
-pub const NO_LIMITS: Limits = Limits { end_before: i64::MAX, most: usize::MAX };
+pub const NO_LIMITS: Limits = Limits { end_before: i64::MAX, since: &[i64::MIN; MOST_ENTRIES], most: usize::MAX };
 
 /// The recognitions of a chart over some events. What a recognition is made of, and what could forbid it or be a rival
-/// of its parts, ends no later than it does, so that those left out by their end are missed by none.
-pub fn enumerate(chart: &[Entry], events: &[Event], Limits { end_before, most }: Limits) -> Option<Recognitions> {
+/// of its parts, ends no later than it does and starts no earlier, and is of a lower entry, whose instant is no later:
+/// those left out by their end or their start are missed by none.
+pub fn enumerate(chart: &[Entry], events: &[Event], limits: Limits) -> Option<Recognitions> {
+    let Limits { end_before, since, most } = limits;
     let mut found = Recognitions { all: Vec::new(), of_entry: Vec::new() };
     for (number, entry) in chart.iter().enumerate() {
         let room = most.saturating_sub(found.all.len()).saturating_add(1);
-        let ends_before = |recognition: &Recognition| recognition.interval.end < end_before;
-        let made: Vec<Recognition> = found.of(number, entry, events).filter(ends_before).take(room).collect();
+        let is_within = |Interval { start, end }| start >= since[number] && end < end_before;
+        let within = found.of(number, entry, events).filter(|recognition| is_within(recognition.interval));
+        let made: Vec<Recognition> = within.take(room).collect();
         let first = found.all.len();
         found.all.extend(made);
         found.of_entry.push(first..found.all.len());
@@ -189,15 +194,18 @@ impl Recognitions {
         }
     }
 
-    /// The recognitions that start at the floor or later and end before the instant.
-    pub fn due(&self, floor: i64, instant: i64) -> impl Iterator<Item = usize> + '_ {
-        let is_due = move |Interval { start, end }| start >= floor && end < instant;
-        (0..self.all.len()).filter(move |index| is_due(self.interval(*index)))
+    /// The recognitions that start "no earlier than" the instant from which their entry counts "and the floor", and end
+    /// before the instant.
+    pub fn due<'a>(&'a self, floor: i64, since: &'a [i64], instant: i64) -> impl Iterator<Item = usize> + 'a {
+        let is_due = move |Recognition { entry, interval: Interval { start, end }, .. }: Recognition| {
+            start >= floor && start >= since[entry] && end < instant
+        };
+        (0..self.all.len()).filter(move |index| is_due(self.all[*index]))
     }
 
     /// The same in the order of rows.
-    pub fn due_in_order(&self, floor: i64, instant: i64) -> Vec<usize> {
-        let mut in_order: Vec<usize> = self.due(floor, instant).collect();
+    pub fn due_in_order(&self, floor: i64, since: &[i64], instant: i64) -> Vec<usize> {
+        let mut in_order: Vec<usize> = self.due(floor, since, instant).collect();
         in_order.sort_by(|x, y| self.order(*x, *y));
         in_order
     }

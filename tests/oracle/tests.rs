@@ -1,9 +1,10 @@
 //! The set-building program's own tests, beside the examples of tests/examples.
 
 use common::chart_value;
-use common::interface::{Answer, Chart, Watch};
-use common::plain_chart::{self, Entry, Operator};
+use common::interface::{Answer, Chart, Watch, FIRST_FLOOR};
+use common::plain_chart::{self, Entry, Operator, Verdict};
 use common::random::Random;
+use common::random_charts;
 use common::random_inputs;
 use oracle::any_watch;
 use oracle::consistency::{self, Cause, CAUSES};
@@ -22,7 +23,7 @@ fn chart(text: &str) -> Vec<Entry> {
     plain_chart::read(text.as_bytes()).expect("the test's chart is sound")
 }
 
-fn opened(chart: &[Entry], instant: i64) -> Model<'_> {
+fn opened(chart: &[Entry], instant: i64) -> Model {
     Model::open(chart, TABLE_ROWS, Over::EventsFromFloor, instant).expect("the instant is in range")
 }
 
@@ -182,7 +183,7 @@ fn table_full_within_a_jump() {
 fn delays_on_any_table() {
     let chart = chart_value::of(&chart("0\tevent\t1\n1\tafter\t0\t5\n2\tafter\t1\t2\n"));
     let play = |instant: i32, mark: i64| {
-        let watch = Watch { instant, events: 1, rows: 1, ..Watch::empty(0) };
+        let watch = Watch { instant, events: 1, rows: 1, ..Watch::opened(0, 3) };
         let table = [[0, 1, -1, 0, 0], [0; 5], [0; 5]].concat();
         let (answer, table) = any_watch::play(&watch, &chart, &table, Call::Clock(mark));
         (answer.refusal, answer.watch.rows, table)
@@ -353,12 +354,172 @@ fn nearest_on_any_table() {
     let rows =
         [[0, 1, -1, 0, 0], [1, 2, -1, 2, 2], [0, 3, -1, 3, 3], [1, 4, -1, 6, 6], [2, 2, 3, 3, 6], [3, 2, 3, 3, 6]];
     let codes = std::array::from_fn(|place| if place == 0 { 2 } else { 0 });
-    let watch = Watch { instant: 6, events: 4, rows: 3, pending: 1, codes, ..Watch::empty(0) };
+    let watch = Watch { instant: 6, events: 4, rows: 3, pending: 1, codes, ..Watch::opened(0, 4) };
     for (held, refusal) in [(6, 0), (5, 12), (4, 12), (3, 12)] {
         let before: Vec<i32> = rows[..3].concat().into_iter().chain([0; 15]).take(held * 5).collect();
         let (answer, after) = any_watch::play(&watch, &chart, &before, Call::Clock(7));
         assert_eq!(answer.refusal, refusal, "a table of {held} rows");
         assert_eq!(after, if refusal == 0 { rows.concat() } else { before });
+    }
+}
+
+/// Events of code 1 and marks by turns: an event at each instant from the open one to the last before the mark.
+fn events_to(model: &mut Model, mark: i64) {
+    for instant in model.open_instant..mark {
+        model.event(1).unwrap();
+        model.clock(instant + 1).unwrap();
+    }
+}
+
+/// "A recognition belongs to the table if it starts no earlier than that", the open instant of the addition: e1 is too
+/// early for what is added at 1, where e2 is pending and counts.
+#[test]
+fn added_entries_count_from_the_open_instant() {
+    let mut model = opened(&chart("0\tevent\t1\n1\tevent\t2\n"), 0);
+    model.event(1).unwrap();
+    model.clock(1).unwrap();
+    model.event(1).unwrap();
+    model.add_lines(b"2\tseq\t0\t1\n3\tevent\t1\n").unwrap();
+    assert_eq!(model.trees(), ["e1"], "existing rows are unchanged");
+    model.clock(2).unwrap();
+    model.event(2).unwrap();
+    model.clock(3).unwrap();
+    assert_eq!(model.trees(), ["e1", "e2", "e2", "e3", "<e2,e3>"], "not <e1,e3>");
+    let entries: Vec<usize> = model.rows().iter().map(|row| row.entry).collect();
+    assert_eq!(entries, [0, 0, 3, 1, 2]);
+    assert_eq!(model.since(), [-1_000_000_000, -1_000_000_000, 1, 1]);
+}
+
+/// A wait that began before the addition never comes. One that begins with it does, and an absence added with it hears
+/// of a move at its start.
+#[test]
+fn waits_from_before_an_addition() {
+    let mut model = opened(&chart("0\tevent\t1\n1\tevent\t2\n"), 0);
+    events_to(&mut model, 2);
+    model.add_lines(b"2\tafter\t0\t5\n3\t-[]\t2\t1\n").unwrap();
+    model.event(2).unwrap();
+    events_to(&mut model, 4);
+    model.clock(50).unwrap();
+    assert_eq!(model.trees(), ["e1", "e2", "e4", "e3", "e5", "<e4>", "<e5>", "<<e5>>"], "e3 is the move");
+}
+
+/// `cut` and `change` added at 2: e3, at 2, is the first that counts as r, and of two r the last decides as ever.
+#[test]
+fn pairs_from_before_an_addition() {
+    let mut model = opened(&chart("0\tevent\t1\n1\tevent\t2\n"), 0);
+    events_to(&mut model, 2);
+    model.add_lines(b"2\tcut\t0\t1\n3\tchange\t0\t1\n4\tor\t0\t2\n").unwrap();
+    events_to(&mut model, 4);
+    model.event(2).unwrap();
+    model.clock(5).unwrap();
+    assert_eq!(trees_in(&model, 2), ["<e4,e5>", "<e3,e5>"], "neither e1 nor e2");
+    assert_eq!(trees_in(&model, 3), ["<e4,e5>"]);
+    assert_eq!(trees_in(&model, 4), ["<e3,_>", "<e4,_>", "<_,<e4,e5>>", "<_,<e3,e5>>"]);
+}
+
+/// Two additions, the second over the first: each entry counts from its own instant, which a forget leaves; what starts
+/// before both the floor and that, or one of them, is not there.
+#[test]
+fn forgets_beside_additions() {
+    let mut model = opened(&chart("0\tevent\t1\n"), 0);
+    events_to(&mut model, 1);
+    model.add_lines(b"1\tlasts\t0\t0\n").unwrap();
+    events_to(&mut model, 3);
+    model.add_lines(b"2\tlasts\t1\t0\n").unwrap();
+    events_to(&mut model, 5);
+    let all = ["e1", "e2", "<e2>", "e3", "<e3>", "e4", "<e4>", "<<e4>>", "e5", "<e5>", "<<e5>>"];
+    assert_eq!(model.trees(), all);
+    for (floor, dropped) in [(1, 1), (2, 3), (3, 5), (4, 8)] {
+        model.forget(floor).unwrap();
+        assert_eq!(model.trees(), all[dropped..], "after a forget of {floor}");
+    }
+    assert_eq!(model.since(), [-1_000_000_000, 1, 3]);
+}
+
+/// "Fullness" uses "the entry's own instant": of the pairs with e3 one belongs to the table, and four start too early.
+#[test]
+fn table_full_after_an_addition() {
+    for (rows, expected) in [(4, Ok(())), (3, Err(12))] {
+        let mut model = Model::open(&chart("0\tevent\t1\n"), rows, Over::EventsFromFloor, 0).unwrap();
+        events_to(&mut model, 2);
+        model.add_lines(b"1\tand\t0\t0\n").unwrap();
+        model.event(1).unwrap();
+        assert_eq!(model.clock(3), expected, "a table of {rows} rows");
+    }
+}
+
+/// "Bad lines, or none, give the chart reader's number and line, counted from the first added line, 2 now being a 33rd
+/// entry, and the old chart and watch stay"; in a line "2, 3, 4, 6, 5".
+#[test]
+fn refused_additions() {
+    let events = |from: usize, to: usize| -> String { (from..to).map(|n| format!("{n}\tevent\t1\n")).collect() };
+    let refused = |before: usize, lines: &str| {
+        let mut model = opened(&chart(&events(0, before)), 0);
+        let verdict = model.add_lines(lines.as_bytes()).unwrap_err();
+        assert_eq!((model.chart().len(), model.since().len()), (before, before));
+        (verdict.refusal, verdict.line)
+    };
+    for before in [1, 31, 32] {
+        assert_eq!(refused(before, ""), (1, 1));
+        assert_eq!(refused(before, &events(before, 33)), (2, 33 - before as u32));
+        assert_eq!(refused(before, &(events(before, 32) + "x")), (2, 33 - before as u32));
+    }
+    assert_eq!(refused(2, "2\tevent\t1\n\n"), (3, 2));
+    assert_eq!(refused(2, "2\tevent\t1\n3\tevent\t1"), (3, 2));
+    assert_eq!(refused(2, "0\tevent\t1\n1\tevent\t1\n"), (4, 1));
+    assert_eq!(refused(2, "2\tevent\t1\n2\tevent\t1\n"), (4, 2));
+    assert_eq!(refused(2, "3\tafter\t3\t2000000001\n"), (4, 1));
+    assert_eq!(refused(2, "2\tafter\t2\t2000000001\n"), (6, 1));
+    assert_eq!(refused(2, "2\tevent\t256\n"), (6, 1));
+    assert_eq!(refused(2, "2\tor\t2\t0\n"), (5, 1));
+    assert_eq!(refused(2, "2\tor\t1\t0\n3\tor\t2\t3\n"), (5, 2));
+    let mut model = opened(&chart(&events(0, 31)), 0);
+    model.add_lines(b"31\tor\t30\t0\n").unwrap();
+    assert_eq!(model.add_lines(b""), Err(Verdict { refusal: 1, line: 1 }), "none, with 32 entries there");
+}
+
+/// Additions on watches that no history made: "14 and 13, whose line is 0", come first; where one is taken all but the
+/// added entries stays, whatever stands behind them.
+#[test]
+fn additions_on_any_watch() {
+    let (given, table) = p1_at_the_end();
+    let given = Watch { since: std::array::from_fn(|n| if n < 5 { FIRST_FLOOR } else { 77 }), ..given };
+    let mut chart = chart_value::of(&chart(P1));
+    chart.entries[6].op = 99;
+    let refused = |watch: Watch, chart: Chart, lines: &[u8]| {
+        let addition = any_watch::add_lines(&watch, &chart, &table, lines);
+        assert_eq!((addition.watch, addition.chart), (watch, chart));
+        (addition.refusal, addition.line)
+    };
+    let out_of_joint = Watch { entries: 4, ..given };
+    assert_eq!(refused(out_of_joint, Chart { count: 33, ..chart }, b""), (14, 0));
+    assert_eq!(refused(out_of_joint, chart, b""), (13, 0));
+    assert_eq!(refused(Watch::empty(0), chart, b"5\tevent\t1\n"), (13, 0), "an empty watch has none");
+    assert_eq!(refused(given, chart, b""), (1, 1));
+    assert_eq!(refused(given, chart, b"5\tevent\t1\n5\tevent\t1\n"), (4, 2));
+    let addition = any_watch::add_lines(&given, &chart, &table, b"5\tcut\t4\t3\n");
+    assert_eq!((addition.refusal, addition.line), (0, 0));
+    assert_eq!((addition.watch.entries, addition.watch.since[4..7].to_vec()), (6, vec![FIRST_FLOOR, 4, 77]));
+    let entry = addition.chart.entries[5];
+    assert_eq!((addition.chart.count, entry.op, entry.a, entry.b), (6, 18, 4, 3));
+    assert_eq!(addition.chart.entries[6], chart.entries[6]);
+}
+
+/// On a table that no history made, entry 2 counting from 3: of its pairs with e3 those that start at 2 are not made,
+/// and count for nothing where the table is full.
+#[test]
+fn added_entries_on_any_table() {
+    let chart = chart_value::of(&chart("0\tevent\t1\n1\tor\t0\t0\n2\tand\t0\t0\n"));
+    let rows = [[0, 1, -1, 2, 2], [0, 2, -1, 3, 3], [0, 3, -1, 6, 6], [1, 2, -1, 6, 6], [1, -1, 2, 6, 6]];
+    let pairs = [[2, 2, 2, 6, 6], [2, 1, 2, 3, 6], [2, 2, 1, 3, 6]];
+    let codes = std::array::from_fn(|place| u8::from(place == 0));
+    let since = std::array::from_fn(|place| [FIRST_FLOOR, FIRST_FLOOR, 3].get(place).copied().unwrap_or(-9));
+    let watch = Watch { instant: 6, events: 3, rows: 2, pending: 1, codes, entries: 3, since, ..Watch::empty(0) };
+    for (held, refusal) in [(8, 0), (7, 12)] {
+        let before: Vec<i32> = rows[..2].concat().into_iter().chain([0; 30]).take(held * 5).collect();
+        let (answer, after) = any_watch::play(&watch, &chart, &before, Call::Clock(7));
+        assert_eq!((answer.refusal, answer.watch.since), (refusal, since), "a table of {held} rows");
+        assert_eq!(after, if refusal == 0 { [rows.concat(), pairs.concat()].concat() } else { before });
     }
 }
 
@@ -412,6 +573,43 @@ fn events_before_the_floor_change_nothing() {
     assert!([8, 11, 12].iter().all(|number| refused[*number] > 100), "too few refusals: {refused:?}");
 }
 
+/// The same of the instants from which added entries count: recognitions of an entry that start before its instant may
+/// be left out, and the same rows come out as by the definition to the letter.
+#[test]
+fn what_starts_before_an_addition_changes_nothing() {
+    let mut random = Random::new(15);
+    let (mut additions, mut refused) = ([0; 2], [0; 13]);
+    for _ in 0..HISTORIES {
+        let (chart, rows, instant) = (any_chart(&mut random), random.pick(&[5, 20, 500]), random.between(-5, 5).into());
+        let open = |over: Over| Model::open(&chart, rows, over, instant).unwrap();
+        let (mut by_letter, mut from_floor) = (open(Over::AllEvents), open(Over::EventsFromFloor));
+        for _ in 0..random.below(25) {
+            let (lines, call) = any_step(&mut random, from_floor.chart(), from_floor.open_instant as i32);
+            if let Some(lines) = lines {
+                assert_eq!(by_letter.add_lines(&lines), from_floor.add_lines(&lines));
+                additions[usize::from(from_floor.floor > FIRST_FLOOR.into())] += 1;
+            }
+            let answer = by_letter.play(call);
+            assert_eq!(answer, from_floor.play(call), "{call:?} on {chart:?}");
+            refused[answer.err().unwrap_or(0) as usize] += 1;
+            assert_eq!(by_letter.rows(), from_floor.rows(), "after {call:?} on {chart:?}");
+            assert_eq!(by_letter.trees(), from_floor.trees(), "after {call:?} on {chart:?}");
+        }
+    }
+    assert!(additions.iter().all(|count| *count > 1_000), "{additions:?} additions before and after a forget");
+    assert!([8, 11, 12].iter().all(|number| refused[*number] > 100), "too few refusals: {refused:?}");
+}
+
+/// A call, and now and then lines to be added before it, most of them sound.
+fn any_step(random: &mut Random, chart: &[Entry], instant: i32) -> (Option<Vec<u8>>, Call) {
+    let count = (1 + random.below(3)).min(32 - chart.len());
+    let lines = random.one_in(8).then(|| match random.below(4) {
+        0 => random_charts::any_more(random, chart.len()),
+        _ => random_inputs::more_lines(random, chart, count, 3).into_bytes(),
+    });
+    (lines, any_call(random, instant))
+}
+
 /// The rows stand strictly in the order of rows, and refer to earlier ones.
 #[test]
 fn rows_stand_in_order() {
@@ -442,12 +640,22 @@ fn steps_on_rows_follow_the_recognitions() {
     let mut random = Random::new(13);
     for _ in 0..HISTORIES {
         let chart = any_chart(&mut random);
-        let value = chart_value::of(&chart);
+        let mut value = chart_value::of(&chart);
         let table = vec![7; random.below(400)];
         let mut history = History::open(&chart, &table, random.between(-5, 5), 0).unwrap();
-        assert_eq!(any_watch::open(&value, &table, history.watch.instant).1, history.table);
+        let (answer, opened) = any_watch::open(&value, &table, history.watch.instant);
+        assert_eq!((answer.watch, opened), (history.watch, history.table.clone()));
         for _ in 0..random.below(30) {
-            let call = any_call(&mut random, history.watch.instant);
+            let (lines, call) = any_step(&mut random, history.chart(), history.watch.instant);
+            if let Some(lines) = lines {
+                let addition = any_watch::add_lines(&history.watch, &value, &history.table, &lines);
+                let before = (history.rows.clone(), history.table.clone());
+                let verdict = history.add_lines(&lines).err().unwrap_or(plain_chart::TAKEN);
+                assert_eq!((addition.refusal, addition.line), (verdict.refusal, verdict.line));
+                assert_eq!((addition.watch, addition.chart), (history.watch, chart_value::of(history.chart())));
+                assert_eq!((&history.rows, &history.table), (&before.0, &before.1), "existing rows are unchanged");
+                value = addition.chart;
+            }
             let (answer, table) = any_watch::play(&history.watch, &value, &history.table, call);
             let refusal = history.play(call).err().unwrap_or(0);
             assert_eq!((answer.refusal, answer.watch), (refusal, history.watch), "{call:?} on {chart:?}");
@@ -535,7 +743,7 @@ fn p1_at_the_end() -> (Watch, Vec<i32>) {
         [0; 5],
     ];
     let table = rows.concat().into_iter().chain([8, 9]).collect();
-    (Watch { instant: 4, events: 4, rows: 8, ..Watch::empty(0) }, table)
+    (Watch { instant: 4, events: 4, rows: 8, ..Watch::opened(0, 5) }, table)
 }
 
 /// Each cause of "out of joint" by itself, and changes that are none.
@@ -589,14 +797,40 @@ fn each_cause_of_13() {
     assert_eq!(with(&[(26, 0)]), only(Cause::SerialOutOfRange));
     assert_eq!(with(&[(26, 5)]), only(Cause::SerialOutOfRange));
     assert_eq!(with(&[(28, 2)]), only(Cause::EventStartNotEnd));
-    assert_eq!(CAUSES.len(), 19, "each cause has its example above");
+    assert_eq!(CAUSES.len(), 19 + 5, "each cause has its example above, those of entries' instants below");
+}
+
+/// Each cause that request N13 adds. Entry 4 counts from -2, the start of its rows; the places behind it are not looked
+/// at.
+#[test]
+fn each_cause_of_13_in_entries() {
+    let (watch, table) = p1_at_the_end();
+    let causes_of = |entries: usize, instants: &[i32]| {
+        let mut changed = Watch { entries, ..watch };
+        changed.since[..instants.len()].copy_from_slice(instants);
+        Vec::from_iter(consistency::causes(&changed, &chart(P1), &table))
+    };
+    let none: Vec<Cause> = vec![];
+    let floor = FIRST_FLOOR;
+    assert_eq!(causes_of(5, &[floor, floor, floor, floor, -2]), none);
+    assert_eq!(causes_of(5, &[-2, -2, -2, -2, -2, 5, i32::MIN]), none, "behind the entries");
+    assert_eq!(causes_of(5, &[-2, 0, 0, 0, 4, -7]), [Cause::StartBeforeEntryInstant], "the open instant itself");
+    assert_eq!(causes_of(5, &[floor, floor, floor, floor, -1]), [Cause::StartBeforeEntryInstant]);
+    assert_eq!(causes_of(5, &[-1, 0, 0, 0, 0]), [Cause::StartBeforeEntryInstant]);
+    for entries in [0, 4, 6, 32, 33, usize::MAX] {
+        assert_eq!(causes_of(entries, &[]), [Cause::EntriesNotAsInChart], "{entries} entries");
+    }
+    assert_eq!(causes_of(5, &[floor - 1, floor, floor, floor, floor]), [Cause::EntryInstantBelowRange]);
+    assert_eq!(causes_of(5, &[floor, floor, -2, -3, -2]), [Cause::EntryInstantFalls]);
+    let opened = Watch { instant: 4, entries: 5, since: [5; 32], ..Watch::empty(0) };
+    assert_eq!(Vec::from_iter(consistency::causes(&opened, &chart(P1), &[])), [Cause::EntryInstantAboveOpen]);
 }
 
 /// A delayed row by itself out of joint, for each number of it: "left r, right -1, the same start and end = end r + d".
 #[test]
 fn each_cause_of_13_in_a_delay() {
     let chart = chart("0\tevent\t1\n1\tevent\t2\n2\tafter\t0\t5\n3\tafter\t0\t0\n");
-    let watch = Watch { instant: 9, events: 2, rows: 5, ..Watch::empty(0) };
+    let watch = Watch { instant: 9, events: 2, rows: 5, ..Watch::opened(0, 4) };
     let rows = [[0, 1, -1, 0, 0], [3, 0, -1, 0, 0], [1, 2, -1, 1, 1], [2, 0, -1, 0, 5], [0, 1, -1, 5, 5]];
     let causes = |changed: &[(usize, [i32; 5])]| {
         let mut rows = rows;
@@ -625,7 +859,7 @@ fn each_cause_of_13_in_a_delay() {
 #[test]
 fn each_cause_of_13_in_a_cut() {
     let chart = chart(OF_EVENTS);
-    let watch = Watch { instant: 9, events: 5, rows: 6, ..Watch::empty(0) };
+    let watch = Watch { instant: 9, events: 5, rows: 6, ..Watch::opened(0, 4) };
     let events = [[0, 1, -1, 0, 0], [0, 2, -1, 1, 1], [1, 3, -1, 2, 2], [0, 4, -1, 3, 3], [1, 5, -1, 3, 3]];
     for entry in [2, 3] {
         let causes = |[left, right, start, end]: [i32; 4]| {

@@ -4,8 +4,8 @@
  * Each call is made in a thread of its own, whose stack is painted before: what is no longer painted afterwards was
  * used. What a thread uses for itself is measured by one that makes no call, and taken off. The calls are made where
  * they reach deepest: on charts that nest all 32 entries, by operators of every form, with marks that go over the ends
- * of all delays; and a mark also where it puts as many rows of one entry in order as a table holds, the starts of which
- * rise and fall.
+ * of all delays; an addition also where it is taken, 30 lines behind two; and a mark also where it puts as many rows of
+ * one entry in order as a table holds, the starts of which rise and fall.
  */
 #define _POSIX_C_SOURCE 200809L
 #include "chronicle.h"
@@ -35,14 +35,19 @@ enum {
 static struct subject {
     uint8_t text[ENTRIES * 64 + 4096];
     size_t text_length;
+    size_t events_length;
     size_t chart_length;
     struct chronicle_chart chart;
     struct chronicle_watch watch;
+    struct chronicle_chart events;
+    struct chronicle_watch events_watch;
     int32_t table[NUMBERS];
     uint8_t out[OUTPUT];
     struct chronicle_verdict verdict;
     struct chronicle_chart_answer read;
     struct chronicle_answer answer;
+    struct chronicle_addition addition;
+    struct chronicle_addition refused;
     struct chronicle_rows rows;
     struct chronicle_tree_answer tree;
     size_t listed;
@@ -61,6 +66,15 @@ static void forget(void) { s.answer = chronicle_forget(s.watch, s.chart, s.table
 static void check(void) { s.refusal = chronicle_check(s.watch, s.chart, s.table, NUMBERS); }
 static void rows_ending(void) { s.rows = chronicle_rows_ending(s.watch, s.chart, s.table, NUMBERS, 0); }
 static void tree(void) { s.tree = chronicle_tree(s.watch, s.chart, s.table, NUMBERS, s.watch.rows - 1, s.out, TREE); }
+static void add_lines(void)
+{
+    s.addition = chronicle_add_lines(s.events_watch, s.events, s.table, 0, s.text + s.events_length,
+                                     s.chart_length - s.events_length);
+}
+static void add_33rd(void)
+{
+    s.refused = chronicle_add_lines(s.watch, s.chart, s.table, NUMBERS, s.text, s.chart_length);
+}
 static void list(void) { s.listed = chronicle_list(s.text, s.text_length, s.table, NUMBERS, s.out, OUTPUT); }
 
 /* The table that holds a long block. */
@@ -114,6 +128,7 @@ static void write_input(const char *word, const char *second)
     char line[64];
     s.text_length = 0;
     add_line("0\tevent\t1\n1\tevent\t2\n");
+    s.events_length = s.text_length;
     for (int i = 2; i < ENTRIES; i++) {
         snprintf(line, sizeof line, "%d\t%s\t%d\t%s\n", i, word, i == 2 ? 0 : i - 1, second);
         add_line(line);
@@ -122,9 +137,12 @@ static void write_input(const char *word, const char *second)
     add_line("\nopen\t0\nevent\t1\nevent\t1\nclock\t1\nforget\t0\nevent\t1\nclock\t2\n");
 }
 
-/* Plays an event of code 1 at each instant until so many rows are in use. */
+/* Opens a watch under the two events alone, and one under the chart, on which an event of code 1 is played at each
+ * instant until so many rows are in use. */
 static void fill(size_t rows)
 {
+    s.events = chronicle_read_chart(s.text, s.events_length).chart;
+    s.events_watch = chronicle_open(s.events, s.table, 0, 0).watch;
     s.read = chronicle_read_chart(s.text, s.chart_length);
     s.chart = s.read.chart;
     s.answer = chronicle_open(s.chart, s.table, NUMBERS, 0);
@@ -145,7 +163,8 @@ static struct call {
 } calls[] = {
     {"chronicle_check_chart", check_chart, 0}, {"chronicle_read_chart", read_chart, 0},
     {"chronicle_check", check, 0},             {"chronicle_rows_ending", rows_ending, 0},
-    {"chronicle_tree", tree, 0},               {"chronicle_event", event, 0},
+    {"chronicle_tree", tree, 0},               {"chronicle_add_lines", add_lines, 0},
+    {"chronicle_add_lines, 2", add_33rd, 0},   {"chronicle_event", event, 0},
     {"chronicle_clock", mark, 0},              {"chronicle_forget", forget, 0},
     {"chronicle_open", open_watch, 0},         {"chronicle_list", list, 0},
     {"chronicle_rows_that_fit", rows_that_fit, 0},
@@ -166,6 +185,8 @@ static void measure(size_t of_thread)
     if (s.verdict.refusal != 0 || s.refusal != 0 || s.tree.refusal != 0 || s.tree.length == 0 || s.listed == 0 ||
         s.fitting != ROWS)
         fail("a call was refused");
+    if (s.addition.refusal != 0 || s.addition.chart.count != ENTRIES || s.refused.refusal != 2 || s.refused.line != 1)
+        fail("an addition went another way than planned");
 }
 
 /* Plays so many events of a code, and the mark that closes their instant. */
@@ -216,7 +237,7 @@ static int measure_block(size_t of_thread)
 {
     size_t used = used_by_block() - of_thread;
     printf("chronicle_clock, a block of %d rows: %zu bytes of stack\n", BLOCK_EVENTS * BLOCK_PAIRS, used);
-    return used <= 4096;
+    return used <= 5120;
 }
 
 int main(void)

@@ -1,6 +1,8 @@
 //! Watches, charts and tables that no history made: what a history left, with something in it changed. Each call must
 //! answer what `oracle::any_watch` says, 13 exactly where `oracle::consistency` finds a cause.
 
+use crate::added_lines;
+use crate::additions;
 use crate::blocks::On;
 use crate::delays::{delays, Fault, Mark, FAULTS};
 use crate::histories::{any_row, compare_check_and_rows, compare_tree, count_full};
@@ -10,23 +12,28 @@ use crate::random_calls::{self, near_instant_of_row, number, Frequencies, OUT_OF
 use crate::subject::{lent_table, name, Subject};
 use common::chart_value;
 use common::harness::Compared;
-use common::interface::{Answer, Calls, Chart, Entry};
+use common::interface::{Answer, Calls, Chart, Entry, FIRST_FLOOR, MOST_ENTRIES};
 use common::random::Random;
+use common::random_charts;
 use oracle::conditions::Interval;
-use oracle::layout::{flat, rows_in_use};
+use oracle::layout::{flat, rows_held, rows_in_use};
 use oracle::model::Call;
 use oracle::recognitions::Row;
 use oracle::{any_watch, consistency};
 
 type Change = fn(&mut Random, &mut Subject);
 
-const CHANGES: [Change; 21] = [
+const CHANGES: [Change; 25] = [
     change_instant,
     change_floor,
     change_count,
     change_pending,
     change_rows,
     change_codes,
+    change_entries,
+    change_since,
+    raise_since,
+    fill_since,
     change_number_in_use,
     change_number_in_use,
     change_number_behind,
@@ -49,7 +56,9 @@ pub fn compare(calls: &Calls, last: &Subject, random: &mut Random, met: &mut Met
     let mut changed = last.clone();
     let fault = if random.one_in(4) { append_faulty_delay(random, &mut changed) } else { None };
     let damage = if fault.is_none() && random.one_in(3) { append_nearest(random, &mut changed) } else { None };
-    if fault.is_none() && damage.is_none() {
+    let is_changed = fault.is_some() || damage.is_some();
+    let of_entries = if !is_changed && random.one_in(4) { damage_entries(random, &mut changed) } else { None };
+    if !is_changed && of_entries.is_none() {
         change(random, &mut changed);
     }
     if let Some(entries) = chart_value::entries(&changed.chart) {
@@ -59,6 +68,8 @@ pub fn compare(calls: &Calls, last: &Subject, random: &mut Random, met: &mut Met
         if let Some((op, damage)) = damage.filter(|(_, damage)| causes.len() == usize::from(!damage.is_consistent())) {
             met.nearest.count_damage(op, damage);
         }
+        let is_counted = |damage: &additions::Damage| causes.len() == usize::from(!damage.is_consistent());
+        of_entries.filter(is_counted).into_iter().for_each(|damage| met.additions.count_damage(damage));
     }
     let compared =
         compare_plays(calls, &changed, random, met).and_then(|()| compare_reads(calls, &changed, random, met));
@@ -81,7 +92,7 @@ fn change(random: &mut Random, subject: &mut Subject) {
     }
 }
 
-/// An event, a clock mark and a forget, each on the watch given.
+/// An event, a clock mark, a forget and an addition, each on the watch given.
 fn compare_plays(calls: &Calls, given: &Subject, random: &mut Random, met: &mut Met) -> Compared {
     let only = |events, clocks, forgets| Frequencies { events, clocks, forgets, longest_step: 3, clocks_to_a_jump: 20 };
     for frequencies in [only(1, 0, 0), only(0, 1, 0), only(0, 0, 1)] {
@@ -98,11 +109,32 @@ fn compare_plays(calls: &Calls, given: &Subject, random: &mut Random, met: &mut 
                 let mark = Mark { watch, chart, rows, instant };
                 met.delays.count_mark(On::NoHistory, &mark);
                 met.nearest.count_mark(On::NoHistory, &mark);
+                met.additions.count_mark(On::NoHistory, &mark, rows_held(table.len()));
             }
             (Call::Clock(_), 12) => count_full(given, call, false, met),
             _ => {}
         }
         compare_outcome(&format!("{call:?}"), (answer, &subject), (expected, &table))?;
+    }
+    let lines = match chart_value::entries(&given.chart) {
+        Some(entries) => added_lines::any(random, &entries).lines,
+        None => random_charts::any_more(random, given.chart.count.min(MOST_ENTRIES)),
+    };
+    compare_addition(calls, given, &lines, met)
+}
+
+/// An addition to any watch and chart: every field of the answer, and the table, which no addition alters.
+pub fn compare_addition(calls: &Calls, given: &Subject, lines: &[u8], met: &mut Met) -> Compared {
+    let expected = any_watch::add_lines(&given.watch, &given.chart, given.table.part(), lines);
+    let mut subject = given.clone();
+    let answer = subject.add_lines(calls, lines)?;
+    met.count_answer("add", expected.refusal);
+    let lines = lines.escape_ascii();
+    if answer != expected {
+        return Err(format!("addition of \"{lines}\": {answer:?}\nexpected {expected:?}"));
+    }
+    if !subject.table.holds(given.table.part()) {
+        return Err(format!("addition of \"{lines}\" left the table {:?}", subject.table.part()));
     }
     Ok(())
 }
@@ -140,7 +172,15 @@ pub fn compare_openings(calls: &Calls, random: &mut Random, met: &mut Met, chart
     let answer = (calls.open)(chart, lent.part_mut(), instant);
     met.count_answer("open", expected.refusal);
     let subject = Subject { watch: answer.watch, chart, table: lent };
-    compare_outcome(&format!("opening at {instant}"), (answer, &subject), (expected, &after))
+    compare_outcome(&format!("opening at {instant}"), (answer, &subject), (expected, &after))?;
+    // "An empty watch has none": what a refused opening hands back is out of joint with every chart.
+    let (checked, check) =
+        ((calls.check)(answer.watch, chart, &after), any_watch::check(&expected.watch, &chart, &after));
+    if checked == check {
+        Ok(())
+    } else {
+        Err(format!("check after an opening at {instant} answered {checked}, expected {check}"))
+    }
 }
 
 // What can be changed in a watch.
@@ -193,6 +233,80 @@ fn change_codes(random: &mut Random, subject: &mut Subject) {
         let place = random.below(subject.watch.codes.len());
         subject.watch.codes[place] = random.pick(&[0, 1, 2, 3, 255]);
     }
+}
+
+/// How many entries the watch has.
+fn change_entries(random: &mut Random, subject: &mut Subject) {
+    let entries = subject.watch.entries;
+    subject.watch.entries =
+        random.pick(&[0, entries.saturating_sub(1), entries.saturating_add(1), 31, 32, 33, 1 << 32, usize::MAX]);
+}
+
+/// The instant from which one entry counts, or one of the places behind them.
+fn change_since(random: &mut Random, subject: &mut Subject) {
+    let place = random.below(subject.watch.entries.clamp(1, MOST_ENTRIES));
+    subject.watch.since[place] = any_since(random, subject);
+}
+
+/// The instants from which an entry and those behind it count.
+fn raise_since(random: &mut Random, subject: &mut Subject) {
+    let entries = subject.watch.entries.clamp(1, MOST_ENTRIES);
+    let first = random.below(entries);
+    let raised = any_since(random, subject);
+    subject.watch.since[first..entries].iter_mut().for_each(|since| *since = raised.max(*since));
+}
+
+fn any_since(random: &mut Random, subject: &Subject) -> i32 {
+    let watch = &subject.watch;
+    match random.below(6) {
+        0 => random.pick(&OUT_OF_RANGE),
+        1 => FIRST_FLOOR,
+        2 => watch.instant.saturating_add(random.between(-1, 1)),
+        _ => near_instant_of_row(random, watch, subject.table.part()),
+    }
+}
+
+/// Anything in the places behind the entries, which no call looks at.
+fn fill_since(random: &mut Random, subject: &mut Subject) {
+    let behind = subject.watch.since.iter_mut().skip(subject.watch.entries);
+    behind.for_each(|since| *since = number(random));
+}
+
+/// One thing in a watch's entries that no call left there; none where the rows there are leave no room for it.
+fn damage_entries(random: &mut Random, subject: &mut Subject) -> Option<additions::Damage> {
+    use additions::Damage;
+    let rows = rows_in_use(&subject.watch, subject.table.part());
+    let watch = &mut subject.watch;
+    let (entries, instant) = (watch.entries, watch.instant);
+    let first = random.below(entries);
+    let least_start = |first: usize| {
+        let starts = rows.iter().filter(|row| row.entry >= first).map(|row| row.start as i32);
+        starts.min().unwrap_or(instant)
+    };
+    let raise = |since: &mut [i32], to: i32| since.iter_mut().for_each(|instant| *instant = to.max(*instant));
+    let (damage, _) = random.pick(&additions::DAMAGES);
+    // Of these each is another watch under which marks are compared.
+    let damage = if random.one_in(3) { Damage::Raised } else { damage };
+    match damage {
+        Damage::OneLess => watch.entries -= 1,
+        Damage::OneMore => watch.entries += 1,
+        Damage::NoEntries => watch.entries = 0,
+        Damage::BelowRange => watch.since[0] = FIRST_FLOOR - 1,
+        Damage::AboveOpen if rows.iter().any(|row| row.entry >= first) => return None,
+        Damage::AboveOpen => watch.since[first..entries].fill(instant + 1),
+        Damage::Falls if first == 0 || least_start(first - 1) == FIRST_FLOOR => return None,
+        Damage::Falls => {
+            watch.since[first - 1] = least_start(first - 1);
+            watch.since[first..entries].fill(least_start(first - 1) - 1);
+        }
+        Damage::RowTooEarly => {
+            let row = rows.get(random.below(rows.len().max(1)))?;
+            raise(&mut watch.since[row.entry..entries], row.start as i32 + 1);
+        }
+        Damage::Raised => raise(&mut watch.since[first..entries], least_start(first)),
+        Damage::FilledBehind => fill_since(random, subject),
+    }
+    Some(damage)
 }
 
 // What can be changed in a table.
@@ -422,7 +536,12 @@ fn change_entry(random: &mut Random, subject: &mut Subject) {
         (0 | 1, 1 | 3 | 8..=13 | 18 | 19) => entry.op = random.pick(&[1, 3, 8, 9, 10, 11, 12, 13, 18, 19]),
         (2, _) => entry.a = random.below(index.max(1)) as u32,
         (3, _) => entry.b = random.below(index.max(6)) as u32,
-        _ => chart.count = chart.count.clamp(2, 32) - 1,
+        _ => {
+            chart.count = chart.count.clamp(2, 32) - 1;
+            if random.one_in(2) {
+                subject.watch.entries = chart.count;
+            }
+        }
     }
 }
 

@@ -1,6 +1,9 @@
 //! Random histories, compared with the set-building program after every call: the refusal's number, every field of the
-//! watch, every number of the table and of the margins around it, rows by their end and trees.
+//! watch, every entry of the chart, every number of the table and of the margins around it, rows by their end and
+//! trees.
 
+use crate::added_lines::{self, Drawn};
+use crate::additions;
 use crate::blocks::On;
 use crate::damage;
 use crate::delays::{self, due_ends, Mark};
@@ -10,8 +13,8 @@ use crate::random_calls::{self, Frequencies};
 use crate::subject::{lent_table, name, Lent, Subject};
 use common::chart_value;
 use common::harness::Compared;
-use common::interface::{Calls, Chart, Watch, MOST_ENTRIES};
-use common::plain_chart::{self, Entry};
+use common::interface::{Calls, Chart, Watch, FIRST_FLOOR, MOST_ENTRIES};
+use common::plain_chart::{self, Entry, TAKEN};
 use common::random::Random;
 use common::random_inputs;
 use oracle::any_watch;
@@ -21,8 +24,6 @@ use oracle::model::{Call, MOST_EVENTS};
 use oracle::recognitions::Row;
 use std::ops::Range;
 
-/// The floor while nothing was forgotten.
-const FIRST_FLOOR: i32 = -1_000_000_000;
 /// By how many rows a table is made longer, to see which one did not fit.
 const ROWS_MORE: usize = 300;
 
@@ -30,13 +31,32 @@ const ROWS_MORE: usize = 300;
 pub struct Run<'a> {
     calls: &'a Calls,
     opening: i32,
-    played: Vec<Call>,
+    played: Vec<Played>,
+    /// The chart that each call must get.
+    chart: Chart,
+    /// When lines were last added.
+    last_addition: Option<i32>,
     /// The ends that delayed rows of forgotten ones would have had, as far as no mark went past them.
     missed_ends: Vec<i64>,
     /// The operand and the end after which a row of it would have been a pair with a forgotten one.
     missed_pairs: Vec<(usize, i64)>,
     pub subject: Subject,
-    pub history: History<'a>,
+    pub history: History,
+}
+
+enum Played {
+    Call(Call),
+    Lines(Vec<u8>),
+}
+
+impl Played {
+    /// For the message where something differs.
+    fn shown(&self) -> String {
+        match self {
+            Played::Call(call) => format!("{call:?}"),
+            Played::Lines(lines) => format!("Lines(\"{}\")", lines.escape_ascii()),
+        }
+    }
 }
 
 /// A short history on a small chart and table, and what becomes of its last state when something in it is changed.
@@ -69,6 +89,35 @@ pub fn with_nearest(calls: &Calls, random: &mut Random, met: &mut Met) -> Compar
     short_on(calls, random, met, &entries, frequencies)
 }
 
+/// The same with lines added in between, sound ones first and then any, as often as not just after an instant with an
+/// event.
+pub fn with_additions(calls: &Calls, random: &mut Random, met: &mut Met) -> Compared {
+    let longest_step = random.pick(&[1, 2, 2, 8]);
+    let frequencies = Frequencies { events: 9, clocks: 8, forgets: 1, longest_step, clocks_to_a_jump: 40 };
+    let (table, entries) = (random_calls::table(random), entries_to_add_to(random));
+    let (chart, opening) = (chart(random, &entries), random_calls::opening(random));
+    let mut run = Run::open(calls, &entries, chart, &table, opening, 0, met)?;
+    if random.one_in(80) {
+        (0..62).try_for_each(|_| run.event(random, met))?;
+    }
+    let additions = 1 + random.below(3);
+    for addition in 0..additions {
+        let length = random.below(8);
+        run.play_some(random, met, frequencies, length)?;
+        if random.one_in(2) {
+            run.event(random, met)?;
+            run.play(Call::Clock(i64::from(run.history.watch.instant) + 1), met)?;
+        }
+        let draw = if addition == 0 { added_lines::sound } else { added_lines::any };
+        let drawn = draw(random, run.history.chart());
+        run.add_lines(&drawn, met)?;
+    }
+    let length = random.below(16);
+    run.play_some(random, met, frequencies, length)?;
+    run.finish(met);
+    damage::compare(calls, &run.subject, random, met)
+}
+
 fn short_on(
     calls: &Calls,
     random: &mut Random,
@@ -95,7 +144,7 @@ fn short_on(
     (0..2).try_for_each(|_| damage::compare(calls, &run.subject, random, met))
 }
 
-/// A long history, in which the table fills and older rows are forgotten over and over.
+/// A long history, in which the table fills, older rows are forgotten over and over and lines are added now and then.
 pub fn long(calls: &Calls, random: &mut Random, met: &mut Met) -> Compared {
     let frequencies = Frequencies { events: 10, clocks: 8, forgets: 1, longest_step: 3, clocks_to_a_jump: 5_000 };
     let table = vec![7; 500 + random.below(4_000)];
@@ -105,6 +154,10 @@ pub fn long(calls: &Calls, random: &mut Random, met: &mut Met) -> Compared {
     for _ in 0..40 {
         let before = run.history.watch.instant;
         run.play_some(random, met, frequencies, 15)?;
+        if random.one_in(20) && run.chart.count < MOST_ENTRIES {
+            let drawn = added_lines::sound(random, run.history.chart());
+            run.add_lines(&drawn, met)?;
+        }
         let History { watch, rows, .. } = &run.history;
         // What started before a row in the middle; everything where no mark was taken.
         let middle = rows.get(rows.len() / 2).map_or(before.into(), |row| row.start);
@@ -139,6 +192,24 @@ fn entries(random: &mut Random) -> Vec<Entry> {
     sound(&text)
 }
 
+/// A sound chart of fewer than 32 entries, and now and then of nearly as many, most of them of events that do not come.
+fn entries_to_add_to(random: &mut Random) -> Vec<Entry> {
+    let operators = random.below(4);
+    let text = match random.below(12) {
+        0 => with_idle_events(random_inputs::chart(random, operators, 3), 26 + random.below(6)),
+        1..=5 => random_inputs::interval_chart(random, operators),
+        6 | 7 => random_inputs::delay_chart(random, operators, 3),
+        8 => random_inputs::nearest_chart(random, operators, 3),
+        _ => random_inputs::chart(random, operators, 3),
+    };
+    sound(&text)
+}
+
+fn with_idle_events(chart: String, entries: usize) -> String {
+    let first = chart.lines().count();
+    chart + &(first..entries).map(|number| format!("{number}\tevent\t{}\n", 200 + number)).collect::<String>()
+}
+
 fn sound(chart: &str) -> Vec<Entry> {
     plain_chart::read(chart.as_bytes()).expect("the chart drawn is sound")
 }
@@ -155,7 +226,7 @@ fn chart(random: &mut Random, entries: &[Entry]) -> Chart {
 impl<'a> Run<'a> {
     pub fn open(
         calls: &'a Calls,
-        entries: &'a [Entry],
+        entries: &[Entry],
         chart: Chart,
         table: &[i32],
         opening: i32,
@@ -169,8 +240,9 @@ impl<'a> Run<'a> {
         let mut watch = answer.watch;
         watch.events += unlisted_events;
         let subject = Subject { watch, chart, table };
-        let (missed_ends, missed_pairs) = (Vec::new(), Vec::new());
-        let run = Run { calls, opening, played: Vec::new(), missed_ends, missed_pairs, subject, history };
+        let (played, missed_ends, missed_pairs) = (Vec::new(), Vec::new(), Vec::new());
+        let last_addition = None;
+        let run = Run { calls, opening, played, chart, last_addition, missed_ends, missed_pairs, subject, history };
         run.compare_state(0, answer.refusal)?;
         Ok(run)
     }
@@ -187,9 +259,29 @@ impl<'a> Run<'a> {
             _ => {}
         }
         let answer = self.subject.play(self.calls, call);
-        self.played.push(call);
+        self.played.push(Played::Call(call));
         met.count_answer(name(call), expected);
         self.compare_state(expected, answer.refusal)
+    }
+
+    /// Adds lines, which are taken or refused.
+    pub fn add_lines(&mut self, drawn: &Drawn, met: &mut Met) -> Compared {
+        let before = self.history.watch;
+        let verdict = self.history.add_lines(&drawn.lines).err().unwrap_or(TAKEN);
+        self.chart = chart_value::with_added(&self.chart, &self.history.chart()[before.entries..]);
+        if verdict == TAKEN {
+            met.additions.count_taken(&before, self.last_addition, &self.chart);
+            self.last_addition = Some(before.instant);
+        } else {
+            met.additions.count_refused(before.entries, drawn, verdict);
+        }
+        self.played.push(Played::Lines(drawn.lines.clone()));
+        met.count_answer("add", verdict.refusal);
+        let answer = self.subject.add_lines(self.calls, &drawn.lines).map_err(|altered| self.described(&altered))?;
+        if answer.line != verdict.line {
+            return Err(self.described(&format!("line {}, expected {}", answer.line, verdict.line)));
+        }
+        self.compare_state(verdict.refusal, answer.refusal)
     }
 
     /// Counts a mark by the watch before it and the rows that it left.
@@ -202,6 +294,7 @@ impl<'a> Run<'a> {
         let mark = Mark { watch: before, chart, rows, instant };
         met.delays.count_mark(on, &mark);
         met.nearest.count_mark(on, &mark);
+        met.additions.count_mark(on, &mark, rows_held(self.history.table.len()));
         let new = mark.new_rows();
         let is_missed = |(b, end): &(usize, i64)| new.iter().any(|s| s.entry == *b && s.start > *end);
         if self.missed_pairs.iter().any(is_missed) {
@@ -217,13 +310,14 @@ impl<'a> Run<'a> {
     /// Counts a forget by what it drops.
     fn count_forget(&mut self, floor: i64, met: &mut Met) {
         let (chart, History { watch, rows, .. }) = (&self.subject.chart, &self.history);
-        if floor > watch.instant.into() {
+        if floor < watch.floor.into() || floor > watch.instant.into() {
             return;
         }
         let dropped: Vec<Row> = rows.iter().filter(|row| row.start < floor).copied().collect();
         self.missed_ends.extend(due_ends(chart, &dropped).filter(|end| *end >= i64::from(watch.instant)));
         self.missed_pairs.extend(nearest::waiting(chart, rows, floor));
         met.nearest.count_forget(chart, rows, floor);
+        met.additions.count_forget(watch, chart, floor);
         if delays::delays(chart).any(|(number, _)| dropped.iter().any(|row| row.entry == number)) {
             met.delays.count_forgotten();
         }
@@ -250,18 +344,22 @@ impl<'a> Run<'a> {
 
     fn finish(&self, met: &mut Met) {
         met.count_history(&self.subject.chart, &self.subject.watch, self.subject.table.part());
+        met.additions.histories += usize::from(self.last_addition.is_some());
     }
 
     fn read_rows(&self, random: &mut Random, met: &mut Met) -> Compared {
         let History { watch, table, .. } = &self.history;
         let end = random_calls::end(random, watch, table);
-        compare_check_and_rows(self.calls, &self.subject, end, 0, self.history.rows_ending(end), met)
+        let rows = self.history.rows_ending(end);
+        met.additions.count_rows_read(watch, &self.history.rows[rows.clone()]);
+        compare_check_and_rows(self.calls, &self.subject, end, 0, rows, met)
             .map_err(|difference| self.described(&difference))
     }
 
     fn read_tree(&self, random: &mut Random, met: &mut Met) -> Compared {
         let row = any_row(random, self.history.watch.rows);
         met.blocks.count_tree(&self.subject.chart, &self.history.rows, row);
+        met.additions.count_tree(&self.history.watch, self.history.rows.get(row));
         let tree_at = |room: usize| self.history.tree(row, room);
         compare_tree(self.calls, &self.subject, row, tree_at, random, met)
             .map_err(|difference| self.described(&difference))
@@ -276,6 +374,9 @@ impl<'a> Run<'a> {
         if subject.watch != history.watch {
             return Err(self.described(&format!("watch {:?}\nexpected {:?}", subject.watch, history.watch)));
         }
+        if subject.chart != self.chart {
+            return Err(self.described(&format!("chart {:?}\nexpected {:?}", subject.chart, self.chart)));
+        }
         if !subject.table.holds(&history.table) {
             let table = subject.table.part();
             return Err(self.described(&format!("table {table:?}\nexpected {:?}", history.table)));
@@ -284,31 +385,38 @@ impl<'a> Run<'a> {
     }
 
     fn described(&self, difference: &str) -> String {
-        let chart = &self.subject.chart.entries[..self.subject.chart.count];
-        let (length, opening, played) = (self.history.table.len(), self.opening, &self.played);
-        format!("{difference}\nchart {chart:?}\ntable of {length} numbers, opened at {opening}, then {played:?}")
+        let chart = &self.chart.entries[..self.chart.count];
+        let (length, opening) = (self.history.table.len(), self.opening);
+        let played = self.played.iter().map(Played::shown).collect::<Vec<_>>().join(", ");
+        format!("{difference}\nchart {chart:?}\ntable of {length} numbers, opened at {opening}, then {played}")
     }
 }
 
 /// Counts a mark that is refused with 12 where the open instant alone would have fitted, and one whose first row too
-/// many is of a `cut` or `change`.
+/// many is of a `cut` or `change` or of an added entry.
 pub fn count_full(subject: &Subject, mark: Call, is_history: bool, met: &mut Met) {
     let Subject { watch, chart, table } = subject;
     let next = Call::Clock(i64::from(watch.instant) + 1);
     if delays::delays(chart).next().is_some() && any_watch::play(watch, chart, table.part(), next).0.refusal == 0 {
         met.delays.count_full(is_history);
     }
-    if nearest::nearest(chart).next().is_some() && is_full_at_nearest(subject, mark) {
-        met.nearest.count_full(is_history);
+    let is_counted = nearest::nearest(chart).next().is_some() || additions::added(watch, chart).next().is_some();
+    if let Some(entry) = is_counted.then(|| entry_too_many(subject, mark)).flatten() {
+        if nearest::is_nearest(&chart.entries[entry]) {
+            met.nearest.count_full(is_history);
+        }
+        if additions::is_added(watch, entry) {
+            met.additions.count_full();
+        }
     }
 }
 
-/// Whether the first row that does not fit is of a `cut` or `change`: a longer table has it in that place.
-fn is_full_at_nearest(Subject { watch, chart, table }: &Subject, mark: Call) -> bool {
+/// The entry of the first row that does not fit: a longer table has it in that place. None where that is full, too.
+fn entry_too_many(Subject { watch, chart, table }: &Subject, mark: Call) -> Option<usize> {
     let held = rows_held(table.part().len()) * 5;
     let longer = [&table.part()[..held], &[0; ROWS_MORE * 5]].concat();
     let (answer, after) = any_watch::play(watch, chart, &longer, mark);
-    answer.refusal == 0 && nearest::is_nearest(&chart.entries[after[held] as usize])
+    (answer.refusal == 0).then(|| after[held] as usize)
 }
 
 /// A row in use, mostly, or a number that is none.

@@ -2,6 +2,8 @@
 //! charts and tables that no history made, and on planned cases. With --self-test it compares watches that are wrong on
 //! purpose instead, and each of them must be found.
 
+mod added_lines;
+mod additions;
 mod blocks;
 mod damage;
 mod delays;
@@ -27,6 +29,8 @@ struct Extent {
     short_histories: usize,
     with_delays: usize,
     with_nearest: usize,
+    with_additions: usize,
+    added_texts: usize,
     long_histories: usize,
     of_short_intervals: usize,
 }
@@ -35,6 +39,8 @@ const FULL: Extent = Extent {
     short_histories: 100_000,
     with_delays: 100_000,
     with_nearest: 80_000,
+    with_additions: 100_000,
+    added_texts: 30_000,
     long_histories: 300,
     of_short_intervals: 2_500,
 };
@@ -43,6 +49,8 @@ const SELF_TEST: Extent = Extent {
     short_histories: 20_000,
     with_delays: 20_000,
     with_nearest: 10_000,
+    with_additions: 10_000,
+    added_texts: 2_000,
     long_histories: 20,
     of_short_intervals: 200,
 };
@@ -78,6 +86,8 @@ impl Test for WatchTest {
 /// Compares all, up to the first difference.
 fn compare(calls: &Calls, extent: &Extent, met: &mut Met) -> Compared {
     planned::short_tables(calls, met)?;
+    planned::additions(calls, met)?;
+    planned::added_lines(calls, extent.added_texts, met)?;
     planned::long_trees(calls, met)?;
     planned::delays(calls, met)?;
     planned::long_jumps(calls, met)?;
@@ -87,6 +97,7 @@ fn compare(calls: &Calls, extent: &Extent, met: &mut Met) -> Compared {
     (0..extent.short_histories).try_for_each(|_| histories::short(calls, &mut random, met))?;
     (0..extent.with_delays).try_for_each(|_| histories::with_delays(calls, &mut random, met))?;
     (0..extent.with_nearest).try_for_each(|_| histories::with_nearest(calls, &mut random, met))?;
+    (0..extent.with_additions).try_for_each(|_| histories::with_additions(calls, &mut random, met))?;
     (0..extent.long_histories).try_for_each(|_| histories::long(calls, &mut random, met))?;
     (0..extent.of_short_intervals).try_for_each(|_| histories::of_short_intervals(calls, &mut random, met))?;
     planned::blocks(calls, met)?;

@@ -1,6 +1,7 @@
 //! What a run reached: answers of each call, causes of 13, operators of rows, edges of searches, blocks of rows,
-//! delays, `cut` and `change`.
+//! delays, `cut` and `change`, additions.
 
+use crate::additions::Additions;
 use crate::blocks::Blocks;
 use crate::delays::{self, Delays};
 use crate::nearest::Nearest;
@@ -12,7 +13,7 @@ use oracle::consistency::{Cause, CAUSES};
 use std::collections::{BTreeMap, BTreeSet};
 
 /// Every answer that a call has, 0 being no refusal.
-const ANSWERS: [(&str, &[u32]); 7] = [
+const ANSWERS: [(&str, &[u32]); 8] = [
     ("open", &[0, 8, 14]),
     ("event", &[0, 9, 10, 13, 14]),
     ("clock", &[0, 8, 12, 13, 14]),
@@ -20,10 +21,12 @@ const ANSWERS: [(&str, &[u32]); 7] = [
     ("check", &[0, 13, 14]),
     ("rows", &[0, 13, 14]),
     ("tree", &[0, 13, 14, 15, 16]),
+    ("add", &[0, 1, 2, 3, 4, 5, 6, 13, 14]),
 ];
 
 const LEAST_HISTORIES_WITH_DELAYS: usize = 100_000;
 const LEAST_HISTORIES_WITH_NEAREST: usize = 100_000;
+const LEAST_HISTORIES_WITH_ADDITIONS: usize = 100_000;
 
 pub struct Met {
     pub histories: usize,
@@ -41,6 +44,7 @@ pub struct Met {
     pub blocks: Blocks,
     pub delays: Delays,
     pub nearest: Nearest,
+    pub additions: Additions,
 }
 
 impl Met {
@@ -86,6 +90,7 @@ impl harness::Met for Met {
             blocks: Blocks::default(),
             delays: Delays::default(),
             nearest: Nearest::default(),
+            additions: Additions::default(),
         }
     }
 
@@ -93,9 +98,10 @@ impl harness::Met for Met {
         let answers = self.answers.values().chain(self.causes.values());
         let reads = answers.chain(&self.operators).chain(&self.rows_read).chain([&self.consistent]);
         let rows = self.searches.counts().chain(self.blocks.counts());
-        let operators = self.delays.counts().chain(self.nearest.counts());
+        let operators = self.delays.counts().chain(self.nearest.counts()).chain(self.additions.counts());
         self.delays.histories >= LEAST_HISTORIES_WITH_DELAYS
             && self.nearest.histories[0] >= LEAST_HISTORIES_WITH_NEAREST
+            && self.additions.histories >= LEAST_HISTORIES_WITH_ADDITIONS
             && reads.chain(rows).chain(operators).all(|count| *count >= LEAST_MET)
     }
 
@@ -118,5 +124,6 @@ impl harness::Met for Met {
         self.blocks.print();
         self.delays.print();
         self.nearest.print();
+        self.additions.print();
     }
 }

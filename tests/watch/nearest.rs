@@ -129,7 +129,7 @@ impl Pair<'_> {
         self.rivals_of_first().next().is_some()
     }
 
-    fn stands(&self) -> bool {
+    pub fn stands(&self) -> bool {
         !self.has_rival_of_second() && !(self.is_change && self.has_rival_of_first())
     }
 

@@ -1,7 +1,10 @@
 //! What is compared by plan, not by chance: charts on paper, every short table, delays, jumps over many ends and over
-//! most of the range, `cut` and `change` at each boundary, the largest table, blocks of many rows to be put in order,
-//! and trees of billions of bytes.
+//! most of the range, `cut` and `change` at each boundary, additions between what comes too early for them and what
+//! does not, added lines up to the end of a chart, the largest table, blocks of many rows to be put in order, and trees
+//! of billions of bytes.
 
+use crate::added_lines::Drawn;
+use crate::damage::compare_addition;
 use crate::histories::{any_row, compare_tree, compare_tree_in, Run};
 use crate::met::Met;
 use crate::subject::{lent_table, Subject};
@@ -68,18 +71,20 @@ struct Planned {
     log: &'static str,
 }
 
-/// The calls of a log in short: `e1` is an event of code 1, `c5` a mark at 5, `f2` a forget at 2.
+/// The calls of a log in short.
 fn calls_of(log: &str) -> Vec<Call> {
-    let call = |word: &str| {
-        let number: i64 = word[1..].parse().expect("a number follows the letter");
-        match &word[..1] {
-            "e" => Call::Event(number as u8),
-            "c" => Call::Clock(number),
-            "f" => Call::Forget(number),
-            _ => panic!("{word} is no call"),
-        }
-    };
-    log.split(' ').map(call).collect()
+    log.split(' ').map(call_of).collect()
+}
+
+/// `e1` is an event of code 1, `c5` a mark at 5, `f2` a forget at 2.
+fn call_of(word: &str) -> Call {
+    let number: i64 = word[1..].parse().expect("a number follows the letter");
+    match &word[..1] {
+        "e" => Call::Event(number as u8),
+        "c" => Call::Clock(number),
+        "f" => Call::Forget(number),
+        _ => panic!("{word} is no call"),
+    }
 }
 
 const DELAYS: [Planned; 7] = [
@@ -205,6 +210,132 @@ const NEAREST: [Planned; 9] = [
 /// Each of these on a table of each length up to 170, so that each of its rows, at most 32, is once one too many.
 pub fn nearest(calls: &Calls, met: &mut Met) -> Compared {
     on_each_length(calls, &NEAREST, 170, met)
+}
+
+/// A log under a chart, in which `a0` adds the first of these lines, `a1` the second.
+struct PlannedAdditions {
+    chart: &'static str,
+    added: &'static [&'static str],
+    opening: i32,
+    log: &'static str,
+}
+
+const OF_EVENTS: &str = "0\tevent\t1\n1\tevent\t2\n";
+
+const ADDED: [PlannedAdditions; 10] = [
+    // Events before, at and after the addition, and an added entry that names a code again.
+    PlannedAdditions {
+        chart: OF_EVENTS,
+        added: &["2\tevent\t1\n3\tseq\t0\t1\n4\tand\t2\t0\n5\tor\t0\t2\n"],
+        opening: 0,
+        log: "e1 c1 e1 a0 e1 c2 e2 c3 e1 c4",
+    },
+    // Waits that begin before the addition, at it and after it; delays of delays; one that forbids.
+    PlannedAdditions {
+        chart: OF_EVENTS,
+        added: &["2\tafter\t0\t5\n3\tafter\t2\t5\n4\t-[]\t2\t1\n5\tatleast\t2\t5\n"],
+        opening: 0,
+        log: "e1 c2 e1 c3 e1 a0 c4 e1 e2 c7 c8 c9 c30",
+    },
+    // Old waits that end behind the addition: of what is made of them, all starts too early, but for the last.
+    PlannedAdditions {
+        chart: "0\tevent\t1\n1\tafter\t0\t4\n2\tafter\t0\t9\n",
+        added: &["3\tor\t1\t2\n4\tfinishes\t1\t1\n5\tequals\t1\t1\n6\tmeets\t1\t0\n7\toverlaps\t1\t2\n"],
+        opening: -9,
+        log: "e1 c-8 e1 c-7 a0 e1 c-6 e1 c-3 e1 c20",
+    },
+    // Pairs of r from before and s from behind; rivals from before, and ties.
+    PlannedAdditions {
+        chart: OF_EVENTS,
+        added: &["2\tcut\t0\t1\n3\tchange\t0\t1\n4\tcut\t1\t0\n5\tseq\t0\t1\n"],
+        opening: 0,
+        log: "e1 c1 e2 c2 e1 a0 e1 c3 e1 e2 c4 e2 c5 e1 c6 e2 c7",
+    },
+    // Absences over what began before, and what forbids from before.
+    PlannedAdditions {
+        chart: "0\tevent\t1\n1\tevent\t2\n2\tseq\t0\t1\n",
+        added: &["3\t-[]\t0\t1\n4\t-][\t2\t0\n5\t-[[\t2\t0\n6\t-]]\t2\t1\n"],
+        opening: 0,
+        log: "e1 e2 c1 e1 a0 e2 c2 e1 e2 c3 e2 c5",
+    },
+    // Twice at one instant, and then over both at later ones.
+    PlannedAdditions {
+        chart: "0\tevent\t1\n",
+        added: &["1\tlasts\t0\t0\n", "2\tseq\t0\t1\n3\tor\t1\t0\n", "4\tand\t1\t3\n", "5\tstarts\t0\t2\n"],
+        opening: 5,
+        log: "e1 a0 e1 a1 c6 e1 c7 a2 e1 c8 e1 a3 c9 e1 c10",
+    },
+    // Room that only rows which start too early would take.
+    PlannedAdditions {
+        chart: "0\tevent\t1\n",
+        added: &["1\tand\t0\t0\n2\tseq\t0\t0\n"],
+        opening: 0,
+        log: "e1 c1 e1 c2 a0 e1 c3 f1 e1 c4 f4 e1 c5",
+    },
+    // Forgets below the instants from which entries count, at them and above them.
+    PlannedAdditions {
+        chart: "0\tevent\t1\n1\tafter\t0\t3\n",
+        added: &["2\tatmost\t1\t9\n", "3\tduring\t0\t1\n4\tseq\t0\t2\n"],
+        opening: 0,
+        log: "e1 c1 f1 e1 c2 a0 e1 c3 f1 e1 c4 f2 a1 e1 c5 e1 c6 f4 e1 c9 f6 f9 a0 c10",
+    },
+    // Both ends of the range: from the first instant on an added entry counts as those of the opening do.
+    PlannedAdditions {
+        chart: "0\tevent\t1\n",
+        added: &["1\tafter\t0\t1999999999\n", "2\tor\t0\t1\n", "3\tevent\t1\n"],
+        opening: -1_000_000_000,
+        log: "e1 a0 c-999999999 e1 a1 c999999999 e1 c1000000000 a2 e1",
+    },
+    // Refused ones in between, which leave no trace.
+    PlannedAdditions {
+        chart: "0\tevent\t1\n",
+        added: &["1\tor\t0\t0\n2\tor\t2\t0\n", "", "0\tevent\t1\n", "1\tevent\t256\n", "1\tor\t0\t0\n2\tor\t1\t1\n"],
+        opening: 0,
+        log: "e1 a0 c1 a1 e1 a2 a3 c2 a4 e1 a0 c3 a4 a1 c4",
+    },
+];
+
+/// Each of these on a table of each length up to 190, so that each of its rows, at most 37, is once one too many.
+pub fn additions(calls: &Calls, met: &mut Met) -> Compared {
+    for PlannedAdditions { chart, added, opening, log } in &ADDED {
+        let entries = entries(chart);
+        for length in 0..=190 {
+            let table: Vec<i32> = (0..length).map(|place| 1_000 - place).collect();
+            let mut run = Run::open(calls, &entries, chart_value::of(&entries), &table, *opening, 0, met)?;
+            for word in log.split(' ') {
+                match word.strip_prefix('a').map(|place| place.parse::<usize>().expect("a number follows the letter")) {
+                    Some(place) => run.add_lines(&Drawn { lines: added[place].into(), fault: None }, met)?,
+                    None => run.play(call_of(word), met)?,
+                }
+            }
+        }
+    }
+    Ok(())
+}
+
+/// Lines added to charts of few entries, of 31 and of 32: each number of lines up to two too many, with each of these
+/// behind them; and so many texts damaged by chance.
+pub fn added_lines(calls: &Calls, texts: usize, met: &mut Met) -> Compared {
+    let events = |from: usize, to: usize| (from..to).map(|number| format!("{number}\tevent\t1\n")).collect::<String>();
+    let opened = |count: usize| {
+        let watch = Watch { instant: 7, ..Watch::opened(0, count) };
+        Subject { watch, chart: chart_value::of(&entries(&events(0, count))), table: lent_table(&[0; 12]) }
+    };
+    for count in [1, 2, 16, 30, 31, 32] {
+        for last in count..=34 {
+            let own = [format!("{last}\tor\t{last}\t0\n"), format!("{last}\tafter\t{last}\t2000000001\n")];
+            let others = ["", "x\n", "\n", "x", "0\tevent\t1\n", "99\tevent\t256\n"].map(str::to_string);
+            for line in own.into_iter().chain(others) {
+                compare_addition(calls, &opened(count), (events(count, last) + &line).as_bytes(), met)?;
+            }
+        }
+    }
+    let mut random = Random::new(32);
+    (0..texts).try_for_each(|_| {
+        let count = random.pick(&[1, 2, 3, 8, 20, 29, 30, 31, 32]);
+        let lines = random_charts::any_more(&mut random, count);
+        compare_addition(calls, &opened(count), &lines, met)
+    })
 }
 
 /// Many r, many s that end together, and as many once more, for which the first are rivals.
@@ -349,7 +480,7 @@ fn compare_checks_of_full_table(calls: &Calls, full: &Subject) -> Compared {
 fn nested(calls: &Calls, word: &str) -> Result<Subject, String> {
     let others: String = (1..32).map(|number| format!("{number}\t{word}\t{0}\t{0}\n", number - 1)).collect();
     let chart = chart_value::of(&entries(&format!("0\tevent\t1\n{others}")));
-    let mut subject = Subject { watch: Watch::empty(0), chart, table: lent_table(&[0; 32 * 5]) };
+    let mut subject = Subject { watch: Watch::opened(0, 32), chart, table: lent_table(&[0; 32 * 5]) };
     subject.play(calls, Call::Event(1));
     subject.play(calls, Call::Clock(1));
     if subject.watch.rows == 32 {

@@ -1,6 +1,6 @@
 //! The watch under test with the memory lent to it.
 
-use common::interface::{Answer, Calls, Chart, Watch};
+use common::interface::{Addition, Answer, Calls, Chart, Watch};
 use oracle::model::Call;
 
 /// The numbers before and behind lent memory, which no call may touch.
@@ -61,6 +61,19 @@ impl Subject {
         };
         self.watch = answer.watch;
         answer
+    }
+
+    /// Adds lines, which are lent too, and keeps the watch and the chart handed back. What stands behind the lines ends
+    /// the last of them for a reader that goes too far.
+    pub fn add_lines(&mut self, calls: &Calls, lines: &[u8]) -> Result<Addition, String> {
+        let lent = Lent::new(lines, b'\n');
+        let addition = (calls.add_lines)(self.watch, self.chart, self.table.part(), lent.part());
+        (self.watch, self.chart) = (addition.watch, addition.chart);
+        if lent.holds(lines) {
+            Ok(addition)
+        } else {
+            Err("an addition altered its lines".to_string())
+        }
     }
 }
 

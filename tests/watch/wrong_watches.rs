@@ -2,11 +2,13 @@
 //! it could not find such a fault in the proved one. They are a crate of their own, since compiling so many with
 //! optimizations takes far longer than running them without.
 
+use common::careless;
 use common::harness::Named;
-use common::interface::{Answer, Calls, Chart, Entry, Rows, TreeAnswer, Watch};
+use common::interface::{Addition, Answer, Calls, Chart, Entry, Rows, TreeAnswer, Watch, FIRST_FLOOR};
+use common::plain_chart::{self, Verdict};
 use common::plain_watch::closing::{
-    Closing, AFTER, AND, AT_LEAST, AT_MOST, CHANGE, CLOSED_CLOSED, CLOSED_OPEN, CUT, DURING, LASTS, NONE, OPEN_CLOSED,
-    OPEN_OPEN, OR, OVERLAPS, SEQ,
+    Closing, AFTER, AND, AT_LEAST, AT_MOST, CHANGE, CLOSED_CLOSED, CLOSED_OPEN, CUT, DURING, EQUALS, EVENT, LASTS,
+    MEETS, NONE, OPEN_CLOSED, OPEN_OPEN, OR, OVERLAPS, SEQ,
 };
 use common::plain_watch::storage::{Lower, Own, Part, Row, Span, Storage, END, ENTRY, START, UNUSED};
 use common::plain_watch::{calls, is_instant, Plain, PlainWatch, Renumbered, Taken, INSTANTS};
@@ -98,6 +100,18 @@ fn has_rival(operand: u32, row: &Row, lower: &[Row], is_rival: impl Fn(&Span, &S
 
 fn is_nearest(entry: &Entry) -> bool {
     matches!(entry.op, CUT | CHANGE)
+}
+
+/// The entries of added lines, or why they are refused.
+type Lines = Result<Vec<plain_chart::Entry>, Verdict>;
+
+/// The instant from which an entry counts, but for those of some operators, which count from the opening.
+fn since_but_for(is_so: fn(u8) -> bool, watch: &Watch, number: usize, entry: &Entry) -> i32 {
+    if is_so(entry.op) {
+        FIRST_FLOOR
+    } else {
+        Plain::since(watch, number, entry)
+    }
 }
 
 wrong_watches! {
@@ -685,9 +699,466 @@ wrong_watches! {
                 behind
             }
         }
+
+        // Additions.
+        OpensWithoutEntries: "opening: the watch has no entries" {
+            fn open(chart: Chart, table: &mut [i32], instant: i32) -> Answer {
+                let answer = Plain::open(chart, table, instant);
+                Answer { watch: Watch { entries: 0, ..answer.watch }, ..answer }
+            }
+        }
+        OpensFromInstant: "opening: entries count from the opening instant" {
+            fn open(chart: Chart, table: &mut [i32], instant: i32) -> Answer {
+                let mut answer = Plain::open(chart, table, instant);
+                let entries = answer.watch.entries;
+                answer.watch.since[..entries].fill(instant);
+                answer
+            }
+        }
+        FillsUnusedPlaces: "opening: the places behind the entries not zeros" {
+            fn open(chart: Chart, table: &mut [i32], instant: i32) -> Answer {
+                let mut answer = Plain::open(chart, table, instant);
+                if answer.refusal == 0 {
+                    answer.watch.since.fill(FIRST_FLOOR);
+                }
+                answer
+            }
+        }
+        GivesEntriesToEmptyWatch: "opening refused: the watch has the chart's entries" {
+            fn open(chart: Chart, table: &mut [i32], instant: i32) -> Answer {
+                let answer = Plain::open(chart, table, instant);
+                if answer.refusal == 8 {
+                    return Answer { watch: Watch::opened(0, chart.count), ..answer };
+                }
+                answer
+            }
+        }
+        AddsFromFloor: "addition: the floor kept as the instant of added entries" {
+            fn with_entries(watch: Watch, added: usize) -> Watch {
+                Watch { instant: watch.instant, ..Plain::with_entries(Watch { instant: watch.floor, ..watch }, added) }
+            }
+        }
+        AddsFromNextInstant: "addition: the instant after the open one kept" {
+            fn with_entries(watch: Watch, added: usize) -> Watch {
+                let next = Watch { instant: watch.instant.saturating_add(1), ..watch };
+                Watch { instant: watch.instant, ..Plain::with_entries(next, added) }
+            }
+        }
+        AddsToFirstPlaces: "addition: the instants of earlier entries raised too" {
+            fn with_entries(watch: Watch, added: usize) -> Watch {
+                let mut longer = Plain::with_entries(watch, added);
+                longer.since[..longer.entries].fill(watch.instant);
+                longer
+            }
+        }
+        RaisesLastAddition: "addition: the instants of entries added before raised too" {
+            fn with_entries(watch: Watch, added: usize) -> Watch {
+                let mut longer = Plain::with_entries(watch, added);
+                longer.since.iter_mut().take(watch.entries).filter(|since| **since > FIRST_FLOOR).for_each(|since| {
+                    *since = watch.instant;
+                });
+                longer
+            }
+        }
+        AddsToAllPlaces: "addition: the places behind the entries filled too" {
+            fn with_entries(watch: Watch, added: usize) -> Watch {
+                let mut longer = Plain::with_entries(watch, added);
+                longer.since[watch.entries..].fill(watch.instant);
+                longer
+            }
+        }
+        AddsOneEntry: "addition: of several lines one entry counted" {
+            fn with_entries(watch: Watch, added: usize) -> Watch {
+                Watch { entries: watch.entries + 1, ..Plain::with_entries(watch, added) }
+            }
+        }
+        DropsPendingAtAddition: "addition: the events of the open instant dropped" {
+            fn with_entries(watch: Watch, added: usize) -> Watch {
+                Watch { pending: 0, ..Plain::with_entries(watch, added) }
+            }
+        }
+        ClearsChartBehind: "addition: what stands behind the chart's entries cleared" {
+            fn add_lines(watch: Watch, chart: Chart, table: &[i32], bytes: &[u8]) -> Addition {
+                let mut addition = Plain::add_lines(watch, chart, table, bytes);
+                if addition.refusal == 0 {
+                    let count = addition.chart.count;
+                    addition.chart.entries[count..].fill(Entry { op: 0, a: 0, b: 0 });
+                }
+                addition
+            }
+        }
+        CountsAllLines: "addition refused: the line counted from the chart's first" {
+            fn read_lines(chart: &Chart, bytes: &[u8]) -> Lines {
+                let later = |verdict: Verdict| Verdict { line: verdict.line + chart.count as u32, ..verdict };
+                Plain::read_lines(chart, bytes).map_err(later)
+            }
+        }
+        CountsLinesFrom0: "addition refused: the line counted from 0" {
+            fn read_lines(chart: &Chart, bytes: &[u8]) -> Lines {
+                let earlier = |verdict: Verdict| Verdict { line: verdict.line - 1, ..verdict };
+                Plain::read_lines(chart, bytes).map_err(earlier)
+            }
+        }
+        KeepsRightLines: "addition refused: the chart with the lines before the bad one" {
+            fn add_lines(watch: Watch, chart: Chart, table: &[i32], bytes: &[u8]) -> Addition {
+                let addition = Plain::add_lines(watch, chart, table, bytes);
+                let before = (addition.line as usize).saturating_sub(1);
+                let right = bytes.split_inclusive(|byte| *byte == b'\n').take(before).collect::<Vec<_>>().concat();
+                if addition.refusal == 0 || right.is_empty() {
+                    return addition;
+                }
+                Addition { chart: Plain::add_lines(watch, chart, table, &right).chart, ..addition }
+            }
+        }
+        HandsBackNoChart: "addition refused: a chart of no entries handed back" {
+            fn add_lines(watch: Watch, chart: Chart, table: &[i32], bytes: &[u8]) -> Addition {
+                let addition = Plain::add_lines(watch, chart, table, bytes);
+                let refused = Addition { chart: Chart::no_entries(), ..addition };
+                if addition.line == 0 { addition } else { refused }
+            }
+        }
+        KeepsEntryOfRefused: "addition refused: the watch has an entry more" {
+            fn add_lines(watch: Watch, chart: Chart, table: &[i32], bytes: &[u8]) -> Addition {
+                let mut addition = Plain::add_lines(watch, chart, table, bytes);
+                if addition.line != 0 && watch.entries < 32 {
+                    addition.watch = Plain::with_entries(watch, 1);
+                }
+                addition
+            }
+        }
+        TooManyAsMalformed: "addition: a 33rd entry refused with 3" {
+            fn read_lines(chart: &Chart, bytes: &[u8]) -> Lines {
+                Plain::read_lines(chart, bytes).map_err(|verdict| match verdict.refusal {
+                    2 => Verdict { refusal: 3, ..verdict },
+                    _ => verdict,
+                })
+            }
+        }
+        FullBefore32: "addition: the 32nd entry refused with 2" {
+            fn read_lines(chart: &Chart, bytes: &[u8]) -> Lines {
+                let added = Plain::read_lines(chart, bytes)?;
+                if chart.count + added.len() == 32 {
+                    return Err(Verdict { refusal: 2, line: added.len() as u32 });
+                }
+                Ok(added)
+            }
+        }
+        CountsLinesFirst: "addition: too many lines refused before a bad one among them" {
+            fn read_lines(chart: &Chart, bytes: &[u8]) -> Lines {
+                let room = 32 - chart.count;
+                if bytes.split_inclusive(|byte| *byte == b'\n').count() > room {
+                    return Err(Verdict { refusal: 2, line: room as u32 + 1 });
+                }
+                Plain::read_lines(chart, bytes)
+            }
+        }
+        LooksAtFormBefore2: "addition: 3 before 2 in a line" {
+            fn read_lines(chart: &Chart, bytes: &[u8]) -> Lines {
+                Plain::read_lines(chart, bytes).map_err(|verdict| {
+                    let line = bytes.split_inclusive(|byte| *byte == b'\n').nth(verdict.line as usize - 1);
+                    let is_malformed = line.is_some_and(|line| plain_chart::record(line).is_none());
+                    Verdict { refusal: if is_malformed { 3 } else { verdict.refusal }, ..verdict }
+                })
+            }
+        }
+        TakesNoLine: "addition: none taken" {
+            fn read_lines(chart: &Chart, bytes: &[u8]) -> Lines {
+                if bytes.is_empty() { Ok(vec![]) } else { Plain::read_lines(chart, bytes) }
+            }
+        }
+        NumbersAnew: "addition: entry numbers from 0 again" {
+            fn read_lines(chart: &Chart, bytes: &[u8]) -> Lines {
+                plain_chart::read_more(0, bytes).or_else(|_| Plain::read_lines(chart, bytes))
+            }
+        }
+        WantsOldOperands: "addition: an operand among the added lines refused" {
+            fn read_lines(chart: &Chart, bytes: &[u8]) -> Lines {
+                let added = Plain::read_lines(chart, bytes)?;
+                let is_old = |entry: &&plain_chart::Entry| plain_chart::has_lower_operands(entry, chart.count as u64);
+                match added.iter().position(|entry| !is_old(&entry)) {
+                    Some(place) => Err(Verdict { refusal: 5, line: place as u32 + 1 }),
+                    None => Ok(added),
+                }
+            }
+        }
+        TakesBrokenLine: "addition: a last line without its byte 10 taken" {
+            fn read_lines(chart: &Chart, bytes: &[u8]) -> Lines {
+                Plain::read_lines(chart, &careless::with_last_byte(bytes))
+            }
+        }
+        AddsOutOfJoint: "addition: 13 not checked" {
+            fn add_lines(watch: Watch, chart: Chart, table: &[i32], bytes: &[u8]) -> Addition {
+                let addition = Plain::add_lines(watch, chart, table, bytes);
+                if addition.refusal == 13 {
+                    let opened = Watch::opened(0, chart.count);
+                    return Addition { watch, ..Plain::add_lines(opened, chart, &[], bytes) };
+                }
+                addition
+            }
+        }
+        AddsToUnusable: "addition: 13 before 14" {
+            fn add_lines(watch: Watch, chart: Chart, table: &[i32], bytes: &[u8]) -> Addition {
+                let addition = Plain::add_lines(watch, chart, table, bytes);
+                let is_out_of_joint = addition.refusal == 14 && watch.entries != chart.count;
+                Addition { refusal: if is_out_of_joint { 13 } else { addition.refusal }, ..addition }
+            }
+        }
+        ReadsLinesFirst: "addition: bad lines before 13" {
+            fn add_lines(watch: Watch, chart: Chart, table: &[i32], bytes: &[u8]) -> Addition {
+                let addition = Plain::add_lines(watch, chart, table, bytes);
+                match Plain::read_lines(&chart, bytes) {
+                    Err(Verdict { refusal, line }) if addition.refusal == 13 => Addition { refusal, line, ..addition },
+                    _ => addition,
+                }
+            }
+        }
+        GivesLineOf13: "addition: 13 with line 1" {
+            fn add_lines(watch: Watch, chart: Chart, table: &[i32], bytes: &[u8]) -> Addition {
+                let addition = Plain::add_lines(watch, chart, table, bytes);
+                Addition { line: if addition.refusal == 13 { 1 } else { addition.line }, ..addition }
+            }
+        }
+        GivesLineOf14: "addition: 14 with line 1" {
+            fn add_lines(watch: Watch, chart: Chart, table: &[i32], bytes: &[u8]) -> Addition {
+                let addition = Plain::add_lines(watch, chart, table, bytes);
+                Addition { line: if addition.refusal == 14 { 1 } else { addition.line }, ..addition }
+            }
+        }
+        RaisesInstants: "forget: the instants of entries raised to the floor" {
+            fn forget_unchecked(watch: &mut Watch, chart: &Chart, table: Renumbered, floor: i64) -> Taken {
+                Plain::forget_unchecked(watch, chart, table, floor)?;
+                let (floor, entries) = (watch.floor, watch.entries);
+                watch.since[..entries].iter_mut().for_each(|since| *since = floor.max(*since));
+                Ok(())
+            }
+        }
+        RaisesAddedInstants: "forget: the instants of added entries raised to the floor" {
+            fn forget_unchecked(watch: &mut Watch, chart: &Chart, table: Renumbered, floor: i64) -> Taken {
+                Plain::forget_unchecked(watch, chart, table, floor)?;
+                let floor = watch.floor;
+                let added = watch.since.iter_mut().take(watch.entries).filter(|since| **since > FIRST_FLOOR);
+                added.for_each(|since| *since = floor.max(*since));
+                Ok(())
+            }
+        }
+        DropsInstants: "forget: instants that the floor has passed dropped" {
+            fn forget_unchecked(watch: &mut Watch, chart: &Chart, table: Renumbered, floor: i64) -> Taken {
+                Plain::forget_unchecked(watch, chart, table, floor)?;
+                let floor = watch.floor;
+                let passed = watch.since.iter_mut().take(watch.entries).filter(|since| **since <= floor);
+                passed.for_each(|since| *since = FIRST_FLOOR);
+                Ok(())
+            }
+        }
+        ResetsInstants: "clock mark: added entries count from the opening afterwards" {
+            fn mark(watch: &mut Watch, instant: i32, rows: usize) {
+                Plain::mark(watch, instant, rows);
+                watch.since[..watch.entries].fill(FIRST_FLOOR);
+            }
+        }
+        MovesInstants: "clock mark: the instants of the open instant's entries move with it" {
+            fn mark(watch: &mut Watch, instant: i32, rows: usize) {
+                let open = watch.instant;
+                Plain::mark(watch, instant, rows);
+                let added = watch.since.iter_mut().take(watch.entries).filter(|since| **since == open);
+                added.for_each(|since| *since = instant);
+            }
+        }
+        ClearsPlacesBehind: "clock mark: the places behind the entries cleared" {
+            fn mark(watch: &mut Watch, instant: i32, rows: usize) {
+                Plain::mark(watch, instant, rows);
+                watch.since[watch.entries..].fill(0);
+            }
+        }
+
+        // The check behind 13, of entries.
+        TakesAnyEntries: "13: another number of entries than the chart's taken" {
+            fn has_entries_of(_: &Watch, _: &Chart) -> bool {
+                true
+            }
+        }
+        TakesFewerEntries: "13: fewer entries than the chart's taken" {
+            fn has_entries_of(watch: &Watch, chart: &Chart) -> bool {
+                watch.entries <= chart.count
+            }
+        }
+        TakesMoreEntries: "13: more entries than the chart's taken" {
+            fn has_entries_of(watch: &Watch, chart: &Chart) -> bool {
+                watch.entries >= chart.count
+            }
+        }
+        TakesEmptyWatch: "13: an empty watch taken" {
+            fn has_entries_of(watch: &Watch, chart: &Chart) -> bool {
+                watch.entries == 0 || Plain::has_entries_of(watch, chart)
+            }
+        }
+        TakesFallingInstants: "13: an instant that falls from one entry to the next taken" {
+            fn are_instants_of_entries(watch: &Watch, since: &[i32]) -> bool {
+                since.iter().all(|instant| (FIRST_FLOOR..=watch.instant).contains(instant))
+            }
+        }
+        LooksAtFirstFall: "13: only the first two instants of entries compared" {
+            fn are_instants_of_entries(watch: &Watch, since: &[i32]) -> bool {
+                let are_in_range = TakesFallingInstants::are_instants_of_entries(watch, since);
+                are_in_range && since.iter().take(2).is_sorted()
+            }
+        }
+        TakesInstantBelowRange: "13: an instant of an entry below the range taken" {
+            fn are_instants_of_entries(watch: &Watch, since: &[i32]) -> bool {
+                since.is_sorted() && since[since.len() - 1] <= watch.instant
+            }
+        }
+        TakesInstantAboveOpen: "13: an instant of an entry above the open one taken" {
+            fn are_instants_of_entries(_: &Watch, since: &[i32]) -> bool {
+                since.is_sorted() && since[0] >= FIRST_FLOOR
+            }
+        }
+        TakesAnyInRange: "13: an instant of an entry above the open one taken where it is an instant" {
+            fn are_instants_of_entries(_: &Watch, since: &[i32]) -> bool {
+                since.is_sorted() && since.iter().all(|instant| is_instant(*instant))
+            }
+        }
+        RefusesOpenInstant: "13: an entry that counts from the open instant refused" {
+            fn are_instants_of_entries(watch: &Watch, since: &[i32]) -> bool {
+                Plain::are_instants_of_entries(watch, since) && since[since.len() - 1] < watch.instant
+            }
+        }
+        RefusesEqualInstants: "13: two added entries that count from one instant refused" {
+            fn are_instants_of_entries(watch: &Watch, since: &[i32]) -> bool {
+                let are_equal = |pair: &[i32]| pair[0] == pair[1] && pair[0] > FIRST_FLOOR;
+                Plain::are_instants_of_entries(watch, since) && !since.windows(2).any(are_equal)
+            }
+        }
+        RefusesInstantBelowFloor: "13: an added entry that counts from below the floor refused" {
+            fn are_instants_of_entries(watch: &Watch, since: &[i32]) -> bool {
+                let is_below = |instant: &i32| *instant > FIRST_FLOOR && *instant < watch.floor;
+                Plain::are_instants_of_entries(watch, since) && !since.iter().any(is_below)
+            }
+        }
+        LooksBehindEntries: "13: the places behind the entries looked at" {
+            fn are_instants_of_entries(watch: &Watch, since: &[i32]) -> bool {
+                let are_zeros = watch.since[since.len()..].iter().all(|instant| *instant == 0);
+                Plain::are_instants_of_entries(watch, since) && are_zeros
+            }
+        }
+        TakesRowsFromBefore: "13: a row that starts before its entry counts taken" {
+            fn counts(_: &Watch, _: &Row) -> bool {
+                true
+            }
+        }
+        TakesRowsByEnd: "13: a row that ends when its entry counts taken" {
+            fn counts(watch: &Watch, row: &Row) -> bool {
+                row[END] >= watch.since[row[ENTRY] as usize]
+            }
+        }
+        TakesRowOneBefore: "13: a row that starts an instant before its entry counts taken" {
+            fn counts(watch: &Watch, row: &Row) -> bool {
+                row[START] >= watch.since[row[ENTRY] as usize].saturating_sub(1)
+            }
+        }
+        RefusesRowAtInstant: "13: a row that starts when its entry begins to count refused" {
+            fn counts(watch: &Watch, row: &Row) -> bool {
+                let since = watch.since[row[ENTRY] as usize];
+                row[START] > since || since == FIRST_FLOOR
+            }
+        }
+        LooksAtLastInstant: "13: rows of every entry compared with the last entry's instant" {
+            fn counts(watch: &Watch, row: &Row) -> bool {
+                row[START] >= watch.since[watch.entries - 1]
+            }
+        }
     }
 
     closing {
+        CountsFromOpening: "addition: an added entry's rows from before it made too" {
+            fn since(_: &Watch, _: usize, _: &Entry) -> i32 {
+                FIRST_FLOOR
+            }
+        }
+        CountsFromNextInstant: "addition: rows that start at its instant left out" {
+            fn since(watch: &Watch, number: usize, entry: &Entry) -> i32 {
+                let since = Plain::since(watch, number, entry);
+                if since == FIRST_FLOOR { since } else { since.saturating_add(1) }
+            }
+        }
+        CountsFromOneBefore: "addition: rows that start an instant before made too" {
+            fn since(watch: &Watch, number: usize, entry: &Entry) -> i32 {
+                Plain::since(watch, number, entry) - 1
+            }
+        }
+        LeavesOutPendingEvents: "addition: events of the open instant left out for new entries" {
+            fn since(watch: &Watch, number: usize, entry: &Entry) -> i32 {
+                let since = Plain::since(watch, number, entry);
+                if entry.op == EVENT && since == watch.instant { since.saturating_add(1) } else { since }
+            }
+        }
+        CountsFromFloor: "addition: once something was forgotten, entries count from the floor" {
+            fn since(watch: &Watch, number: usize, entry: &Entry) -> i32 {
+                if watch.floor > FIRST_FLOOR { watch.floor } else { Plain::since(watch, number, entry) }
+            }
+        }
+        CountsFromLast: "addition: every entry counts from the last one's instant" {
+            fn since(watch: &Watch, _: usize, entry: &Entry) -> i32 {
+                Plain::since(watch, watch.entries - 1, entry)
+            }
+        }
+        CountsFromOperand: "addition: an entry counts from its operand's instant" {
+            fn since(watch: &Watch, number: usize, entry: &Entry) -> i32 {
+                Plain::since(watch, if entry.op == EVENT { number } else { entry.a as usize }, entry)
+            }
+        }
+        BarsByEnd: "addition: the instant compared with the end" {
+            fn append<L: Lower>(watch: &Watch, entry: &Entry, lower: L, own: &mut Own) -> Option<()> {
+                let since = std::mem::replace(&mut own.since, i32::MIN);
+                append_changed((watch, entry), lower, own, |rows| rows.retain(|row| row[END] >= since))
+            }
+        }
+        FullByBarredRows: "addition: 12 counts rows that start too early" {
+            fn append<L: Lower>(watch: &Watch, entry: &Entry, lower: L, own: &mut Own) -> Option<()> {
+                let since = std::mem::replace(&mut own.since, i32::MIN);
+                append_changed((watch, entry), lower, own, |rows| rows.retain(|row| row[START] >= since))
+            }
+        }
+        DelaysFromBefore: "addition: waits that began before it made too" {
+            fn since(watch: &Watch, number: usize, entry: &Entry) -> i32 {
+                since_but_for(|op| op == AFTER, watch, number, entry)
+            }
+        }
+        ArmsFromBefore: "addition: or of rows that started before it made too" {
+            fn since(watch: &Watch, number: usize, entry: &Entry) -> i32 {
+                since_but_for(|op| op == OR, watch, number, entry)
+            }
+        }
+        AbsencesFromBefore: "addition: absences of rows that started before it made too" {
+            fn since(watch: &Watch, number: usize, entry: &Entry) -> i32 {
+                since_but_for(|op| (CLOSED_CLOSED..=OPEN_CLOSED).contains(&op), watch, number, entry)
+            }
+        }
+        LengthsFromBefore: "addition: length tests of rows that started before it made too" {
+            fn since(watch: &Watch, number: usize, entry: &Entry) -> i32 {
+                since_but_for(|op| (LASTS..=AT_LEAST).contains(&op), watch, number, entry)
+            }
+        }
+        RelationsFromBefore: "addition: meets to equals of rows that started before it made too" {
+            fn since(watch: &Watch, number: usize, entry: &Entry) -> i32 {
+                since_but_for(|op| (MEETS..=EQUALS).contains(&op), watch, number, entry)
+            }
+        }
+        NearestFromBefore: "addition: cut and change of rows that started before it made too" {
+            fn since(watch: &Watch, number: usize, entry: &Entry) -> i32 {
+                since_but_for(|op| matches!(op, CUT | CHANGE), watch, number, entry)
+            }
+        }
+        PairsBySecond: "addition: the instant compared with the start of s" {
+            fn append<L: Lower>(watch: &Watch, entry: &Entry, lower: L, own: &mut Own) -> Option<()> {
+                if !matches!(entry.op, SEQ | CUT | CHANGE) {
+                    return Plain::append(watch, entry, lower, own);
+                }
+                let since = std::mem::replace(&mut own.since, i32::MIN);
+                let start_of = |row: i32| lower.all(entry.b).spans().find(|s| s.row == row).map(|s| s.start);
+                append_changed((watch, entry), lower, own, |rows| rows.retain(|row| start_of(row[2]) >= Some(since)))
+            }
+        }
         ClosesOnce: "fills the first clock mark rightly, afterwards only moves the instant" {
             fn close(watch: &Watch, chart: &Chart, storage: &mut Storage) -> Option<()> {
                 if watch.rows > 0 { Some(()) } else { Plain::close(watch, chart, storage) }

@@ -1,18 +1,18 @@
--- The reader's loop, line by line, and the check behind refusal 14.
+-- The first line of a text as the code finds it, the reader line by line, and the check behind refusal 14.
 use Prim.Native.Nat.{ℕ, suc, _+_, _-_, _≤_, _<_}
 use native.Mathlib.Omega.{arith}
 use native.Mathlib.Numerals.{add-one}
 use mathlib.Core.Path.{_≡_, refl, ap, subst}
 use mathlib.Core.Bool.{Bool, true, false, cond, _&&_}
 use mathlib.Core.List.{List, [], _∷_}
-use borrow.Author.Tests.{eq-eqb, ne-eqb, eqb-true, eqb-false, ltb-true, ltb-false, lt-ltb, le-leb, lt-leb}
-use lib.Dec.{eqb, ltb}
+use borrow.Author.Tests.{eq-eqb, ne-eqb, eqb-true, eqb-false, ltb-true, ltb-false, leb-false, lt-ltb, le-leb, lt-leb}
+use lib.Dec.{eqb, ltb, leb}
 use lib.ListN.{length, take, drop, length-take}
 use lib.Seq.{length-take-le}
-use Rattle.text.specs.Text.{Line, lines, indexOf, whole, lineSize}
-use Rattle.text.proofs.Laws.{first-whole, first-broken, index-le, lines-none, size-found, size-none}
-use Rattle.chart.specs.Records.{answerTo, lineAnswer, refusedLine}
-use Rattle.chart.specs.Charts.{readLines, addLine, takenChart, readChart, orNoLine, noEntries, withEntry, refusedChart, isUsable, allBelow, entryFits, entryAt}
+use Rattle.text.specs.Text.{Line, lines, indexOf, whole, lineSize, fields}
+use Rattle.text.proofs.Laws.{first-whole, first-broken, index-le, size-found, size-none}
+use Rattle.chart.specs.Records.{answerTo, lineAnswer, refusedLine, checkedLine, parsedLine}
+use Rattle.chart.specs.Charts.{readLines, addLine, takenChart, withEntry, refusedChart, isUsable, allBelow, entryFits, entryAt}
 use Rattle.chart.specs.declared.Chart.{Chart}
 use Rattle.chart.specs.declared.ChartAnswer.{ChartAnswer}
 use Rattle.chart.specs.declared.record.LineAnswer.{LineAnswer}
@@ -53,7 +53,7 @@ first-none n s g h =
       rest = b .1;
       cut = b .2;
       answer = simp (size, b .3);
-      next = λ z. absurd (go (eqb n 32) (simp size at z));
+      next = λ z. absurd (go (leb 32 n) (simp size at z));
     }
   where
     go : (t : Bool) → (cond t (refusedLine 2) (refusedLine 3)) .refusal ≡ 0 → ⊥
@@ -67,48 +67,21 @@ first-line n s g = go (ltb (indexOf 10 (take 64 s)) (length (take 64 s))) refl
     go true e = first-found n s (ltb-true (indexOf 10 (take 64 s)) (length (take 64 s)) e)
     go false e = first-none n s g (ltb-false (indexOf 10 (take 64 s)) (length (take 64 s)) e)
 
--- a line that is taken, and one that is refused
-module _ (c : Chart) (s : List ℕ) (g : 0 < length s) where
-  pub step-taken : (lineAnswer (c .count) (lineSize s) s) .refusal ≡ 0 → readLines c (lines s) ≡ readLines (withEntry c ((lineAnswer (c .count) (lineSize s) s) .entry)) (lines (drop (lineSize s) s))
-  unfolding readLines
-  step-taken z =
-      let f = first-line (c .count) s g in
-      simp (f .cut, f .answer, eq-eqb _ _ z, f .next z)
-
-  pub step-refused : ((lineAnswer (c .count) (lineSize s) s) .refusal ≡ 0 → ⊥) → readLines c (lines s) ≡ refusedChart ((lineAnswer (c .count) (lineSize s) s) .refusal) (c .count + 1)
-  unfolding readLines
-  step-refused z =
-      let f = first-line (c .count) s g in
-      simp (f .cut, f .answer, ne-eqb _ _ z)
-
-pub no-line-left : (c : Chart) → readLines c (lines []) ≡ record { refusal = 0; line = 0; chart = c }
-unfolding readLines
-no-line-left c = simp lines-none
-
--- a chart that has a line
-pub some-line : (s : List ℕ) → 0 < length s → readChart s ≡ readLines noEntries (lines s)
-unfolding readChart orNoLine
-some-line s g = let f = first-line 0 s g in simp (f .cut)
-
-pub no-line : (s : List ℕ) → length s ≡ 0 → readChart s ≡ refusedChart 1 1
-unfolding readChart orNoLine
-no-line [] e = simp lines-none
-no-line (b ∷ s) e = absurd (omega arith)
-
 -- a line that is taken has a size and is no 33rd
-taken-sized : (n size : ℕ) (s : List ℕ) → (lineAnswer n size s) .refusal ≡ 0 → (n ≡ 32 → ⊥) × (size ≡ 0 → ⊥)
+taken-sized : (n size : ℕ) (s : List ℕ) → (lineAnswer n size s) .refusal ≡ 0 → (n < 32) × (size ≡ 0 → ⊥)
 unfolding lineAnswer
-taken-sized n size s e = (λ p. not-two (simp (eq-eqb _ _ p) at e), λ p. not-three (eqb n 32) (simp (eq-eqb _ _ p) at e))
+taken-sized n size s e = (not-two (leb 32 n) refl e, λ p. not-three (leb 32 n) (simp (eq-eqb _ _ p) at e))
   where
-    not-two : _≡_ {A = ℕ} 2 0 → ⊥
-    not-two q = omega arith
+    not-two : (t : Bool) → leb 32 n ≡ t → (cond t (refusedLine 2) (cond (eqb size 0) (refusedLine 3) (checkedLine n (parsedLine (fields (take (size - 1) s)))))) .refusal ≡ 0 → n < 32
+    not-two true d q = absurd (omega arith)
+    not-two false d q = leb-false 32 n d
 
     not-three : (t : Bool) → (cond t (refusedLine 2) (refusedLine 3)) .refusal ≡ 0 → ⊥
     not-three true q = omega arith
     not-three false q = omega arith
 
 pub record Taken (n : ℕ) (s : List ℕ) : Type 0 where
-  pub room : n ≡ 32 → ⊥
+  pub room : n < 32
   pub some : lineSize s ≡ 0 → ⊥
 
 pub taken : (n : ℕ) (s : List ℕ) → (lineAnswer n (lineSize s) s) .refusal ≡ 0 → Taken n s

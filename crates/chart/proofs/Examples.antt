@@ -1,6 +1,6 @@
 -- Charts as text: what each operator word means, each refusal, and the order of refusals in a line. One list of cases, one theorem that the
--- checker computes; then the code of each word. What must come out was found by hand from document 01 and requests N1 and N5. No contract says as
--- much of the words, since the code and its contract share the list of them.
+-- checker computes; the same for lines added to a chart; then the code of each word. What must come out was found by hand from document 01 and requests
+-- N1, N5 and N13. No contract says as much of the words, since the code and its contract share the list of them.
 use Prim.Native.Nat.{ℕ}
 use Prim.Native.String.{String}
 use mathlib.Core.Path.{_≡_, refl}
@@ -15,9 +15,10 @@ use Rattle.text.specs.Text.{split, lines}
 use Rattle.text.specs.Quoted.{bytes, tabbed, unended, text}
 use Rattle.decimal.specs.Spelling.{isDigit, allDigits, valueFrom, hasLeadingZero, isNumber, numberOf}
 use Rattle.chart.specs.Operators.{words, sameBytes, placeOf, operatorOf, edgesOf, relationOf, lengthTestOf, kindOf, shapeOf, inRange, areLower}
-use Rattle.chart.specs.Records.{withCode, eventLine, withOperands, secondOperand, operandsLine, byOperator, operatorLine, numbered, parsedLine, checkedEntry, checkedLine, answerTo}
-use Rattle.chart.specs.Charts.{noEntries, withEntry, refusedChart, readLines, orNoLine, readChart}
+use Rattle.chart.specs.Records.{entry, withCode, eventLine, withOperands, secondOperand, operandsLine, byOperator, operatorLine, numbered, parsedLine, checkedEntry, checkedLine, answerTo}
+use Rattle.chart.specs.Charts.{noEntries, withEntry, refusedChart, readLines, orNoLine, readChart, faultIn, entriesOf, addedVerdict, withEntries, readAdded}
 use Rattle.chart.specs.declared.Entry.{Entry}
+use Rattle.chart.specs.declared.ChartAnswer.{ChartAnswer}
 use Rattle.chart.specs.declared.operator.Kind.{Kind}
 use Rattle.chart.specs.declared.operator.Kind.the-variants.{Event, Or, Pair, Absence, Length, After, Nearest}
 use Rattle.chart.specs.declared.operator.Shape.{Shape}
@@ -39,10 +40,12 @@ pub record Reading : Type 0 where
   pub line : ℕ
   pub entries : List Meaning
 
-abbrev pub reading : List ℕ → Reading
-reading s =
-    let r = readChart s in
+abbrev readingOf : ChartAnswer → Reading
+readingOf r =
     record { refusal = r .refusal; line = r .line; entries = map (λ (e : Entry). means (kindOf (e .op)) (shapeOf (kindOf (e .op))) (e .a) (e .b)) (take (r .chart .count) (r .chart .entries)) }
+
+abbrev pub reading : List ℕ → Reading
+reading s = readingOf (readChart s)
 
 pub record Case : Type 0 where
   pub chart : List ℕ
@@ -104,8 +107,11 @@ lines31 =
     "16 event 1" ∷ "17 event 1" ∷ "18 event 1" ∷ "19 event 1" ∷ "20 event 1" ∷ "21 event 1" ∷ "22 event 1" ∷ "23 event 1" ∷
     "24 event 1" ∷ "25 event 1" ∷ "26 event 1" ∷ "27 event 1" ∷ "28 event 1" ∷ "29 event 1" ∷ "30 event 1" ∷ []
 
+abbrev lines32 : List String
+lines32 = lines31 ++ "31 event 1" ∷ []
+
 abbrev full : List ℕ
-full = text (lines31 ++ "31 event 1" ∷ [])
+full = text lines32
 
 -- "1 no line; 2 a 33rd line": 32 lines are taken
 abbrev tooFewOrMany : List Case
@@ -213,6 +219,72 @@ cases = tableOfWords ++ tooFewOrMany ++ notOfTheForm ++ notOfTheTable ++ inALine
 pub examples : map (λ (c : Case). reading (c .chart)) cases ≡ map (λ (c : Case). c .expected) cases
 unfolding cases bytes tabbed unended text split lines isLength isDigit allDigits valueFrom hasLeadingZero isNumber numberOf words sameBytes placeOf operatorOf edgesOf relationOf lengthTestOf kindOf inRange areLower withCode eventLine withOperands secondOperand operandsLine byOperator operatorLine numbered parsedLine checkedEntry checkedLine answerTo noEntries withEntry refusedChart readLines orNoLine readChart
 examples = refl
+
+-- Lines added to a chart (request N13): those of the chart, the bytes added, and what must come out. "Lines may be added to the chart ..., numbered on from
+-- the last entry"; "bad lines, or none, give the chart reader's number and line, counted from the first added line, 2 now being a 33rd entry, and the old
+-- chart ... stay".
+pub record Addition : Type 0 where
+  pub lines : List String
+  pub added : List ℕ
+  pub expected : Reading
+
+-- to a chart of two entries
+abbrev twoLines : List String
+twoLines = "0 event 1" ∷ "1 event 2" ∷ []
+
+abbrev twoEntries : List Meaning
+twoEntries = means Event Leaf 1 0 ∷ means Event Leaf 2 0 ∷ []
+
+abbrev addedTo2 : List ℕ → List Meaning → Addition
+addedTo2 s ms = record { lines = twoLines; added = s; expected = record { refusal = 0; line = 0; entries = twoEntries ++ ms } }
+
+abbrev refusedTo2 : List ℕ → ℕ → ℕ → Addition
+refusedTo2 s n line = record { lines = twoLines; added = s; expected = record { refusal = n; line = line; entries = twoEntries } }
+
+-- to a chart of many entries, all of which are events of code 1; k is how many the chart answered has
+abbrev eventsTo : List String → List ℕ → ℕ → ℕ → ℕ → Addition
+eventsTo ls s n line k = record { lines = ls; added = s; expected = record { refusal = n; line = line; entries = replicate k (means Event Leaf 1 0) } }
+
+pub additions : List Addition
+additions =
+    -- taken: one line, and two of which the second refers to the first
+    addedTo2 (text ("2 seq 0 1" ∷ [])) (means (Pair Seq) Double 0 1 ∷ []) ∷
+    addedTo2 (text ("2 seq 1 0" ∷ "3 lasts 2 500" ∷ [])) (means (Pair Seq) Double 1 0 ∷ means (Length Lasts) Single 2 500 ∷ []) ∷
+    -- none
+    refusedTo2 (text []) 1 1 ∷
+    -- the second added line is line 2, though it asks for entry 3 and would be line 4 of the chart
+    refusedTo2 (text ("2 seq 0 1" ∷ "3 seq 0" ∷ [])) 3 2 ∷
+    refusedTo2 (text ("2 seq 0 1" ∷ []) ++ unended "3 event 3") 3 2 ∷
+    refusedTo2 (text ("2 seq 0 1" ∷ "0 event 3" ∷ [])) 4 2 ∷
+    refusedTo2 (text ("2 seq 0 1" ∷ "2 event 3" ∷ [])) 4 2 ∷
+    refusedTo2 (text ("2 seq 0 1" ∷ "3 and 2 3" ∷ [])) 5 2 ∷
+    refusedTo2 (text ("2 seq 0 1" ∷ "3 event 256" ∷ [])) 6 2 ∷
+    -- the first one is line 1; numbers that begin at 0 again are not the next
+    refusedTo2 (text ("0 event 3" ∷ "1 event 4" ∷ [])) 4 1 ∷
+    refusedTo2 (text ("2 seq 1 2" ∷ "x" ∷ [])) 5 1 ∷
+    -- in a line 3, 4, 6, 5
+    refusedTo2 (text ("3 lasts 3" ∷ [])) 3 1 ∷
+    refusedTo2 (text ("3 lasts 3 2000000001" ∷ [])) 4 1 ∷
+    refusedTo2 (text ("2 lasts 2 2000000001" ∷ [])) 6 1 ∷
+    refusedTo2 (text ("2 lasts 2 2000000000" ∷ [])) 5 1 ∷
+    -- a 32nd entry is taken, a 33rd is not, whatever stands in its line
+    eventsTo lines31 (text ("31 event 1" ∷ [])) 0 0 32 ∷
+    eventsTo lines31 (text ("31 event 1" ∷ "32 event 1" ∷ [])) 2 2 31 ∷
+    eventsTo lines31 (text ("31 event 1" ∷ "x" ∷ [])) 2 2 31 ∷
+    eventsTo lines31 (text ("31 seq 31 31" ∷ "32 event 1" ∷ [])) 5 1 31 ∷
+    eventsTo lines32 (text ("32 event 1" ∷ [])) 2 1 32 ∷
+    eventsTo lines32 (text ("0 seq 40" ∷ [])) 2 1 32 ∷
+    eventsTo lines32 (unended "32") 2 1 32 ∷
+    eventsTo lines32 (text []) 1 1 32 ∷ []
+
+pub additions-read : map (λ (a : Addition). readingOf (readAdded ((readChart (text (a .lines))) .chart) (a .added))) additions ≡ map (λ (a : Addition). a .expected) additions
+unfolding additions bytes tabbed unended text split lines isLength isDigit allDigits valueFrom hasLeadingZero isNumber numberOf words sameBytes placeOf operatorOf lengthTestOf kindOf inRange areLower withCode eventLine withOperands secondOperand operandsLine byOperator operatorLine numbered parsedLine checkedEntry checkedLine answerTo noEntries withEntry refusedChart readLines orNoLine readChart faultIn entriesOf addedVerdict withEntries readAdded
+additions-read = refl
+
+-- a chart that counts over 32 entries, which no reader makes, takes no line
+pub added-to-33 : (readAdded (record { count = 33; entries = replicate 32 (entry 0 1 0) }) (text ("33 event 1" ∷ []))) ≡ record { refusal = 2; line = 1; chart = record { count = 33; entries = replicate 32 (entry 0 1 0) } }
+unfolding bytes tabbed unended text split lines answerTo faultIn entriesOf addedVerdict withEntries readAdded
+added-to-33 = refl
 
 -- the codes, which stay, since a host holds charts: the order of the operator table, then the words behind it; 20 is none
 abbrev wordsByCode : List String

@@ -55,11 +55,11 @@ module _ (c : Chart) (l : Line) where
   read-more ls = refl
 
   -- a line that lacks its byte 10 or has over 64 bytes
-  pub read-unformed : (ls : List Line) → isRecord l ≡ false → readLines c (l ∷ ls) ≡ refusedChart (cond (eqb (c .count) 32) 2 3) (c .count + 1)
+  pub read-unformed : (ls : List Line) → isRecord l ≡ false → readLines c (l ∷ ls) ≡ refusedChart (cond (leb 32 (c .count)) 2 3) (c .count + 1)
   unfolding readLines answerTo
-  read-unformed ls e = go (eqb (c .count) 32) refl
+  read-unformed ls e = go (leb 32 (c .count)) refl
     where
-      go : (b : Bool) → eqb (c .count) 32 ≡ b → readLines c (l ∷ ls) ≡ refusedChart (cond b 2 3) (c .count + 1)
+      go : (b : Bool) → leb 32 (c .count) ≡ b → readLines c (l ∷ ls) ≡ refusedChart (cond b 2 3) (c .count + 1)
       go true d = rw (e, d)
       go false d = rw (e, d)
 

@@ -4,7 +4,7 @@ use native.Mathlib.Omega.{arith}
 use mathlib.Core.Path.{_≡_, refl, ap, _∙_}
 use mathlib.Core.Bool.{Bool, true, false, cond, _&&_}
 use mathlib.Core.List.{List, [], _∷_}
-use borrow.Author.Tests.{eqb-false, leb-true, ltb-true}
+use borrow.Author.Tests.{leb-true, leb-false, ltb-true}
 use lib.Dec.{eqb, leb, ltb}
 use lib.ListN.{length, getD, set, length-set, length-replicate}
 use lib.Seq.{getD-set-same, getD-set-other}
@@ -47,19 +47,19 @@ unfolding checkedLine
 line-fits n Parsed.Malformed z = absurd (omega arith)
 line-fits n (Parsed.Line e op a b) z = entry-fits n e op a b z
 
-pub answer-fits : (n : ℕ) (l : Line) → (answerTo n l) .refusal ≡ 0 → (n ≡ 32 → ⊥) × (entryFits n ((answerTo n l) .entry) ≡ true)
+pub answer-fits : (n : ℕ) (l : Line) → (answerTo n l) .refusal ≡ 0 → (n < 32) × (entryFits n ((answerTo n l) .entry) ≡ true)
 unfolding answerTo
-answer-fits n l z = go (eqb n 32) refl (isRecord l) z
+answer-fits n l z = go (leb 32 n) refl (isRecord l) z
   where
     p : Parsed
     p = parsedLine (fields (l .bytes))
 
-    go : (t : Bool) → eqb n 32 ≡ t → (u : Bool) → (cond t (refusedLine 2) (cond u (checkedLine n p) (refusedLine 3))) .refusal ≡ 0 → (n ≡ 32 → ⊥) × (entryFits n ((cond t (refusedLine 2) (cond u (checkedLine n p) (refusedLine 3))) .entry) ≡ true)
+    go : (t : Bool) → leb 32 n ≡ t → (u : Bool) → (cond t (refusedLine 2) (cond u (checkedLine n p) (refusedLine 3))) .refusal ≡ 0 → (n < 32) × (entryFits n ((cond t (refusedLine 2) (cond u (checkedLine n p) (refusedLine 3))) .entry) ≡ true)
     go true e u y = absurd (omega arith)
-    go false e true y = (eqb-false n 32 e, line-fits n p y)
+    go false e true y = (leb-false 32 n e, line-fits n p y)
     go false e false y = absurd (omega arith)
 
-pub good-more : (c : Chart) (e : Entry) → Good c → (c .count ≡ 32 → ⊥) → entryFits (c .count) e ≡ true → Good (withEntry c e)
+pub good-more : (c : Chart) (e : Entry) → Good c → c .count < 32 → entryFits (c .count) e ≡ true → Good (withEntry c e)
 unfolding withEntry
 good-more c e g d h = record {
   size = length-set (c .entries) (c .count) e ∙ g .size;

@@ -1,9 +1,9 @@
--- Charts. Document 01, "Operators of a chart" and "Who can be turned back, and with which number".
+-- Charts. Document 01, "Operators of a chart" and "Who can be turned back, and with which number"; lines added to a chart by request N13.
 use Prim.Native.Nat.{ℕ, zero, suc, _+_}
 use mathlib.Core.Bool.{Bool, true, cond, _&&_}
-use mathlib.Core.List.{List, [], _∷_}
+use mathlib.Core.List.{List, [], _∷_, _++_}
 use lib.Dec.{eqb, leb}
-use lib.ListN.{getD, set, replicate}
+use lib.ListN.{length, getD, set, take, drop, replicate}
 use Rattle.text.specs.Text.{Line, lines, whole}
 use Rattle.chart.specs.Operators.{kindOf, inRange, areLower}
 use Rattle.chart.specs.Records.{entry, answerTo}
@@ -46,6 +46,38 @@ orNoLine (l ∷ ls) = readLines noEntries (l ∷ ls)
 -- a chart on paper
 unfoldable pub readChart : List ℕ → ChartAnswer
 readChart s = orNoLine (lines s)
+
+abbrev pub verdict : ℕ → ℕ → Verdict
+verdict n line = record { refusal = n; line = line }
+
+-- number and line of the first fault in lines, of which the first is line k and asks for entry n; 0 and 0 if there is none
+unfoldable pub faultIn : ℕ → ℕ → List Line → Verdict
+faultIn n k [] = verdict 0 0
+faultIn n k (l ∷ ls) =
+    cond (eqb ((answerTo n l) .refusal) 0) (faultIn (n + 1) (k + 1) ls) (verdict ((answerTo n l) .refusal) k)
+
+-- the entries that lines ask for: "numbered on from the last entry", so that the first is entry n
+unfoldable pub entriesOf : ℕ → List Line → List Entry
+entriesOf n [] = []
+entriesOf n (l ∷ ls) = (answerTo n l) .entry ∷ entriesOf (n + 1) ls
+
+-- "bad lines, or none, give the chart reader's number and line, counted from the first added line": none are 1 at line 1
+unfoldable pub addedVerdict : ℕ → List Line → Verdict
+addedVerdict n [] = verdict 1 1
+addedVerdict n (l ∷ ls) = faultIn n 1 (l ∷ ls)
+
+-- the chart's entries, blank where its list is too short, then the added ones; what stood behind those stays
+unfoldable pub withEntries : Chart → List Entry → Chart
+withEntries c es = record {
+  count = c .count + length es;
+  entries = take (c .count) (c .entries ++ replicate (c .count) (entry 0 0 0)) ++ es ++ drop (c .count + length es) (c .entries);
+}
+
+-- "Lines may be added to the chart"; where they are refused "the old chart" stays
+unfoldable pub readAdded : Chart → List ℕ → ChartAnswer
+readAdded c s =
+    let v = addedVerdict (c .count) (lines s) in
+    record { refusal = v .refusal; line = v .line; chart = cond (eqb (v .refusal) 0) (withEntries c (entriesOf (c .count) (lines s))) c }
 
 -- "refusal number and line out, both 0 for a chart taken"
 abbrev pub verdictOf : ChartAnswer → Verdict

@@ -1,3 +1,4 @@
 pub mod Operators
 pub mod Records
 pub mod Charts
+pub mod Statements

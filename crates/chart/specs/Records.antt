@@ -3,7 +3,7 @@
 use Prim.Native.Nat.{ℕ, _-_}
 use mathlib.Core.Bool.{cond}
 use mathlib.Core.List.{List, [], _∷_}
-use lib.Dec.{eqb}
+use lib.Dec.{eqb, leb}
 use lib.ListN.{take}
 use Rattle.decimal.specs.Spelling.{numberOf}
 use Rattle.decimal.specs.declared.Number.{Number}
@@ -76,10 +76,10 @@ unfoldable pub checkedLine : ℕ → Parsed → LineAnswer
 checkedLine n Parsed.Malformed = refusedLine 3
 checkedLine n (Parsed.Line e op a b) = checkedEntry n e op a b
 
--- "2 a 33rd line; 3 a line not of the form above"
+-- "2 a 33rd line; 3 a line not of the form above"; of lines added to a chart (request N13) "2 now being a 33rd entry"
 unfoldable pub answerTo : ℕ → Line → LineAnswer
-answerTo n l = cond (eqb n 32) (refusedLine 2) (cond (isRecord l) (checkedLine n (parsedLine (fields (l .bytes)))) (refusedLine 3))
+answerTo n l = cond (leb 32 n) (refusedLine 2) (cond (isRecord l) (checkedLine n (parsedLine (fields (l .bytes)))) (refusedLine 3))
 
 -- The same as the code finds it, from the size of the first line
 unfoldable pub lineAnswer : ℕ → ℕ → List ℕ → LineAnswer
-lineAnswer n size s = cond (eqb n 32) (refusedLine 2) (cond (eqb size 0) (refusedLine 3) (checkedLine n (parsedLine (fields (take (size - 1) s)))))
+lineAnswer n size s = cond (leb 32 n) (refusedLine 2) (cond (eqb size 0) (refusedLine 3) (checkedLine n (parsedLine (fields (take (size - 1) s)))))

@@ -1,7 +1,7 @@
 // Charts: the chart value, the reader of a chart on paper, and the check behind refusal 14.
 ghost use mathlib.Core.Path.{_≡_};
 ghost use Prim.Native.Nat.{_<_};
-ghost use Rattle.chart.specs.Charts.{noEntries, withEntry, readChart, addLine, refusedChart, verdictOf, entryFits, isUsable};
+ghost use Rattle.chart.specs.Charts.{noEntries, withEntry, readChart, readAdded, addLine, refusedChart, verdictOf, entryFits, isUsable};
 
 pub mod operator;
 pub mod record;
@@ -22,7 +22,7 @@ pub struct Chart {
     pub entries: [Entry; 32],
 }
 
-// A refusal 1 to 6 with its line, counted from 1, and a chart of no entries; or 0, 0 and the chart.
+// A refusal 1 to 6 with its line, counted from 1, and a chart of no entries, or where lines are added the chart given; or 0, 0 and the chart.
 #[repr(C)]
 pub struct ChartAnswer {
     pub refusal: u32,
@@ -73,28 +73,47 @@ fn with_entry(chart: Chart, e: Entry) -> Chart
 pub fn read(s: &[u8]) -> ChartAnswer
     ensures { λ r. ⌜ r ≡ readChart (now (s .entry)) ⌝ }
 {
+    let chart = no_entries();
+    read_added(chart, s)
+}
+
+// Reads lines whose entries go on from the chart's last. Where one is refused, or there is none, the answer has the chart given. Linear in the
+// bytes of the lines up to the 33rd entry's; what follows is not looked at.
+pub fn read_added(chart: Chart, s: &[u8]) -> ChartAnswer
+    ensures { λ r. ⌜ r ≡ readAdded chart (now (s .entry)) ⌝ }
+{
     if s.len() == 0 {
-        return refused(1, 1);
+        return ChartAnswer {
+            refusal: 1,
+            line: 1,
+            chart,
+        };
     }
-    let mut chart = no_entries();
+    let mut longer = chart;
+    let mut line: u32 = 1;
     let mut at: usize = 0;
     while at < s.len() {
-        let n = chart.count;
+        let n = longer.count;
         let size = text::line_size(&s[at..]);
         let a = record::read_line(&s[at..], size, n);
         let refusal = a.refusal;
         if refusal != 0 {
-            return refused(refusal, (n + 1) as u32);
+            return ChartAnswer {
+                refusal,
+                line,
+                chart,
+            };
         }
         let e = a.entry;
-        chart.entries[n] = e;
-        chart.count = n + 1;
+        longer.entries[n] = e;
+        longer.count = n + 1;
+        line += 1;
         at += size;
     }
     ChartAnswer {
         refusal: 0,
         line: 0,
-        chart,
+        chart: longer,
     }
 }
 
@@ -124,11 +143,11 @@ pub fn add_line(chart: Chart, s: &[u8]) -> ChartAnswer
         return refused(refusal, (n + 1) as u32);
     }
     let e = a.entry;
-    let longer = with_entry(chart, e);
+    let next = with_entry(chart, e);
     ChartAnswer {
         refusal: 0,
         line: 0,
-        chart: longer,
+        chart: next,
     }
 }
 

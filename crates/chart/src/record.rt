@@ -158,10 +158,10 @@ fn check_entry(n: u64, entry: u64, op: u8, a: u64, b: u64) -> LineAnswer
 
 // The first line of s, whose size is text::line_size(s), where n entries stand before it.
 pub(crate) fn read_line(s: &[u8], size: usize, n: usize) -> LineAnswer
-    requires { ⌜ (size ≤ length (now s)) × (n ≤ 32) ⌝ }
+    requires { ⌜ size ≤ length (now s) ⌝ }
     ensures { λ r. ⌜ r ≡ lineAnswer n size (now (s .entry)) ⌝ }
 {
-    if n == 32 {
+    if 32 <= n {
         return refused_line(2);
     }
     if size == 0 {

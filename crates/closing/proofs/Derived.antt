@@ -6,7 +6,7 @@ use native.Mathlib.Nat.{zero-add, sub-zero}
 use mathlib.Core.Path.{_≡_, refl, sym, ap, ap₂, _∙_}
 use mathlib.Core.Logic.{_⊎_, inl, inr}
 use mathlib.Core.Bool.{Bool, true, false, cond, not, _&&_, _||_}
-use mathlib.Core.List.{List, [], _++_, map, map-append}
+use mathlib.Core.List.{List, [], _∷_, _++_, map, map-append}
 use borrow.Author.Tests.{leb-true, leb-false, ltb-false}
 use lib.Dec.{eqb, leb, ltb}
 use lib.IntN.{ℤ, pos, _+ℤ_, _-ℤ_}
@@ -24,7 +24,7 @@ use Rattle.interval.proofs.Signed.{_≤ᶻ_, never, and-second, eq-true, eq-sam
 use Rattle.interval.proofs.Laws.{Ends, related-ends, forbidding-inside}
 use Rattle.model.specs.Lists.{keep, some, each, numbers}
 use Rattle.model.specs.Recognitions.{Event, Operator, event, related, or, absence, lasting, after, nearest, Arm, only, left, right, delayed, endBy}
-use Rattle.model.specs.Order.{Row, row, none}
+use Rattle.model.specs.Order.{sinceOf, Row, row, none}
 use Rattle.model.specs.RowSteps.{leaves, leaf, part, of, fits, forbidden, make, rowAt, places, nodeRow, madeRows, endsAt, numbered}
 use Rattle.model.proofs.Sorted.{keep-append}
 use Rattle.table.specs.Table.{cell, rowsIn}
@@ -34,12 +34,29 @@ use Rattle.table.proofs.Ends.{counted-passes, counted-fails}
 use Rattle.table.proofs.EndParts.{ends-low, ends-few}
 use Rattle.closing.specs.declared.Taken.{Taken}
 use Rattle.closing.specs.declared.Taken.the-variants.{All, Lasting}
-use Rattle.closing.specs.Added.{pendingFrom, span, when, eventRow, eventRows, partRow, isLong, takenRow, takenRows, orRows, waitedFrom, waitedTo, delayedRows, forbids, isWithin, isForbidden, absenceRow, absenceRows, topOf, pairRow, rightBy, rightFrom, pairsOf, pairsWith, nextRow, leastStart, leftBy, leftFrom, pairRows, addedRows}
+use Rattle.closing.specs.Added.{counted, pendingFrom, span, when, eventRow, eventRows, partRow, isLong, takenRow, takenRows, orRows, waitedFrom, waitedTo, delayedRows, forbids, isWithin, isForbidden, absenceRow, absenceRows, topOf, pairRow, rightBy, rightFrom, pairsOf, pairsWith, nextRow, leastStart, leftBy, leftFrom, pairRows, addedRows}
 use Rattle.closing.proofs.Spans.{each-same, some-same, each-numbered, some-snoc, some-none, each-from, each-upto, span-same, keep-keep, keep-all, some-keep, kept-ones, some-front}
-use Rattle.closing.proofs.Grown.{Grown, ends-ordered, all-ordered, of-entry, derived, old-not, pairAt, pair-ends, paired, paired-is, pairsBy, pairs-made, pairs-none}
+use Rattle.closing.proofs.Grown.{Grown, ends-ordered, all-ordered, of-entry, derived, old-not, pairAt, pair-ends, paired, paired-is, pairsBy, pairs-made, pairs-none, endsHere}
 use Rattle.closing.proofs.Nearest.{nearest-derived}
 use Rattle.closing.proofs.Searches.{next-none, least-start}
 use Rattle.closing.proofs.Laws.{top-le, top-rest}
+
+-- the rows that pass the model's test are those that end at o, as far as they count
+counted-made : (x o : ℤ) (rs : List Row) → keep (λ r. leZ x (r .start) && eqZ (r .end) o) rs ≡ counted x (keep (λ r. eqZ (r .end) o) rs)
+counted-made x o [] = refl
+counted-made x o (r ∷ rs) = go (leZ x (r .start)) refl (eqZ (r .end) o) (counted-made x o rs)
+  where
+    kept : List Row
+    kept = keep (λ r. eqZ (r .end) o) rs
+
+    both : List Row
+    both = keep (λ r. leZ x (r .start) && eqZ (r .end) o) rs
+
+    go : (b : Bool) → leZ x (r .start) ≡ b → (d : Bool) → both ≡ counted x kept → cond (b && d) (r ∷ both) both ≡ counted x (cond d (r ∷ kept) kept)
+    go true e true h = rw e (ap (_∷_ r) h)
+    go true e false h = h
+    go false e true h = rw e h
+    go false e false h = h
 
 module _ (o : ℤ) (m n : ℕ) (t : List ℤ) (g : Grown o m n t) (entry : ℕ) where
   -- the rows from k to before l, and no others, make a row that refers to them alone and ends at the instant
@@ -76,10 +93,10 @@ module _ (o : ℤ) (m n : ℕ) (t : List ℤ) (g : Grown o m n t) (entry : ℕ) 
         go true = refl
         go false = refl
 
-    parts : keep (λ r. endsAt o (r .start) (r .end)) (map (nodeRow (rowsIn n t) entry) (map (part side) (keep q (numbers 0 (length (rowsIn n t)))))) ≡ each (λ i. when (q' i) (partRow side entry o t i)) (span k l)
+    parts : keep (λ r. endsHere o (r .start) (r .end)) (map (nodeRow (rowsIn n t) entry) (map (part side) (keep q (numbers 0 (length (rowsIn n t)))))) ≡ each (λ i. when (q' i) (partRow side entry o t i)) (span k l)
     parts =
-        ap (λ x. keep (λ r. endsAt o (r .start) (r .end)) (map (nodeRow (rowsIn n t) entry) (map (part side) (keep q (numbers 0 x))))) (length-rows n t)
-        ∙ kept-ones (λ r. endsAt o (r .start) (r .end)) (nodeRow (rowsIn n t) entry) (part side) q (numbers 0 n)
+        ap (λ x. keep (λ r. endsHere o (r .start) (r .end)) (map (nodeRow (rowsIn n t) entry) (map (part side) (keep q (numbers 0 x))))) (length-rows n t)
+        ∙ kept-ones (λ r. endsHere o (r .start) (r .end)) (nodeRow (rowsIn n t) entry) (part side) q (numbers 0 n)
         ∙ each-from one k n (omega (arith, s .apart, s .within)) (λ i h. none-else i (omega (arith, s .apart, s .within)) (s .before i h))
         ∙ each-upto one k l n (s .apart) (s .within) (λ i h j. none-else i j (s .behind i h j))
         ∙ span-same one (λ i. when (q' i) (partRow side entry o t i)) k l (λ i p h. one-is i (omega (arith, s .within)) (s .at i p h))
@@ -100,8 +117,8 @@ module _ (o : ℤ) (m n : ℕ) (t : List ℤ) (g : Grown o m n t) (entry : ℕ) 
   or-derived a b =
       let xs = map (part left) (of (places (rowsIn n t)) a (numbers 0 (length (rowsIn n t)))) in
       let ys = map (part right) (of (places (rowsIn n t)) b (numbers 0 (length (rowsIn n t)))) in
-      ap (keep (λ r. endsAt o (r .start) (r .end))) (map-append (nodeRow (rowsIn n t) entry) xs ys)
-      ∙ keep-append (λ r. endsAt o (r .start) (r .end)) (map (nodeRow (rowsIn n t) entry) xs) (map (nodeRow (rowsIn n t) entry) ys)
+      ap (keep (λ r. endsHere o (r .start) (r .end))) (map-append (nodeRow (rowsIn n t) entry) xs ys)
+      ∙ keep-append (λ r. endsHere o (r .start) (r .end)) (map (nodeRow (rowsIn n t) entry) xs) (map (nodeRow (rowsIn n t) entry) ys)
       ∙ ap₂ _++_ (all-derived left a m n (new-ones left (λ e. refl))) (all-derived right b m n (new-ones right (λ e. refl)))
 
   length-derived : (c : LengthTest) (a d : ℕ) → derived g entry (make (places (rowsIn n t)) (lasting c a d) [] (numbers 0 (length (rowsIn n t)))) ≡ takenRows left entry o (pos a) (Lasting c d) m n t
@@ -181,7 +198,7 @@ module _ (o : ℤ) (m n : ℕ) (t : List ℤ) (g : Grown o m n t) (entry : ℕ) 
   event-derived k first pending codes h =
       rw (sub-zero pending)
       (let one : Event → List Row = λ e. cond (eqb (e .code) k) (when (eqZ (e .instant) o) (row entry (pos (e .serial)) none (e .instant) (e .instant))) [] in
-      kept-ones (λ r. endsAt o (r .start) (r .end)) (nodeRow (rowsIn n t) entry) (λ e. leaf (e .serial) (e .instant)) (λ e. eqb (e .code) k) (numbered o first (take pending codes))
+      kept-ones (λ r. endsHere o (r .start) (r .end)) (nodeRow (rowsIn n t) entry) (λ e. leaf (e .serial) (e .instant)) (λ e. eqb (e .code) k) (numbered o first (take pending codes))
       ∙ each-numbered one o first (take pending codes)
       ∙ ap (λ l. each (λ j. one (record { serial = first + j; code = getD (take pending codes) j 0; instant = o })) (numbers 0 l)) (length-take-le pending codes h)
       ∙ each-same (λ j. one (record { serial = first + j; code = getD (take pending codes) j 0; instant = o })) (λ j. when (eqb (getD codes j 0) k) (row entry (pos (first + j)) none o o)) 0 pending (λ j p q. rw (getD-take pending codes j 0 (omega arith), eq-same o)))
@@ -316,7 +333,7 @@ module _ (o : ℤ) (m n : ℕ) (t : List ℤ) (g : Grown o m n t) (entry : ℕ) 
         ∙ span-same made (pairsWith c entry (pos a) (pos b) m n t) (leftFrom (endingOf c) (pos b) m n t) n (λ r k h. pairs-new r h)
 
   -- what an entry makes, before it is put in order
-  pub made-is : (op : Operator) (first pending : ℕ) (codes : List ℕ) → pending ≤ length codes → madeRows (record { entry = entry; operator = op; test = endsAt o }) (numbered o first (take pending codes)) (rowsIn n t) ≡ addedRows op entry o (pendingFrom first pending) codes m n t
+  pub made-is : (op : Operator) (first pending : ℕ) (codes : List ℕ) → pending ≤ length codes → madeRows (record { entry = entry; operator = op; test = endsHere o }) (numbered o first (take pending codes)) (rowsIn n t) ≡ addedRows op entry o (pendingFrom first pending) codes m n t
   unfolding addedRows
   made-is (event k) first pending codes h = event-derived k first pending codes h
   made-is (related c a b) first pending codes h = pair-derived c a b
@@ -325,3 +342,9 @@ module _ (o : ℤ) (m n : ℕ) (t : List ℤ) (g : Grown o m n t) (entry : ℕ) 
   made-is (lasting c a d) first pending codes h = length-derived c a d
   made-is (after a d) first pending codes h = delay-derived a d
   made-is (nearest c a b) first pending codes h = nearest-derived g entry b c a
+
+  -- and what of it counts
+  pub counted-is : (since : List ℤ) (op : Operator) (first pending : ℕ) (codes : List ℕ) → pending ≤ length codes → madeRows (record { entry = entry; operator = op; test = endsAt since o entry }) (numbered o first (take pending codes)) (rowsIn n t) ≡ counted (sinceOf since entry) (addedRows op entry o (pendingFrom first pending) codes m n t)
+  counted-is since op first pending codes h =
+      counted-made (sinceOf since entry) o (map (nodeRow (rowsIn n t) entry) (make (places (rowsIn n t)) op (numbered o first (take pending codes)) (numbers 0 (length (rowsIn n t)))))
+      ∙ ap (counted (sinceOf since entry)) (made-is op first pending codes h)

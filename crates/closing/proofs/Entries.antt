@@ -13,15 +13,16 @@ use lib.Dec.{leb}
 use lib.IntN.{ℤ, pos}
 use lib.ListN.{length, take, drop, length-append, drop-of-length-le}
 use lib.Seq.{drop-at, take-take, length-take-le}
+use lib.Signed.{leZ}
 use Rattle.chart.specs.Charts.{entryAt}
 use Rattle.chart.specs.declared.Chart.{Chart}
 use mir.Syntax.{w32}
 use mir.Val.{SFits}
 use Rattle.model.specs.Lists.{sortStably}
 use Rattle.model.specs.Recognitions.{Event}
-use Rattle.model.specs.Order.{Row}
+use Rattle.model.specs.Order.{Row, sinceOf}
 use Rattle.model.proofs.Capacity.{capacity-fits}
-use Rattle.model.proofs.Sorted.{stably-mem}
+use Rattle.model.proofs.Sorted.{keep-mem, stably-mem}
 use Rattle.model.proofs.Steps.{extend-none, extend-on, extend-more, close-rules}
 use Rattle.model.proofs.Due.{instants-more}
 use Rattle.model.specs.RowSteps.{Rule, rules, startsLater, extendRows, closeRows, closeInstants, instantsTo, endsAt, numbered}
@@ -36,9 +37,9 @@ use Rattle.table.proofs.Fill.{fill-fits, fill-full}
 use Rattle.ordering.specs.Ordered.{ordered, Alike}
 use Rattle.ordering.proofs.Sorting.{length-sorted}
 use Rattle.ordering.proofs.Appended.{rows-alike, rows-ordered}
-use Rattle.closing.specs.Added.{pendingFrom, FilledBy, Tried, addedRows}
+use Rattle.closing.specs.Added.{pendingFrom, FilledBy, counted, Tried, addedRows}
 use Rattle.closing.specs.Closed.{closedRows, closedNumber, closedTable}
-use Rattle.closing.proofs.Derived.{made-is}
+use Rattle.closing.proofs.Derived.{counted-is}
 use Rattle.closing.proofs.Grown.{Grown}
 use Rattle.closing.proofs.Growth.{Ending, grown-more, added-entry, added-ending}
 
@@ -127,63 +128,70 @@ module _ {room n₀ : ℕ} {all : List Row} {t₀ : List ℤ} {n : ℕ} {rest : 
       inl (omega (arith, f .most), c, f .table ∙ ap (λ x. putRows n₀ x t₀) (sym w))
 
 -- the rows left to append from entry i on, to the n rows of t
-abbrev pub rulesFrom : Chart → ℤ → ℕ → List Rule
-rulesFrom chart o i = rules (endsAt o) i (operatorsFrom chart i (chart .count - i))
+abbrev pub rulesFrom : Chart → List ℤ → ℤ → ℕ → List Rule
+rulesFrom chart since o i = rules (endsAt since o) i (operatorsFrom chart i (chart .count - i))
 
-unfoldable pub leftRows : Chart → ℤ → List Event → ℕ → ℕ → List ℤ → List Row
-leftRows chart o es i n t = drop n (extendRows es (rulesFrom chart o i) (rowsIn n t))
+unfoldable pub leftRows : Chart → List ℤ → ℤ → List Event → ℕ → ℕ → List ℤ → List Row
+leftRows chart since o es i n t = drop n (extendRows es (rulesFrom chart since o i) (rowsIn n t))
 
-pub left-first : (chart : Chart) (o : ℤ) (es : List Event) (n : ℕ) (t : List ℤ) → leftRows chart o es 0 n t ≡ drop n (closeRows o es (operatorsOf chart) (rowsIn n t))
+pub left-first : (chart : Chart) (since : List ℤ) (o : ℤ) (es : List Event) (n : ℕ) (t : List ℤ) → leftRows chart since o es 0 n t ≡ drop n (closeRows o es (operatorsOf chart) since (rowsIn n t))
 unfolding leftRows
-left-first chart o es n t = rw (sub-zero (chart .count), close-rules, operators-all chart)
+left-first chart since o es n t = rw (sub-zero (chart .count), close-rules, operators-all chart)
 
-pub left-last : (chart : Chart) (o : ℤ) (es : List Event) (i n : ℕ) (t : List ℤ) → chart .count ≤ i → leftRows chart o es i n t ≡ []
+pub left-last : (chart : Chart) (since : List ℤ) (o : ℤ) (es : List Event) (i n : ℕ) (t : List ℤ) → chart .count ≤ i → leftRows chart since o es i n t ≡ []
 unfolding leftRows
-left-last chart o es i n t h =
+left-last chart since o es i n t h =
     let z : chart .count - i ≡ 0 = omega arith in
     rw (z, extend-none) (drop-of-length-le (rowsIn n t) {i = n} (omega (arith, length-rows n t)))
 
-module _ (chart : Chart) (o : ℤ) (first pending : ℕ) (codes : List ℕ) (few : pending ≤ length codes) (m i n : ℕ) (t : List ℤ) (g : Grown o m n t) (h : i < chart .count) where
+module _ (chart : Chart) (since : List ℤ) (o : ℤ) (first pending : ℕ) (codes : List ℕ) (few : pending ≤ length codes) (m i n : ℕ) (t : List ℤ) (g : Grown o m n t) (h : i < chart .count) where
   abbrev events : List Event
   events = numbered o first (take pending codes)
 
+  -- what the entry's operator makes, and what of it counts
+  abbrev made : List Row
+  made = addedRows (entryOperator (entryAt chart i)) i o (pendingFrom first pending) codes m n t
+
   abbrev added : List Row
-  added = addedRows (entryOperator (entryAt chart i)) i o (pendingFrom first pending) codes m n t
+  added = counted (sinceOf since i) made
 
   -- the same, the later start first
   abbrev sorted : List Row
   sorted = sortStably startsLater added
 
   abbrev later : List Row
-  later = extendRows events (rulesFrom chart o (i + 1)) (rowsIn n t ++ sorted)
+  later = extendRows events (rulesFrom chart since o (i + 1)) (rowsIn n t ++ sorted)
 
-  first-rule : extendRows events (rulesFrom chart o i) (rowsIn n t) ≡ later
+  first-rule : extendRows events (rulesFrom chart since o i) (rowsIn n t) ≡ later
   first-rule =
       let z : chart .count - i ≡ suc (chart .count - (i + 1)) = omega arith in
-      rw (z, add-one) (extend-on events _ _ (rowsIn n t) ∙ ap (λ l. extendRows events (rulesFrom chart o (suc i)) (rowsIn n t ++ sortStably startsLater l)) (made-is o m n t g i (entryOperator (entryAt chart i)) first pending codes few))
+      rw (z, add-one) (extend-on events _ _ (rowsIn n t) ∙ ap (λ l. extendRows events (rulesFrom chart since o (suc i)) (rowsIn n t ++ sortStably startsLater l)) (counted-is o m n t g i since (entryOperator (entryAt chart i)) first pending codes few))
 
-  left-cut : leftRows chart o events i n t ≡ sorted ++ drop (n + length sorted) later
+  left-cut : leftRows chart since o events i n t ≡ sorted ++ drop (n + length sorted) later
   unfolding leftRows
   left-cut =
-      let p = extend-more events (rulesFrom chart o (i + 1)) (rowsIn n t ++ sorted) in
+      let p = extend-more events (rulesFrom chart since o (i + 1)) (rowsIn n t ++ sorted) in
       let size : length (rowsIn n t ++ sorted) ≡ n + length sorted = length-append (rowsIn n t) sorted ∙ ap (λ k. k + length sorted) (length-rows n t) in
       let rest : drop (n + length sorted) later ≡ p .0 = ap (drop (n + length sorted)) (p .1) ∙ drop-at (rowsIn n t ++ sorted) (p .0) (n + length sorted) size in
       ap (drop n) (first-rule ∙ p .1 ∙ append-assoc (rowsIn n t) sorted (p .0)) ∙ drop-at (rowsIn n t) (sorted ++ p .0) n (length-rows n t) ∙ ap (λ l. sorted ++ l) (sym rest)
 
+  is-made : {r : Row} → List·Memᴰ r added → List·Memᴰ r made
+  is-made h = keep-mem (λ r. leZ (sinceOf since i) (r .start)) made h .0
+
   entry-of : (r : Row) → List·Memᴰ r added → r .entry ≡ i
-  entry-of = added-entry o m n t g i (entryOperator (entryAt chart i)) first pending codes few
+  entry-of r h = added-entry o m n t g i (entryOperator (entryAt chart i)) first pending codes few r (is-made h)
 
   ending : (r : Row) → List·Memᴰ r added → Ending o r
-  ending = added-ending o m n t g i (entryOperator (entryAt chart i)) first pending codes few
+  ending r h = added-ending o m n t g i (entryOperator (entryAt chart i)) first pending codes few r (is-made h)
 
-  module _ {room n₀ : ℕ} {all : List Row} {t₀ : List ℤ} {k : ℕ} {u : List ℤ} (f : Closing room n₀ all t₀ n (leftRows chart o events i n t) t) (held : room * 5 ≤ length t) (d : FilledBy room n added t k u) where
+  module _ {room n₀ : ℕ} {all : List Row} {t₀ : List ℤ} {k : ℕ} {u : List ℤ} (f : Closing room n₀ all t₀ n (leftRows chart since o events i n t) t) (held : room * 5 ≤ length t) (d : FilledBy room n added t k u) where
     -- what is known once the entry's rows were appended: they did not fit; or they did, may be put in order, and then the next entry's are derived
     pub record Entered : Type 0 where
       pub full : room < k → Tried room n₀ all t₀ k u
       pub grows : k ≤ room → n ≤ k
       pub alike : k ≤ room → Alike n k u
       pub more : k ≤ room → (v : List ℤ) → v ≡ ordered n (k - n) u → (rowsIn k v ≡ rowsIn n t ++ sorted) × ((r : Row) → List·Memᴰ r sorted → r .entry ≡ i)
-      pub next : k ≤ room → (v : List ℤ) → v ≡ ordered n (k - n) u → Closing room n₀ all t₀ k (leftRows chart o events (i + 1) k v) v × Grown o m k v
+      pub next : k ≤ room → (v : List ℤ) → v ≡ ordered n (k - n) u → Closing room n₀ all t₀ k (leftRows chart since o events (i + 1) k v) v × Grown o m k v
 
     entry-full : room < k → Tried room n₀ all t₀ k u
     entry-full h =
@@ -210,7 +218,7 @@ module _ (chart : Chart) (o : ℤ) (first pending : ℕ) (codes : List ℕ) (few
           let q : v ≡ putRows n sorted t = z ∙ ap (λ x. ordered n x u) many ∙ ap (ordered n (length added)) (w .2) ∙ rows-ordered n added t (omega (arith, w .0)) in
           (c, q, rw (c, q) (rows-puts n sorted t size))
 
-      entry-next : (v : List ℤ) → v ≡ ordered n (k - n) u → Closing room n₀ all t₀ k (leftRows chart o events (i + 1) k v) v × Grown o m k v
+      entry-next : (v : List ℤ) → v ≡ ordered n (k - n) u → Closing room n₀ all t₀ k (leftRows chart since o events (i + 1) k v) v × Grown o m k v
       unfolding leftRows
       entry-next v z =
           let w = entry-more v z in
@@ -218,7 +226,7 @@ module _ (chart : Chart) (o : ℤ) (first pending : ℕ) (codes : List ℕ) (few
           let q : v ≡ putRows n sorted t = w .1 in
           let rows : rowsIn k v ≡ rowsIn n t ++ sorted = w .2 in
           let size : (n + length sorted) * 5 ≤ length t = omega (arith, fits .0, length-sorted added) in
-          let rest : leftRows chart o events (i + 1) k v ≡ drop (n + length sorted) later = rw (rows, c) in (
+          let rest : leftRows chart since o events (i + 1) k v ≡ drop (n + length sorted) later = rw (rows, c) in (
             subst (λ x. Closing room n₀ all t₀ k x v) (sym rest) (closing-next f sorted (drop (n + length sorted) later) k v left-cut c l q),
             rw (c, q) (grown-more o m n t sorted g (λ r h. ending r (stably-mem startsLater added h)) size),
           )
@@ -241,7 +249,7 @@ module _ (chart : Chart) (w : WatchState) (x : ℤ) (t : List ℤ) where
   closed-length : length closed ≡ n + length (drop n closed)
   unfolding closedRows
   closed-length =
-      let p = instants-more (operatorsOf chart) (eventsIn w) (instantsTo (w .instant) x) (w .instant) (rowsIn n t) in
+      let p = instants-more (operatorsOf chart) (w .since) (eventsIn w) (instantsTo (w .instant) x) (w .instant) (rowsIn n t) in
       rw (p .1, drop-at (rowsIn n t) (p .0) n (length-rows n t), length-append, length-rows)
 
   module _ (ready : Ready chart n t) (k : ℕ) (u : List ℤ) where
@@ -270,7 +278,7 @@ module _ (chart : Chart) (w : WatchState) (x : ℤ) (t : List ℤ) where
 
 -- For callers: the rows after the closing, and the number and the table by whether they fit
 module _ (chart : Chart) (w : WatchState) (x : ℤ) (t : List ℤ) where
-  pub closed-is : closedRows chart w x t ≡ closeInstants (instantsTo (w .instant) x) (w .instant) (eventsIn w) (operatorsOf chart) (rowsIn (w .rows) t)
+  pub closed-is : closedRows chart w x t ≡ closeInstants (instantsTo (w .instant) x) (w .instant) (eventsIn w) (operatorsOf chart) (w .since) (rowsIn (w .rows) t)
   unfolding closedRows
   closed-is = refl
 

@@ -14,12 +14,16 @@ use Rattle.interval.specs.Instants.{eqZ, least, greatest}
 use Rattle.interval.proofs.Signed.{_≤ᶻ_, _<ᶻ_, never, eq-same, eq-fact, is-le, greatest-is, greatest-most, antisym}
 use Rattle.model.specs.Lists.{keep, each, numbers}
 use Rattle.model.specs.Order.{Row, row}
-use Rattle.model.specs.RowSteps.{Node, pair, pairs, of, rowAt, places, nodeRow, endsAt}
+use Rattle.model.specs.RowSteps.{Node, pair, pairs, of, rowAt, places, nodeRow}
 use Rattle.table.specs.Table.{cell, rowsIn}
 use Rattle.table.specs.Ends.{Ordered}
 use Rattle.table.proofs.Rows.{length-rows, row-at}
 use Rattle.closing.specs.Added.{when}
 use Rattle.closing.proofs.Spans.{each-same, keep-keep, kept-ones, kept-each, each-nothing}
+
+-- a row's end is the instant: what the model's test of a new row asks besides its start
+abbrev pub endsHere : ℤ → ℤ → ℤ → Bool
+endsHere o s e = eqZ e o
 
 -- a table while the instant o is closed: m rows from before, which end before o; the others of its n rows end at o
 pub record Grown (o : ℤ) (m n : ℕ) (t : List ℤ) : Type 0 where
@@ -61,7 +65,7 @@ module _ {o : ℤ} {m n : ℕ} {t : List ℤ} (g : Grown o m n t) (entry : ℕ) 
   of-entry a i h = rw (row-at n i t h) (eq-entry (cell t i 0) a (g .above i h))
 
   abbrev pub derived : List (Node ℕ) → List Row
-  derived xs = keep (λ r. endsAt o (r .start) (r .end)) (map (nodeRow (rowsIn n t) entry) xs)
+  derived xs = keep (λ r. endsHere o (r .start) (r .end)) (map (nodeRow (rowsIn n t) entry) xs)
 
   pub old-not : (i : ℕ) → i < m → cell t i 4 ≡ o → ⊥
   old-not i h e = omega (arith, g .old i h, eq-fact e)
@@ -97,8 +101,8 @@ module _ {o : ℤ} {m n : ℕ} {t : List ℤ} (g : Grown o m n t) (entry : ℕ) 
         let one : (r : ℕ) → derived (map (pair r) (keep (p r) (of v b xs))) ≡ each (paired r) (numbers 0 n) = λ r.
         ap (λ l. derived (map (pair r) l)) (keep-keep (p r) q xs)
         ∙ ap (λ k. derived (map (pair r) (keep (λ s. q s && p r s) (numbers 0 k)))) (length-rows n t)
-        ∙ kept-ones (λ x. endsAt o (x .start) (x .end)) (nodeRow (rowsIn n t) entry) (pair r) (λ s. q s && p r s) (numbers 0 n) in
-        kept-each (λ x. endsAt o (x .start) (x .end)) (nodeRow (rowsIn n t) entry) (λ r. map (pair r) (keep (p r) (of v b xs))) (λ r. eqb (v .entry r) a) xs
+        ∙ kept-ones (λ x. endsHere o (x .start) (x .end)) (nodeRow (rowsIn n t) entry) (pair r) (λ s. q s && p r s) (numbers 0 n) in
+        kept-each (λ x. endsHere o (x .start) (x .end)) (nodeRow (rowsIn n t) entry) (λ r. map (pair r) (keep (p r) (of v b xs))) (λ r. eqb (v .entry r) a) xs
         ∙ ap (λ k. each (λ r. cond (eqb (v .entry r) a) (derived (map (pair r) (keep (p r) (of v b xs)))) []) (numbers 0 k)) (length-rows n t)
         ∙ each-same (λ r. cond (eqb (v .entry r) a) (derived (map (pair r) (keep (p r) (of v b xs)))) []) pairsBy 0 n (λ r k h. ap (λ l. cond (eqb (v .entry r) a) l []) (one r))
 

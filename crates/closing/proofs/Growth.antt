@@ -14,7 +14,7 @@ use Rattle.interval.proofs.Laws.{start-le-end}
 use Rattle.model.specs.Lists.{numbers}
 use Rattle.model.specs.Recognitions.{Operator}
 use Rattle.model.specs.Order.{Row}
-use Rattle.model.specs.RowSteps.{Node, leaf, part, pair, endsAt, numbered, make, rowAt, places, nodeRow}
+use Rattle.model.specs.RowSteps.{Node, leaf, part, pair, numbered, make, rowAt, places, nodeRow}
 use Rattle.model.proofs.Sorted.{keep-mem}
 use Rattle.model.proofs.Trees.{end-by}
 use Rattle.model.proofs.Made.{make-made, made-all}
@@ -24,7 +24,7 @@ use Rattle.table.specs.Table.{cell, rowsIn, putRow, putRows}
 use Rattle.table.proofs.Rows.{length-rows, row-at, length-put, cell-other, cell-put, row-put, puts-none, puts-on}
 use Rattle.closing.specs.Added.{Settled, pendingFrom, addedRows}
 use Rattle.closing.proofs.Derived.{made-is}
-use Rattle.closing.proofs.Grown.{Grown, ends, all-ordered}
+use Rattle.closing.proofs.Grown.{Grown, ends, all-ordered, endsHere}
 
 -- before the first entry
 pub grown-none : (o : ℤ) (n : ℕ) (t : List ℤ) → Settled o n t → Grown o n n t
@@ -116,7 +116,7 @@ module _ (o : ℤ) (m n : ℕ) (t : List ℤ) (g : Grown o m n t) (entry : ℕ) 
   -- what an entry adds is what it makes of the rows there are
   added-made : (op : Operator) (first pending : ℕ) (codes : List ℕ) → pending ≤ length codes → (r : Row) → List·Memᴰ r (addedRows op entry o (pendingFrom first pending) codes m n t) → List·Memᴰ r (map (nodeRow (rowsIn n t) entry) (nodes op first pending codes)) × (r .end ≡ o)
   added-made op first pending codes h r w =
-      let k = keep-mem (λ x. endsAt o (x .start) (x .end)) (map (nodeRow (rowsIn n t) entry) (nodes op first pending codes)) (subst (List·Memᴰ r) (sym (made-is o m n t g entry op first pending codes h)) w) in
+      let k = keep-mem (λ x. endsHere o (x .start) (x .end)) (map (nodeRow (rowsIn n t) entry) (nodes op first pending codes)) (subst (List·Memᴰ r) (sym (made-is o m n t g entry op first pending codes h)) w) in
       (k .0, eqZ→ (r .end) o (k .1))
 
   pub added-entry : (op : Operator) (first pending : ℕ) (codes : List ℕ) → pending ≤ length codes → (r : Row) → List·Memᴰ r (addedRows op entry o (pendingFrom first pending) codes m n t) → r .entry ≡ entry

@@ -4,10 +4,12 @@ use Prim.Native.Nat.{ℕ, zero, suc, _+_, _-_, _≤_, _<_}
 use native.Mathlib.Omega.{arith}
 use native.Mathlib.Numerals.{add-one}
 use native.Mathlib.Decide.{ℕ-discrete}
-use mathlib.Core.Path.{_≡_, refl, sym, ap, _∙_}
+use mathlib.Core.Path.{_≡_, refl, sym, ap, _∙_, subst}
 use mathlib.Core.Logic.{_⊎_, inl, inr}
-use mathlib.Core.Bool.{Bool, true, false, cond}
+use mathlib.Core.Bool.{Bool, true, false, cond, _&&_}
 use mathlib.Core.List.{List}
+use borrow.Author.Tests.{leb-true, leb-false}
+use lib.Dec.{leb}
 use lib.IntN.{ℤ}
 use lib.Signed.{leZ}
 use Rattle.interval.specs.Instants.{eqZ, least, greatest}
@@ -16,7 +18,7 @@ use Rattle.table.specs.Table.{cell, storedRow}
 use Rattle.table.specs.Ends.{Ordered}
 use Rattle.table.specs.declared.Row as stored
 use Rattle.closing.proofs.Filling.{Kept}
-use Rattle.closing.specs.Added.{nextFrom, nextRow, Passed, leastFrom, leastStart, Proper, latestFrom, latestStart, isLaterRow, rivalFrom, rivalEnd}
+use Rattle.closing.specs.Added.{isWaited, nextFrom, nextRow, Passed, leastFrom, leastStart, Proper, latestFrom, latestStart, isLaterRow, rivalFrom, rivalEnd}
 
 -- the next row of a
 module _ (a : ℤ) (t : List ℤ) where
@@ -89,6 +91,22 @@ module _ (a : ℤ) (t : List ℤ) where
 
   pub passed-one : (i n r k : ℕ) → Passed a i n t r → r < n → k ≡ r + 1 → eqZ (cell t r 0) a ≡ false → Passed a i n t k
   passed-one i n r k f h s e = record { least = omega (arith, f .least); most = omega arith; same = ap (λ x. nextRow a x n t) s ∙ next-on r n h e ∙ f .same }
+
+-- rows that are passed in the search for one that starts at x or later: those from i to before j, row j, and those up to the next one of a
+module _ (x a : ℤ) (t : List ℤ) where
+  abbrev pub Unwaited : ℕ → ℕ → Type 0
+  Unwaited i j = (k : ℕ) → i ≤ k → k < j → isWaited x a t k ≡ false
+
+  pub unwaited-next : (i e r : ℕ) → r ≡ nextRow a i e t → Unwaited i r
+  unwaited-next i e r s k h g = ap (λ b. b && leZ x (cell t k 3)) (next-none a t i e k h (omega arith))
+
+  pub unwaited-on : (i j e r : ℕ) → Unwaited i j → isWaited x a t j ≡ false → r ≡ nextRow a (j + 1) e t → Unwaited i r
+  unwaited-on i j e r u here s k h g = go (leb j k) refl (ℕ-discrete k j)
+    where
+      go : (b : Bool) → leb j k ≡ b → Dec (k ≡ j) → isWaited x a t k ≡ false
+      go b p (yes q) = subst (λ z. isWaited x a t z ≡ false) (sym q) here
+      go true p (no q) = unwaited-next (j + 1) e r s k (omega (arith, leb-true j k p)) g
+      go false p (no q) = u k h (leb-false j k p)
 
 -- what a search found, said of a table whose first rows are those of the one searched
 pub record Found (a : ℤ) (i n : ℕ) (t : List ℤ) (k : ℕ) : Type 0 where

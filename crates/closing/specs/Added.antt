@@ -19,7 +19,7 @@ use Rattle.interval.specs.declared.Ending.the-variants.{Before, Within, Togethe
 use Rattle.interval.specs.declared.Edges.{Edges}
 use Rattle.interval.specs.declared.Nearest.{Nearest}
 use Rattle.interval.specs.declared.Nearest.the-variants.{Cut, Change}
-use Rattle.model.specs.Lists.{each, numbers}
+use Rattle.model.specs.Lists.{keep, each, numbers}
 use Rattle.model.specs.Recognitions.{Event, Operator, event, related, or, absence, lasting, after, nearest, Arm, left, right}
 use Rattle.model.specs.Order.{Row, row, none, leftOf, rightOf}
 use Rattle.table.specs.Table.{cell, storedRow, fill, putRows}
@@ -66,8 +66,12 @@ Tried room n rs t k u =
     ((n + length rs ≤ room) × (k ≡ n + length rs) × (u ≡ putRows n rs t)) ⊎
     ((room < n + length rs) × (k ≡ suc room) × (take (n * 5) u ≡ take (n * 5) t) × (drop (room * 5) u ≡ drop (room * 5) t))
 
+-- the rows that start at x or later, from which their entry counts
+abbrev pub counted : ℤ → List Row → List Row
+counted x rs = keep (λ r. leZ x (r .start)) rs
+
 abbrev pub Appended : Frame → ℕ → List Row → List ℤ → ℕ → List ℤ → Type 0
-Appended f n rs t k u = FilledBy (f .room) n rs t k u
+Appended f n rs t k u = FilledBy (f .room) n (counted (f .since) rs) t k u
 
 -- the numbers from a to before e
 abbrev pub span : ℕ → ℕ → List ℕ
@@ -134,6 +138,15 @@ waitedTo o d n t = countEnding true n (o -ℤ pos d) t
 
 unfoldable pub delayedRows : ℕ → ℤ → ℤ → ℕ → ℕ → List ℤ → List Row
 delayedRows entry o a d n t = takenRows left entry o a All (waitedFrom o d n t) (waitedTo o d n t) t
+
+-- whether row j is one of a that starts at x or later; k is the first such row from row i on to before row n, or n or more where there is none
+abbrev pub isWaited : ℤ → ℤ → List ℤ → ℕ → Bool
+isWaited x a t j = eqZ (cell t j 0) a && leZ x (cell t j 3)
+
+pub record FirstWaited (x a : ℤ) (i n : ℕ) (t : List ℤ) (k : ℕ) : Type 0 where
+  pub least : i ≤ k
+  pub none : (j : ℕ) → i ≤ j → j < k → isWaited x a t j ≡ false
+  pub is : k < n → isWaited x a t k ≡ true
 
 -- an absence: whether row j forbids an interval; whether the row before place j is there and ends at `start` or later; and whether one of
 -- the rows before place j forbids the interval, searched backwards as long as they end at its start or later

@@ -16,9 +16,10 @@ use Rattle.table.specs.Operators.{operatorsOf}
 use Rattle.table.specs.Ready.{Ready, EndBefore}
 use Rattle.table.specs.Table.{rowsIn, putRows, roomIn}
 
--- the rows after every instant from the open one to before x is closed: "entry by entry", over the events of the open instant
+-- the rows after every instant from the open one to before x is closed: "entry by entry", over the events of the open instant, each entry's from the
+-- instant on from which it counts
 unfoldable pub closedRows : Chart → WatchState → ℤ → List ℤ → List Row
-closedRows chart w x t = closeInstants (instantsTo (w .instant) x) (w .instant) (numbered (w .instant) (suc (w .events - w .pending)) (take (w .pending) (w .codes))) (operatorsOf chart) (rowsIn (w .rows) t)
+closedRows chart w x t = closeInstants (instantsTo (w .instant) x) (w .instant) (numbered (w .instant) (suc (w .events - w .pending)) (take (w .pending) (w .codes))) (operatorsOf chart) (w .since) (rowsIn (w .rows) t)
 
 -- "12 table full: the due rows, old and new together, exceed the rows the table can hold": then one more than it holds, and the table as it was.
 -- "Closing alters only the new rows"

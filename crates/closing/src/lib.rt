@@ -17,10 +17,10 @@ ghost use Rattle.model.specs.Capacity.{capacity};
 ghost use Rattle.model.specs.Recognitions.{after};
 ghost use Rattle.model.specs.RowSteps.{closeRows, delayedEnds, dueEnds};
 ghost use Rattle.model.specs.Statements.{NextDue};
-ghost use Rattle.table.specs.Table.{cell, storedRow, rowsIn};
+ghost use Rattle.table.specs.Table.{cell, storedRow, modelRow, rowsIn};
 ghost use Rattle.table.specs.Ends.{Ordered, endingBefore};
 ghost use Rattle.table.specs.Operators.{operatorsOf, entryOperator};
-ghost use Rattle.closing.specs.Added.{Appendable, Proper, Settled, Appended, Tried, SerialsFit, serialRow, eventsAt, eventRows, armOf, partOf, partRow, isTaken, takenRow, takenRows, orRows, delayedRows, forbids, isWithin, absenceRows, topOf, SameTop, nextRow, Passed, leastStart, isWanted, pairOf, pairRow, rightFrom, pairsOf, leftFrom, pairRows, latestStart, nearFrom, nearTo, isLaterRow, rivalEnd, limitBy, nearestPairs, nearestOf, nearestRows, addedRows};
+ghost use Rattle.closing.specs.Added.{Appendable, Proper, Settled, Appended, Tried, isWaited, FirstWaited, SerialsFit, serialRow, eventsAt, eventRows, armOf, partOf, partRow, isTaken, takenRow, takenRows, orRows, delayedRows, forbids, isWithin, absenceRows, topOf, SameTop, nextRow, Passed, leastStart, isWanted, pairOf, pairRow, rightFrom, pairsOf, leftFrom, pairRows, latestStart, nearFrom, nearTo, isLaterRow, rivalEnd, limitBy, nearestPairs, nearestOf, nearestRows, addedRows};
 ghost use Rattle.closing.specs.Closed.{Closable, closedRows, closedNumber, closedTable};
 use chart::Chart;
 use chart::Entry;
@@ -34,19 +34,22 @@ use state::WatchState;
 use table::Row;
 
 // Where rows of an entry are appended: the rows before `first` end before the instant that is closed; those from there to before `end` end
-// at it and are of lower entries; `room` rows fit in all. For a delay the rows from `first` to before `end` are those that ended so long before.
+// at it and are of lower entries; `room` rows fit in all. For a delay the rows from `first` to before `end` are those that ended so long before. The
+// entry counts from the instant `since`: a row that starts earlier is not appended.
 struct Frame {
     first: usize,
     end: usize,
     room: usize,
     entry: i32,
     instant: i32,
+    since: i32,
 }
 
-// The instant that is closed, and the clock mark before which all are.
+// The instant that is closed, the clock mark before which all are, and how many rows fit.
 struct Jump {
     instant: i32,
     mark: i32,
+    room: usize,
 }
 
 // The events of the instant that is closed: the serial of the first and how many there are. Their codes are lent beside, since an array in
@@ -67,6 +70,13 @@ struct Made {
 enum Taken {
     All,
     Lasting(LengthTest, u32),
+}
+
+// What an `after` waits for: its operand, its length, and the instant from which its entry counts.
+struct Wait {
+    operand: i32,
+    length: u32,
+    since: i32,
 }
 
 // What is wanted of a second row: that it is one of an operand and related to the first row, which is given by its number, start and end.
@@ -99,6 +109,17 @@ fn has_code(code: u8, k: u32) -> bool
     code as u32 == k
 }
 
+// Appends a row, if it starts no earlier than its entry counts.
+fn push_counted(t: &mut [i32], n: usize, f: Frame, row: Row) -> usize
+    requires { ⌜ (Appendable f n (now t)) × (leZ (pos 0) (row .entry) ≡ true) ⌝ }
+    ensures { λ r. ⌜ Appended f n (modelRow row ∷ []) (now (t .entry)) r (now (t .exit)) ⌝ }
+{
+    if interval::is_no_later(f.since, row.start) {
+        return table::push_row(t, n, f.room, row);
+    }
+    n
+}
+
 fn push_event(t: &mut [i32], n: usize, f: Frame, serial: usize) -> usize
     requires { ⌜ (Appendable f n (now t)) × (serial ≤ 1000000) ⌝ }
     ensures { λ r. ⌜ Appended f n (serialRow (natAbs (f .entry)) (f .instant) serial ∷ []) (now (t .entry)) r (now (t .exit)) ⌝ }
@@ -110,7 +131,7 @@ fn push_event(t: &mut [i32], n: usize, f: Frame, serial: usize) -> usize
         start: f.instant,
         end: f.instant,
     };
-    table::push_row(t, n, f.room, row)
+    push_counted(t, n, f, row)
 }
 
 // event: a row for each pending event of code k. One look at each event.
@@ -161,7 +182,7 @@ fn push_part(t: &mut [i32], n: usize, f: Frame, i: usize, second: bool) -> usize
 {
     let part = table::row_at(t, i);
     let row = part_of(f, part, i, second);
-    table::push_row(t, n, f.room, row)
+    push_counted(t, n, f, row)
 }
 
 // Whether a row is one of the operand a and is taken.
@@ -240,6 +261,7 @@ fn delayed_rows(t: &mut [i32], n: usize, f: Frame, a: i32, d: u32) -> usize
         room: f.room,
         entry: f.entry,
         instant: f.instant,
+        since: f.since,
     };
     taken_rows(t, n, waited, a, Taken::All, false)
 }
@@ -253,26 +275,54 @@ fn due_of(t: &[i32], i: usize, d: u32, limit: i32) -> i32
     interval::least_delayed(row.end, d, limit)
 }
 
-// The first end behind `last` of a wait of d that a row of a began, or the limit if none is before it. A binary search finds the first row at whose end a wait
-// of d would end behind `last`: mostly it is one of a, or its wait would reach the limit, and so those of all rows behind it. Otherwise a second search, and one
-// look at each row whose wait would end before the limit, up to the first one of a.
-fn next_end(t: &[i32], n: usize, a: i32, d: u32, last: i32, limit: i32) -> i32
-    requires { ⌜ Settled (last +ℤ pos 1) n (now t) × (n * 5 ≤ length (now t)) × (ltZ last limit ≡ true) × (leZ (pos 0) a ≡ true) ⌝ }
-    ensures { λ r. ⌜ NextDue (delayedEnds (rowsIn n (now (t .entry))) (after (natAbs a) d)) (last +ℤ pos 1) limit r ⌝ }
+// Whether row i is waited for: it is one of the operand and starts no earlier than the entry counts.
+fn is_waited(t: &[i32], i: usize, w: Wait) -> bool
+    requires { ⌜ i * 5 + 5 ≤ length (now t) ⌝ }
+    ensures { λ r. ⌜ r ≡ isWaited (w .since) (w .operand) (now (t .entry)) i ⌝ }
 {
+    let row = table::row_at(t, i);
+    if row.entry != w.operand {
+        return false;
+    }
+    interval::is_no_later(w.since, row.start)
+}
+
+// The first such row from row i on to before row e, or e. One look at each row up to it, and another at each one of the operand.
+fn next_waited(t: &[i32], i: usize, e: usize, w: Wait) -> usize
+    requires { ⌜ (i ≤ e) × (e * 5 ≤ length (now t)) ⌝ }
+    ensures { λ r. ⌜ FirstWaited (w .since) (w .operand) i e (now (t .entry)) r ⌝ }
+{
+    let mut j = next_of(t, i, e, w.operand);
+    while j < e {
+        if is_waited(t, j, w) {
+            return j;
+        }
+        j = next_of(t, j + 1, e, w.operand);
+    }
+    j
+}
+
+// The first end behind `last` of a wait that a row began, or the limit if none is before it. A binary search finds the first row at whose end a wait
+// would end behind `last`: mostly it is waited for, or its wait would reach the limit, and so those of all rows behind it. Otherwise a second search, and what
+// `next_waited` looks at of the rows whose wait would end before the limit.
+fn next_end(t: &[i32], n: usize, w: Wait, last: i32, limit: i32) -> i32
+    requires { ⌜ Settled (last +ℤ pos 1) n (now t) × (n * 5 ≤ length (now t)) × (ltZ last limit ≡ true) × (leZ (pos 0) (w .operand) ≡ true) ⌝ }
+    ensures { λ r. ⌜ NextDue (delayedEnds (w .since) (rowsIn n (now (t .entry))) (after (natAbs (w .operand)) (w .length))) (last +ℤ pos 1) limit r ⌝ }
+{
+    let d = w.length;
     let first = table::count_ending(t, n, interval::earlier_by(last, d), true);
     if n <= first {
         return limit;
     }
     let due = due_of(t, first, d, limit);
-    if is_of(t, first, a) {
+    if is_waited(t, first, w) {
         return due;
     }
     if interval::is_same(due, limit) {
         return limit;
     }
     let end = table::count_ending(t, n, interval::earlier_by(limit, d), false);
-    let i = next_of(t, first, end, a);
+    let i = next_waited(t, first, end, w);
     if end <= i {
         return limit;
     }
@@ -409,7 +459,7 @@ fn push_pair(t: &mut [i32], n: usize, f: Frame, w: Wanted, i: usize) -> usize
 {
     let s = table::row_at(t, i);
     let row = pair_of(f, w, s, i);
-    table::push_row(t, n, f.room, row)
+    push_counted(t, n, f, row)
 }
 
 // Where the search for s begins, given r: old rows s are looked at only where s may end first and r is new.
@@ -737,11 +787,27 @@ fn nearest_rows(t: &mut [i32], n: usize, f: Frame, c: Nearest, a: i32, b: i32) -
     count
 }
 
+// The rows of an `after`, and the first end behind the instant that it makes, or `next` if none is before it. Costs what `next_end` and `delayed_rows` cost.
+fn after_rows(t: &mut [i32], f: Frame, a: i32, d: u32, next: i32) -> Made
+    requires { ⌜ Appendable f (f .end) (now t) × Settled (f .instant +ℤ pos 1) (f .end) (now t) × (ltZ (f .instant) next ≡ true) × (leZ (pos 0) a ≡ true) ⌝ }
+    ensures { λ r. ⌜ Appended f (f .end) (delayedRows (natAbs (f .entry)) (f .instant) a d (f .end) (now (t .entry))) (now (t .entry)) (r .rows) (now (t .exit)) × NextDue (delayedEnds (f .since) (rowsIn (f .end) (now (t .entry))) (after (natAbs a) d)) (f .instant +ℤ pos 1) next (r .next) ⌝ }
+{
+    let w = Wait {
+        operand: a,
+        length: d,
+        since: f.since,
+    };
+    Made {
+        next: next_end(t, f.end, w, f.instant, next),
+        rows: delayed_rows(t, f.end, f, a, d),
+    }
+}
+
 // The rows of one entry, by its operator; only a delay makes an end behind the instant, and `next` is the first of these so far, or the mark. Costs what
 // that operator's function costs. The structs are written out in the arms: made by a function, they take a mark some instructions more at each entry.
 fn entry_rows(t: &mut [i32], f: Frame, e: Entry, p: Pending, codes: &[u8; 64], next: i32) -> Made
     requires { ⌜ Appendable f (f .end) (now t) × SerialsFit p × (entryFits (natAbs (f .entry)) e ≡ true) × Settled (f .instant +ℤ pos 1) (f .end) (now t) × (ltZ (f .instant) next ≡ true) ⌝ }
-    ensures { λ r. ⌜ Appended f (f .end) (addedRows (entryOperator e) (natAbs (f .entry)) (f .instant) p (now (codes .entry)) (f .first) (f .end) (now (t .entry))) (now (t .entry)) (r .rows) (now (t .exit)) × NextDue (delayedEnds (rowsIn (f .end) (now (t .entry))) (entryOperator e)) (f .instant +ℤ pos 1) next (r .next) ⌝ }
+    ensures { λ r. ⌜ Appended f (f .end) (addedRows (entryOperator e) (natAbs (f .entry)) (f .instant) p (now (codes .entry)) (f .first) (f .end) (now (t .entry))) (now (t .entry)) (r .rows) (now (t .exit)) × NextDue (delayedEnds (f .since) (rowsIn (f .end) (now (t .entry))) (entryOperator e)) (f .instant +ℤ pos 1) next (r .next) ⌝ }
 {
     let a = e.a;
     let b = e.b;
@@ -767,10 +833,7 @@ fn entry_rows(t: &mut [i32], f: Frame, e: Entry, p: Pending, codes: &[u8; 64], n
             rows: taken_rows(t, f.end, f, a as i32, Taken::Lasting(test, b), false),
             next,
         },
-        Kind::After => Made {
-            next: next_end(t, f.end, a as i32, b, f.instant, next),
-            rows: delayed_rows(t, f.end, f, a as i32, b),
-        },
+        Kind::After => after_rows(t, f, a as i32, b, next),
         Kind::Nearest(c) => Made {
             rows: nearest_rows(t, f.end, f, c, a as i32, b as i32),
             next,
@@ -784,17 +847,18 @@ fn entry_rows(t: &mut [i32], f: Frame, e: Entry, p: Pending, codes: &[u8; 64], n
 // for each entry's rows; an entry that makes none, as most do at a mark, is passed with one comparison.
 fn all_rows(
     chart: Chart,
+    since: &[i32; 32],
     t: &mut [i32],
     rows: usize,
-    room: usize,
     jump: Jump,
     p: Pending,
     codes: &[u8; 64],
 ) -> Made
-    requires { ⌜ (isUsable chart ≡ true) × Settled (jump .instant) rows (now t) × (rows ≤ room) × (room ≡ capacity (length (now t))) × SerialsFit p × (p .count ≤ length (now codes)) × (ltZ (jump .instant) (jump .mark) ≡ true) ⌝ }
-    ensures { λ r. ⌜ Tried room rows (drop rows (closeRows (jump .instant) (eventsAt (jump .instant) p (now (codes .entry))) (operatorsOf chart) (rowsIn rows (now (t .entry))))) (now (t .entry)) (r .rows) (now (t .exit)) × (r .rows ≤ room → Settled (jump .instant +ℤ pos 1) (r .rows) (now (t .exit)) × NextDue (dueEnds [] (operatorsOf chart) (rowsIn (r .rows) (now (t .exit)))) (jump .instant +ℤ pos 1) (jump .mark) (r .next)) ⌝ }
+    requires { ⌜ (isUsable chart ≡ true) × Settled (jump .instant) rows (now t) × (rows ≤ jump .room) × (jump .room ≡ capacity (length (now t))) × SerialsFit p × (p .count ≤ length (now codes)) × (ltZ (jump .instant) (jump .mark) ≡ true) ⌝ }
+    ensures { λ r. ⌜ Tried (jump .room) rows (drop rows (closeRows (jump .instant) (eventsAt (jump .instant) p (now (codes .entry))) (operatorsOf chart) (now (since .entry)) (rowsIn rows (now (t .entry))))) (now (t .entry)) (r .rows) (now (t .exit)) × (r .rows ≤ jump .room → Settled (jump .instant +ℤ pos 1) (r .rows) (now (t .exit)) × NextDue (dueEnds [] (operatorsOf chart) (now (since .entry)) (rowsIn (r .rows) (now (t .exit)))) (jump .instant +ℤ pos 1) (jump .mark) (r .next)) ⌝ }
 {
     let count = chart.count;
+    let room = jump.room;
     let mut n = rows;
     let mut next = jump.mark;
     let mut i: usize = 0;
@@ -807,6 +871,7 @@ fn all_rows(
             room,
             entry: i as i32,
             instant: jump.instant,
+            since: since[i],
         };
         let made = entry_rows(t, f, e, p, codes, next);
         n = made.rows;
@@ -823,17 +888,18 @@ fn all_rows(
 }
 
 // The rows that end before the mark: those of the open instant, to which the pending events belong, and then those of each later instant at which
-// one is due; `codes` are the state's, taken out of it to be lent. Each costs what `all_rows` costs, and each later one brings a row at least; the
+// one is due; `codes` and `since` are the state's, taken out of it to be lent. Each costs what `all_rows` costs, and each later one brings a row at least; the
 // instants between cost nothing.
 fn due_rows(
     chart: Chart,
     state: WatchState,
     codes: [u8; 64],
+    since: [i32; 32],
     mark: i32,
     t: &mut [i32],
     room: usize,
 ) -> usize
-    requires { ⌜ Closable chart state mark (now t) × (codes ≡ state .codes) × (room ≡ capacity (length (now t))) ⌝ }
+    requires { ⌜ Closable chart state mark (now t) × (codes ≡ state .codes) × (since ≡ state .since) × (room ≡ capacity (length (now t))) ⌝ }
     ensures { λ r. ⌜ Tried room (state .rows) (drop (state .rows) (closedRows chart state mark (now (t .entry)))) (now (t .entry)) r (now (t .exit)) ⌝ }
 {
     let first = state.events - state.pending + 1;
@@ -845,8 +911,12 @@ fn due_rows(
             first,
             count: pending,
         };
-        let jump = Jump { instant, mark };
-        let closed = all_rows(chart, t, n, room, jump, p, &codes);
+        let jump = Jump {
+            instant,
+            mark,
+            room,
+        };
+        let closed = all_rows(chart, &since, t, n, jump, p, &codes);
         n = closed.rows;
         if room < n {
             return n;
@@ -867,7 +937,8 @@ pub fn close(chart: Chart, state: WatchState, mark: i32, table: &mut [i32]) -> u
 {
     let room = table::rows_that_fit(table.len());
     let codes = state.codes;
-    let n = due_rows(chart, state, codes, mark, table, room);
+    let since = state.since;
+    let n = due_rows(chart, state, codes, since, mark, table, room);
     if n <= room {
         return n;
     }

@@ -1,14 +1,14 @@
 -- Watches and tables, each cause of document 01's paragraph "Out of joint" beside its nearest neighbour that is none. One list of cases, one
--- theorem that the checker computes. What must come out was found by hand from document 01 and request N1. No contract says as much, since the
--- code and its contract share the definitions. Crate `watch` has the same list answered with 13 and 0.
-use Prim.Native.Nat.{ℕ}
+-- theorem that the checker computes. What must come out was found by hand from document 01 and requests N1, N5 and N13. No contract says as much,
+-- since the code and its contract share the definitions. Crate `watch` has the same list answered with 13 and 0.
+use Prim.Native.Nat.{ℕ, _-_}
 use Prim.Native.String.{String}
 use mathlib.Core.Path.{_≡_, refl}
 use mathlib.Core.Bool.{Bool, true, false}
 use mathlib.Core.List.{List, [], _∷_, _++_, map}
 use lib.IntN.{ℤ, pos, negℤ}
 use lib.ListN.{length, replicate}
-use Rattle.interval.specs.Instants.{isInstant, isLength}
+use Rattle.interval.specs.Instants.{isInstant, isLength, firstFloor}
 use Rattle.interval.specs.Conditions.{isRelated, hasLength}
 use Rattle.text.specs.Text.{split, lines}
 use Rattle.text.specs.Quoted.{bytes, tabbed, unended, text}
@@ -21,6 +21,7 @@ use Rattle.chart.specs.declared.Chart.{Chart}
 use Rattle.state.specs.declared.WatchState.{WatchState}
 use Rattle.model.specs.Lists.{each}
 use Rattle.model.specs.Capacity.{capacity}
+use Rattle.model.specs.Consistency.{isRising}
 use Rattle.table.specs.Table.{rowsIn, areZeros}
 use Rattle.table.specs.Operators.{operatorBy, operatorsOf}
 use Rattle.consistency.specs.Consistency.{isWatchInRange, isTableRowConsistent, areConsistent}
@@ -40,9 +41,13 @@ table rs = each (λ (r : String). map (λ (f : List ℕ). numberIn (instantOf f)
 abbrev pub minus : ℕ → ℤ
 minus n = negℤ (pos n)
 
--- open instant, floor, counts of events, rows and pending events, whose codes are not looked at
-abbrev stateOf : ℤ → ℤ → ℕ → ℕ → ℕ → WatchState
-stateOf o f events rows pending = record { instant = o; floor = f; events = events; rows = rows; pending = pending; codes = replicate 64 0 }
+-- open instant, floor, counts of events, rows and pending events, whose codes are not looked at; how many entries, and their instants
+abbrev stateOf : ℤ → ℤ → ℕ → ℕ → ℕ → ℕ → List ℤ → WatchState
+stateOf o f events rows pending entries since = record { instant = o; floor = f; events = events; rows = rows; pending = pending; codes = replicate 64 0; entries = entries; since = since ++ replicate (32 - length since) (pos 0) }
+
+-- n entries that count from the opening floor
+abbrev old : ℕ → List ℤ
+old n = replicate n (minus 1000000000)
 
 -- chart, watch and table, and whether they are consistent
 pub record Case : Type 0 where
@@ -74,7 +79,7 @@ watches =
     watch (pos 0) (pos 0) 1000001 0 false ∷ []
   where
     watch : ℤ → ℤ → ℕ → ℕ → Bool → Case
-    watch o f events pending b = record { chart = chartOf ("0 event 1" ∷ []); state = stateOf o f events 0 pending; table = table ("0 0 0 0 0" ∷ []); consistent = b }
+    watch o f events pending b = record { chart = chartOf ("0 event 1" ∷ []); state = stateOf o f events 0 pending 1 (old 1); table = table ("0 0 0 0 0" ∷ []); consistent = b }
 
 -- "more rows than fit; an unused row that is not all zeros". One row is in use. The numbers after the last row that the table can hold are not looked at.
 abbrev sizes : List Case
@@ -89,7 +94,21 @@ sizes =
     size ("0 1 -1 0 0" ∷ "0 0 0 0 0" ∷ "1 2 3 4" ∷ []) true ∷ []
   where
     size : List String → Bool → Case
-    size rs b = record { chart = chartOf ("0 event 1" ∷ []); state = stateOf (pos 1) (pos 0) 1 1 0; table = table rs; consistent = b }
+    size rs b = record { chart = chartOf ("0 event 1" ∷ []); state = stateOf (pos 1) (pos 0) 1 1 0 1 (old 1); table = table rs; consistent = b }
+
+-- "A watch with another number of entries than the chart is out of joint"; "that instant may not fall from one entry to the next, nor lie below
+-- -1,000,000,000 or above the open instant" (request N13). The chart has three entries, and 3 is the open instant.
+abbrev entries : List Case
+entries =
+    -- how many, and their instants; numbers behind those in use are not looked at
+    counting 3 "0 1 2" true ∷ counting 2 "0 1 2" false ∷ counting 4 "0 1 2 3" false ∷ counting 0 "0 1 2" false ∷
+    counting 3 "-1000000000 1 2" true ∷ counting 3 "-1000000001 1 2" false ∷
+    counting 3 "0 1 3" true ∷ counting 3 "0 1 4" false ∷
+    counting 3 "1 1 1" true ∷ counting 3 "2 1 1" false ∷ counting 3 "1 2 1" false ∷
+    counting 3 "0 1 2 1 -2147483648 2147483647" true ∷ []
+  where
+    counting : ℕ → String → Bool → Case
+    counting n s b = record { chart = chartOf ("0 event 1" ∷ "1 event 2" ∷ "2 seq 0 1" ∷ []); state = stateOf (pos 3) (pos 0) 0 0 0 n (table (s ∷ [])); table = []; consistent = b }
 
 -- Rows. There are four events, of codes 1 and 2 at 0 and again at 5; the floor is -1 and the open instant 7. Five rows stand in front of the one that is
 -- looked at: four of events, and one of `seq`, from 0 to 5. Behind it is an unused one.
@@ -116,8 +135,12 @@ rows5 =
     "1 4 -1 5 5" ∷
     "2 0 3 0 5" ∷ []
 
+-- the entries from n on count from x
+abbrev tableFrom : ℕ → ℤ → List String → Bool → Case
+tableFrom n x rs b = record { chart = chart12; state = stateOf (pos 7) (minus 1) 4 (length rs) 0 12 (old n ++ replicate (12 - n) x); table = table (rs ++ "0 0 0 0 0" ∷ []); consistent = b }
+
 abbrev tableOf : List String → Bool → Case
-tableOf rs b = record { chart = chart12; state = stateOf (pos 7) (minus 1) 4 (length rs) 0; table = table (rs ++ "0 0 0 0 0" ∷ []); consistent = b }
+tableOf = tableFrom 12 (pos 0)
 
 abbrev good : String → Case
 good r = tableOf (rows5 ++ r ∷ []) true
@@ -131,6 +154,13 @@ rows =
     good "5 4 -1 0 5" ∷ bad "12 4 -1 0 5" ∷ bad "-5 4 -1 0 5" ∷
     -- "start is below the floor": the first row of a table
     tableOf ("0 1 -1 -1 -1" ∷ []) true ∷ tableOf ("0 1 -1 -2 -2" ∷ []) false ∷
+    -- a row that starts before the instant from which its entry counts (request N13): rows of events, of two parts, of an arm, of one part and of `after`; the
+    -- instants of other entries are not asked
+    tableFrom 0 (pos 0) rows5 true ∷ tableFrom 0 (pos 1) rows5 false ∷ tableFrom 1 (pos 0) rows5 true ∷ tableFrom 1 (pos 1) rows5 false ∷
+    tableFrom 2 (pos 0) rows5 true ∷ tableFrom 2 (pos 1) rows5 false ∷ tableFrom 3 (pos 1) rows5 true ∷
+    tableFrom 3 (pos 5) (rows5 ++ "3 2 -1 5 5" ∷ []) true ∷ tableFrom 3 (pos 6) (rows5 ++ "3 2 -1 5 5" ∷ []) false ∷
+    tableFrom 5 (pos 0) (rows5 ++ "5 4 -1 0 5" ∷ []) true ∷ tableFrom 5 (pos 1) (rows5 ++ "5 4 -1 0 5" ∷ []) false ∷ tableFrom 6 (pos 1) (rows5 ++ "5 4 -1 0 5" ∷ []) true ∷
+    tableFrom 8 (pos 0) (rows5 ++ "8 4 -1 0 6" ∷ []) true ∷ tableFrom 8 (pos 1) (rows5 ++ "8 4 -1 0 6" ∷ []) false ∷
     -- "end is not before the open instant or is before its predecessor's end"
     good "0 4 -1 6 6" ∷ bad "0 4 -1 7 7" ∷ good "0 4 -1 5 5" ∷ bad "0 4 -1 4 4" ∷
     -- "references aren't lower rows": row 5 refers to itself, to row 6 behind it, which is of the right entry, and to an unused row, all of whose
@@ -178,8 +208,8 @@ rows =
     rivals rs b = tableOf ("0 1 -1 0 0" ∷ "1 2 -1 2 2" ∷ "0 3 -1 3 3" ∷ rs) b
 
 unfoldable pub cases : List Case
-cases = watches ++ sizes ++ rows
+cases = watches ++ sizes ++ entries ++ rows
 
 pub examples : map (λ (c : Case). areConsistent (c .chart) (c .state) (c .table)) cases ≡ map (λ (c : Case). c .consistent) cases
-unfolding cases isInstant isLength isRelated hasLength split lines bytes tabbed unended text isDigit allDigits valueFrom hasLeadingZero isNumber numberOf withoutMinus withMinus instantOf words sameBytes placeOf operatorOf edgesOf relationOf lengthTestOf kindOf inRange areLower withCode eventLine withOperands secondOperand operandsLine byOperator operatorLine numbered parsedLine checkedEntry checkedLine answerTo noEntries withEntry refusedChart readLines orNoLine readChart allBelow capacity rowsIn areZeros operatorBy operatorsOf isWatchInRange isTableRowConsistent areConsistent
+unfolding cases isInstant isLength firstFloor isRelated hasLength split lines bytes tabbed unended text isDigit allDigits valueFrom hasLeadingZero isNumber numberOf withoutMinus withMinus instantOf words sameBytes placeOf operatorOf edgesOf relationOf lengthTestOf kindOf inRange areLower withCode eventLine withOperands secondOperand operandsLine byOperator operatorLine numbered parsedLine checkedEntry checkedLine answerTo noEntries withEntry refusedChart readLines orNoLine readChart allBelow capacity isRising rowsIn areZeros operatorBy operatorsOf isWatchInRange isTableRowConsistent areConsistent
 examples = refl

@@ -7,6 +7,7 @@ use mathlib.Core.List.{List}
 use borrow.Author.Tests.{ltb-true, le-ltb, le-leb}
 use lib.Dec.{eqb, ltb, leb}
 use lib.IntN.{ℤ, pos, negsuc, natAbs}
+use lib.Seq.{getD-take}
 use lib.Signed.{ltZ, leZ}
 use mir.Syntax.{w32}
 use mir.Val.{SFits}
@@ -22,8 +23,9 @@ use Rattle.chart.specs.declared.Chart.{Chart}
 use Rattle.chart.specs.declared.operator.Kind.{Kind}
 use Rattle.chart.specs.declared.operator.Kind.the-variants.{Event, Or, Pair, Absence, Length, After, Nearest, Unknown}
 use Rattle.chart.proofs.Usable.{usable-fits, fits-range, range-unknown}
+use Rattle.state.specs.State.{entrySince}
 use Rattle.state.specs.declared.WatchState.{WatchState}
-use Rattle.model.specs.Order.{Row, none}
+use Rattle.model.specs.Order.{sinceOf, Row, none}
 use Rattle.model.specs.Recognitions.{Arm, only, left, right, delayed}
 use Rattle.model.specs.RowSteps.{rowAt}
 use Rattle.model.specs.Consistency.{isNone, refers, spansOne, spansTwo, isSerial, agrees, agreesAt, isOrdered, isRowConsistent}
@@ -160,7 +162,7 @@ ordered-is rows t (suc i) h = ap₂ (λ p q. leZ (p .end) (q .end)) (row-at rows
 module _ (chart : Chart) (w : WatchState) (t : List ℤ) (i : ℕ) where
   pub row-above : isTableRowConsistent chart w t i ≡ true → leZ (pos 0) (cell t i 0) ≡ true
   unfolding isTableRowConsistent
-  row-above e = and-first (leZ (pos 0) (cell t i 0)) (isRowConsistent (operatorsOf chart) (w .floor) (w .instant) (w .events) (rowsIn (w .rows) t) i) e
+  row-above e = and-first (leZ (pos 0) (cell t i 0)) (isRowConsistent (operatorsOf chart) (entrySince w) (w .floor) (w .instant) (w .events) (rowsIn (w .rows) t) i) e
 
   pub row-negative : ltZ (cell t i 0) (pos 0) ≡ true → isTableRowConsistent chart w t i ≡ false
   unfolding isTableRowConsistent
@@ -168,18 +170,18 @@ module _ (chart : Chart) (w : WatchState) (t : List ℤ) (i : ℕ) where
 
   module _ (here : i < w .rows) where
     -- the same over the row's numbers
-    pub row-told : isRowConsistent (operatorsOf chart) (w .floor) (w .instant) (w .events) (rowsIn (w .rows) t) i ≡ (leZ (w .floor) (cell t i 3) && (ltZ (cell t i 4) (w .instant) && (isAfterLast t i (cell t i 4) && agreesAt (w .events) (rowsIn (w .rows) t) i (tableRow t i) (operatorsOf chart) (natAbs (cell t i 0)))))
+    pub row-told : isRowConsistent (operatorsOf chart) (entrySince w) (w .floor) (w .instant) (w .events) (rowsIn (w .rows) t) i ≡ (leZ (w .floor) (cell t i 3) && (leZ (sinceOf (entrySince w) (natAbs (cell t i 0))) (cell t i 3) && (ltZ (cell t i 4) (w .instant) && (isAfterLast t i (cell t i 4) && agreesAt (w .events) (rowsIn (w .rows) t) i (tableRow t i) (operatorsOf chart) (natAbs (cell t i 0))))))
     row-told = simp (row-at (w .rows) i t here, ordered-is (w .rows) t i here)
 
     pub row-unknown : chart .count ≤ natAbs (cell t i 0) → isTableRowConsistent chart w t i ≡ false
     unfolding isTableRowConsistent
     row-unknown h = simp (row-told, no-operator chart (w .events) (rowsIn (w .rows) t) i (tableRow t i) (natAbs (cell t i 0)) h, and-false)
 
-    pub row-is : isUsable chart ≡ true → SFits w32 (cell t i 4) → leZ (pos 0) (cell t i 0) ≡ true → natAbs (cell t i 0) < chart .count → isTableRowConsistent chart w t i ≡ isRowOf (entryAt chart (natAbs (cell t i 0))) (limitsOf w (lastEnd t i)) t i (storedRow t i)
+    pub row-is : isUsable chart ≡ true → w .entries ≡ chart .count → SFits w32 (cell t i 4) → leZ (pos 0) (cell t i 0) ≡ true → natAbs (cell t i 0) < chart .count → isTableRowConsistent chart w t i ≡ isRowOf (entryAt chart (natAbs (cell t i 0))) (limitsOf w (sinceOf (w .since) (natAbs (cell t i 0))) (lastEnd t i)) t i (storedRow t i)
     unfolding isTableRowConsistent isRowOf isWithin
-    row-is u f e h =
+    row-is u s f e h =
         let n = natAbs (cell t i 0) in
         let m = entryAt chart n in
         let rs = rowsIn (w .rows) t in
         let fits : inRange (kindOf (m .op)) (m .a) (m .b) ≡ true = fits-range n m (usable-fits chart u n h) in
-        simp (e, row-told, after-last t i (cell t i 4) f, at-entry chart (w .events) rs i (tableRow t i) n h, agrees-is (w .events) rs t i (λ j g. row-at (w .rows) j t (omega arith)) (storedRow t i) (kindOf (m .op)) (m .a) (m .b) fits, and-group)
+        simp (e, row-told, getD-take (w .entries) (w .since) n (pos 0) (omega arith), after-last t i (cell t i 4) f, at-entry chart (w .events) rs i (tableRow t i) n h, agrees-is (w .events) rs t i (λ j g. row-at (w .rows) j t (omega arith)) (storedRow t i) (kindOf (m .op)) (m .a) (m .b) fits, and-group)

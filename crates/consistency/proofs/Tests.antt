@@ -63,7 +63,8 @@ numbers r f = record { entry = record { sfits = f .0 .1 }; left = record { sfits
 pub record Instants (l : Limits) : Type 0 where
   pub instant : SFits w32 (l .instant)
   pub floor : SFits w32 (l .floor)
+  pub since : SFits w32 (l .since)
   pub last : SFits w32 (l .last)
 
-pub instants : {A B C D : Type 0} (l : Limits) → ((A × (mag (l .instant) < 2 ^ 31)) × ((B × (mag (l .floor) < 2 ^ 31)) × ((C × (mag (l .last) < 2 ^ 31)) × D))) → Instants l
-instants l f = record { instant = record { sfits = f .0 .1 }; floor = record { sfits = f .1 .0 .1 }; last = record { sfits = f .1 .1 .0 .1 } }
+pub instants : {A B C D E : Type 0} (l : Limits) → ((A × (mag (l .instant) < 2 ^ 31)) × ((B × (mag (l .floor) < 2 ^ 31)) × ((C × (mag (l .since) < 2 ^ 31)) × ((D × (mag (l .last) < 2 ^ 31)) × E)))) → Instants l
+instants l f = record { instant = record { sfits = f .0 .1 }; floor = record { sfits = f .1 .0 .1 }; since = record { sfits = f .1 .1 .0 .1 }; last = record { sfits = f .1 .1 .1 .0 .1 } }

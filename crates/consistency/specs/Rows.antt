@@ -32,8 +32,9 @@ unfoldable pub lastEnd : List ℤ → ℕ → ℤ
 lastEnd t zero = leastNumber
 lastEnd t (suc i) = cell t i 4
 
-abbrev pub limitsOf : WatchState → ℤ → Limits
-limitsOf w last = record { instant = w .instant; floor = w .floor; last = last; events = w .events }
+-- for a row whose entry counts from `since`, after one that ends at `last`
+abbrev pub limitsOf : WatchState → ℤ → ℤ → Limits
+limitsOf w since last = record { instant = w .instant; floor = w .floor; since = since; last = last; events = w .events }
 
 -- row i lies in the table, and the entries of the rows before it are no negative numbers
 pub record Reached (i : ℕ) (t : List ℤ) : Type 0 where
@@ -48,7 +49,7 @@ unfoldable pub partAt : List ℤ → ℕ → ℤ → ℕ → ℕ
 partAt t i z a = cond (leZ (pos 0) z && (ltb (natAbs z) i && eqb (natAbs (cell t (natAbs z) 0)) a)) (natAbs z) i
 
 unfoldable pub isWithin : Limits → Row → Bool
-isWithin l r = leZ (l .floor) (r .start) && (ltZ (r .end) (l .instant) && leZ (l .last) (r .end))
+isWithin l r = leZ (l .floor) (r .start) && (leZ (l .since) (r .start) && (ltZ (r .end) (l .instant) && leZ (l .last) (r .end)))
 
 unfoldable pub isEventRow : ℕ → Row → Bool
 isEventRow events r = leZ (pos 1) (r .left) && (leb (natAbs (r .left)) events && (eqZ (r .right) none && eqZ (r .start) (r .end)))

@@ -10,7 +10,7 @@ ghost use Rattle.chart.specs.Charts.{allBelow, isUsable};
 ghost use Rattle.chart.specs.Operators.{kindOf, shapeOf};
 ghost use Rattle.model.specs.Capacity.{capacity};
 ghost use Rattle.model.specs.Order.{none};
-ghost use Rattle.consistency.specs.Consistency.{areInstantsInRange, areCountsInRange, isWatchInRange, isTableRowConsistent, areConsistent};
+ghost use Rattle.consistency.specs.Consistency.{areInstantsInRange, areCountsInRange, areEntriesInRange, isWatchInRange, isTableRowConsistent, areConsistent};
 ghost use Rattle.consistency.specs.Rows.{leastNumber, limitsOf, Reached, exchanged, partAt, isWithin, isEventRow, meetsCondition, spansPart, waitsFor, spansParts, isSingleRow, isDelayedRow, isArmRow, isPairRow, agreesBy, isRowOf};
 use chart::Chart;
 use chart::Entry;
@@ -20,21 +20,22 @@ use interval::Relation;
 use state::WatchState;
 use table::Row;
 
-// What a row is held against: the numbers of the watch, and the end of the row before it.
+// What a row is held against: the numbers of the watch, the instant from which the row's entry counts, and the end of the row before it.
 struct Limits {
     instant: i32,
     floor: i32,
+    since: i32,
     last: i32,
     events: usize,
 }
 
-// Whether watch and table are consistent with a chart that a watch may use. One walk of the table, with constant work for each row in
-// use and one look at each number behind them; a watch that is out of range itself is refused before the walk.
+// Whether watch and table are consistent with a chart that a watch may use. One look at each entry's instant; then one walk of the table,
+// with constant work for each row in use and one look at each number behind them. A watch that is out of range itself is refused before the walk.
 pub fn is_consistent(chart: Chart, state: WatchState, table: &[i32]) -> bool
     requires { ⌜ isUsable chart ≡ true ⌝ }
     ensures { λ r. ⌜ r ≡ areConsistent chart state (now (table .entry)) ⌝ }
 {
-    if !is_watch_in_range(state) {
+    if !is_watch_in_range(state, chart.count) {
         return false;
     }
     let room = table::rows_that_fit(table.len());
@@ -45,11 +46,15 @@ pub fn is_consistent(chart: Chart, state: WatchState, table: &[i32]) -> bool
     table::are_zeros(table, rows * 5, room * 5) && are_rows_consistent(chart, state, table)
 }
 
-// Whether the watch's own numbers are as they should be.
-fn is_watch_in_range(state: WatchState) -> bool
-    ensures { λ r. ⌜ r ≡ isWatchInRange state ⌝ }
+// Whether the watch's own numbers are as they should be, count being how many entries the chart has.
+fn is_watch_in_range(state: WatchState, count: usize) -> bool
+    requires { ⌜ count ≤ 32 ⌝ }
+    ensures { λ r. ⌜ r ≡ isWatchInRange count state ⌝ }
 {
-    are_instants_in_range(limits_of(state)) && are_counts_in_range(state.pending, state.events)
+    if !are_instants_in_range(limits_of(state)) {
+        return false;
+    }
+    are_counts_in_range(state.pending, state.events) && are_entries_in_range(state, count)
 }
 
 // Open instant and floor: in range, and the floor not above the open instant.
@@ -72,12 +77,33 @@ fn are_counts_in_range(pending: usize, events: usize) -> bool
     pending <= events && events <= 1000000
 }
 
-// Whether every row in use is consistent: rows from the first, each read once and its entry looked up once.
+// The entries: as many as the chart has, with instants that do not fall, from the first floor to the open instant.
+fn are_entries_in_range(state: WatchState, count: usize) -> bool
+    requires { ⌜ count ≤ 32 ⌝ }
+    ensures { λ r. ⌜ r ≡ areEntriesInRange count state ⌝ }
+{
+    if state.entries != count {
+        return false;
+    }
+    let mut last = interval::first_floor();
+    let mut i: usize = 0;
+    while i < count {
+        let x = state.since[i];
+        if !interval::is_no_later(last, x) {
+            return false;
+        }
+        last = x;
+        i += 1;
+    }
+    interval::is_no_later(last, state.instant)
+}
+
+// Whether every row in use is consistent: rows from the first, each read once, its entry and that entry's instant looked up once.
 fn are_rows_consistent(chart: Chart, state: WatchState, t: &[i32]) -> bool
-    requires { ⌜ (isUsable chart ≡ true) × (state .rows ≤ capacity (length (now t))) ⌝ }
+    requires { ⌜ (isUsable chart ≡ true) × (state .rows ≤ capacity (length (now t))) × (state .entries ≡ chart .count) ⌝ }
     ensures { λ r. ⌜ r ≡ allBelow (state .rows) (isTableRowConsistent chart state (now (t .entry))) ⌝ }
 {
-    let count = chart.count;
+    let count = state.entries;
     let mut limits = limits_of(state);
     let mut i: usize = 0;
     while i < state.rows {
@@ -90,6 +116,7 @@ fn are_rows_consistent(chart: Chart, state: WatchState, t: &[i32]) -> bool
         if count <= n {
             return false;
         }
+        limits.since = state.since[n];
         let e = chart.entries[n];
         if !is_row_of(e, limits, t, i, row) {
             return false;
@@ -100,13 +127,14 @@ fn are_rows_consistent(chart: Chart, state: WatchState, t: &[i32]) -> bool
     true
 }
 
-// The limits of row 0: no end is before the least number.
+// The limits of row 0, whose entry is not known yet: no instant is before the least number.
 fn limits_of(state: WatchState) -> Limits
-    ensures { λ r. ⌜ r ≡ limitsOf state leastNumber ⌝ }
+    ensures { λ r. ⌜ r ≡ limitsOf state leastNumber leastNumber ⌝ }
 {
     Limits {
         instant: state.instant,
         floor: state.floor,
+        since: -2147483648,
         last: -2147483648,
         events: state.events,
     }
@@ -123,12 +151,16 @@ fn is_row_of(e: Entry, limits: Limits, t: &[i32], i: usize, row: Row) -> bool
     agrees(e, limits.events, t, i, row)
 }
 
-// Whether a row starts at the floor or later, and ends before the open instant and no earlier than the row before it.
+// Whether a row starts at the floor or later and no earlier than its entry counts, and ends before the open instant and no earlier than the row
+// before it.
 fn is_within(limits: Limits, row: Row) -> bool
     ensures { λ r. ⌜ r ≡ isWithin limits row ⌝ }
 {
     let end = row.end;
     if !interval::is_no_later(limits.floor, row.start) {
+        return false;
+    }
+    if !interval::is_no_later(limits.since, row.start) {
         return false;
     }
     interval::is_before(end, limits.instant) && interval::is_no_later(limits.last, end)

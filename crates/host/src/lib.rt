@@ -4,10 +4,11 @@ ghost use mathlib.Core.Path.{_≡_};
 ghost use Rattle.chart.specs.Charts.{readChart, verdictOf};
 ghost use Rattle.model.specs.Capacity.{capacity};
 ghost use Rattle.program.specs.Statements.{listedLength, listedTable, listedOutput};
-ghost use Rattle.watch.specs.Steps.{openingStep, checkNumber, eventStep, clockStep, forgetStep, endRows, treeStep};
+ghost use Rattle.watch.specs.Steps.{openingStep, checkNumber, eventStep, clockStep, forgetStep, addStep, endRows, treeStep};
 use chart::Chart;
 use chart::ChartAnswer;
 use chart::Verdict;
+use watch::Addition;
 use watch::Answer;
 use watch::Part;
 use watch::TreeAnswer;
@@ -77,6 +78,19 @@ pub extern "C" fn chronicle_forget(
     ensures { λ r. ⌜ (r ≡ (forgetStep chart (watch .state) (now (table .entry)) floor) .answer) × (now (table .exit) ≡ (forgetStep chart (watch .state) (now (table .entry)) floor) .table) ⌝ }
 {
     watch.forget(chart, table, floor)
+}
+
+// Adds the entries of lines to the chart: 14, 13, then 1 to 6 with the line. A check, then linear in the bytes of the lines up to the 33rd entry.
+#[no_mangle]
+pub extern "C" fn chronicle_add_lines(
+    watch: Watch,
+    chart: Chart,
+    table: &[i32],
+    bytes: &[u8],
+) -> Addition
+    ensures { λ r. ⌜ r ≡ addStep chart (watch .state) (now (table .entry)) (now (bytes .entry)) ⌝ }
+{
+    watch.add_lines(chart, table, bytes)
 }
 
 // The number that calls on this watch, chart and table are refused with first: 14, 13, or 0. One look at each entry and each row.

@@ -21,7 +21,11 @@ use Rattle.model.specs.Recognitions.{Operator, related, or, absence, las
 use Rattle.model.specs.Capacity.{capacity}
 use Rattle.model.specs.Order.{compare, listing, Row, row, none}
 use Rattle.model.specs.RowSteps.{extendRows, closeRows, dueEnds, nextDue, closeDue}
-use Rattle.model.specs.Reference.{Model, opening, Call, event, clock, forget, isAt, eventStep, clockStep, forgetStep, step, run, numbersOf, rowsOf}
+use Rattle.model.specs.Reference.{Model, opening, Call, event, clock, forget, add, Reading, isAt, eventStep, clockStep, forgetStep, addStep, step, run, numbersOf, rowsOf}
+
+-- Here the lines of an addition are what the reader of lines says of them.
+abbrev asRead : ℕ → Reading → Reading
+asRead n lines = lines
 
 -- A chart, the number of rows the table can hold, the opening instant and the calls; what must come out: the number that the opening and
 -- each call is answered with, and the rows at the end.
@@ -29,11 +33,11 @@ pub record Case : Type 0 where
   pub chart : List Operator
   pub capacity : ℕ
   pub openAt : ℤ
-  pub calls : List Call
+  pub calls : List (Call Reading)
   pub answers : List ℕ
   pub rows : List Row
 
-abbrev pub case : List Operator → ℕ → ℤ → List Call → List ℕ → List Row → Case
+abbrev pub case : List Operator → ℕ → ℤ → List (Call Reading) → List ℕ → List Row → Case
 case chart capacity o calls answers rows = record { chart = chart; capacity = capacity; openAt = o; calls = calls; answers = answers; rows = rows }
 
 pub record Outcome : Type 0 where
@@ -42,11 +46,18 @@ pub record Outcome : Type 0 where
 
 abbrev pub outcome : Case → Outcome
 outcome c =
-    let a = opening (c .openAt) in
-    record { answers = a .number ∷ numbersOf (step (c .chart) (c .capacity)) (a .state) (c .calls); rows = rowsOf (c .chart) (run (step (c .chart) (c .capacity)) (a .state) (c .calls)) }
+    let a = opening (c .chart) (c .openAt) in
+    record { answers = a .number ∷ numbersOf (step asRead (c .capacity)) (a .state) (c .calls); rows = rowsOf (run (step asRead (c .capacity)) (a .state) (c .calls)) }
 
 abbrev pub expected : Case → Outcome
 expected c = record { answers = c .answers; rows = c .rows }
+
+-- an addition of these entries, and one that the reader of lines turns back
+abbrev adding : List Operator → Call Reading
+adding ops = add (record { number = 0; operators = ops })
+
+abbrev misread : ℕ → Call Reading
+misread n = add (record { number = n; operators = [] })
 
 -- all accepted: the opening and n calls
 abbrev taken : ℕ → List ℕ
@@ -138,7 +149,7 @@ tightest =
     chart7 : List Operator
     chart7 = R.event 1 ∷ R.event 2 ∷ related Seq 0 1 ∷ or 2 2 ∷ []
 
-    log7 : List Call
+    log7 : List (Call Reading)
     log7 = event 1 ∷ clock (pos 1) ∷ event 1 ∷ event 1 ∷ clock (pos 2) ∷ event 2 ∷ clock (pos 3) ∷ []
 
 -- "A delay operator" (request N1): a jump over several due ends, each in order of end, a delay of a delay and one of 0; not due at its own
@@ -199,6 +210,24 @@ nearests =
     case (R.event 1 ∷ R.event 2 ∷ R.event 3 ∷ nearest Change 0 1 ∷ nearest Cut 3 2 ∷ absence ClosedClosed 4 1 ∷ []) 3000 (pos 0) (event 1 ∷ clock (pos 1) ∷ event 1 ∷ clock (pos 2) ∷ event 2 ∷ clock (pos 3) ∷ event 3 ∷ clock (pos 4) ∷ event 2 ∷ clock (pos 5) ∷ event 3 ∷ clock (pos 6) ∷ []) (taken 12)
     (row-l 0 1 0 0 ∷ row-l 0 2 1 1 ∷ row-l 1 3 2 2 ∷ row-lr 3 1 2 1 2 ∷ row-l 2 4 3 3 ∷ row-lr 4 3 4 1 3 ∷ row-l 1 5 4 4 ∷ row-l 2 6 5 5 ∷ []) ∷ []
 
+-- "New entries on a running bench" (request N13): pending events count and earlier ones do not; an addition turned back; two additions, each
+-- from its own instant; a wait begun before the addition and one begun after it; an absence and a cut, and a floor; what does not count takes
+-- no room
+abbrev additions : List Case
+additions =
+    case (R.event 1 ∷ []) 3000 (pos 0) (event 1 ∷ clock (pos 2) ∷ event 1 ∷ adding (R.event 1 ∷ related And 0 0 ∷ related Seq 0 0 ∷ []) ∷ event 1 ∷ clock (pos 3) ∷ event 1 ∷ clock (pos 4) ∷ []) (taken 8)
+    (row-l 0 1 0 0 ∷ row-l 0 2 2 2 ∷ row-l 0 3 2 2 ∷ row-l 1 2 2 2 ∷ row-l 1 3 2 2 ∷ row-lr 2 1 1 2 2 ∷ row-lr 2 1 2 2 2 ∷ row-lr 2 2 1 2 2 ∷ row-lr 2 2 2 2 2 ∷ row-l 0 4 3 3 ∷ row-l 1 4 3 3 ∷ row-lr 2 9 9 3 3 ∷ row-lr 2 1 9 2 3 ∷ row-lr 2 2 9 2 3 ∷ row-lr 2 9 1 2 3 ∷ row-lr 2 9 2 2 3 ∷ row-lr 3 1 9 2 3 ∷ row-lr 3 2 9 2 3 ∷ []) ∷
+    case (R.event 1 ∷ []) 3000 (pos 0) (event 1 ∷ misread 3 ∷ misread 1 ∷ clock (pos 1) ∷ misread 2 ∷ []) (0 ∷ 0 ∷ 3 ∷ 1 ∷ 0 ∷ 2 ∷ [])
+    (row-l 0 1 0 0 ∷ []) ∷
+    case (R.event 1 ∷ []) 3000 (pos 0) (event 1 ∷ clock (pos 1) ∷ event 1 ∷ adding (or 0 0 ∷ []) ∷ clock (pos 2) ∷ event 1 ∷ adding (related Meets 0 1 ∷ []) ∷ clock (pos 3) ∷ event 1 ∷ clock (pos 4) ∷ []) (taken 10)
+    (row-l 0 1 0 0 ∷ row-l 0 2 1 1 ∷ row-l 1 1 1 1 ∷ row-r 1 1 1 1 ∷ row-l 0 3 2 2 ∷ row-l 1 4 2 2 ∷ row-r 1 4 2 2 ∷ row-lr 2 4 5 2 2 ∷ row-lr 2 4 6 2 2 ∷ row-l 0 4 3 3 ∷ row-l 1 9 3 3 ∷ row-r 1 9 3 3 ∷ row-lr 2 9 10 3 3 ∷ row-lr 2 9 11 3 3 ∷ []) ∷
+    case (R.event 1 ∷ []) 3000 (pos 0) (event 1 ∷ clock (pos 3) ∷ adding (after 0 5 ∷ []) ∷ event 1 ∷ clock (pos 20) ∷ []) (taken 5)
+    (row-l 0 1 0 0 ∷ row-l 0 2 3 3 ∷ row-l 1 1 3 8 ∷ []) ∷
+    case (R.event 1 ∷ R.event 2 ∷ []) 3000 (pos 0) (event 1 ∷ event 2 ∷ clock (pos 1) ∷ adding (absence ClosedClosed 0 1 ∷ nearest Cut 0 1 ∷ []) ∷ event 1 ∷ clock (pos 2) ∷ event 1 ∷ forget (pos 2) ∷ clock (pos 3) ∷ event 2 ∷ clock (pos 4) ∷ []) (taken 11)
+    (row-l 0 4 2 2 ∷ row-l 2 0 2 2 ∷ row-l 1 5 3 3 ∷ row-lr 3 0 2 2 3 ∷ []) ∷
+    case (R.event 1 ∷ []) 3 (pos 0) (event 1 ∷ clock (pos 1) ∷ adding (related And 0 0 ∷ []) ∷ event 1 ∷ clock (pos 2) ∷ event 1 ∷ clock (pos 3) ∷ []) (0 ∷ 0 ∷ 0 ∷ 0 ∷ 0 ∷ 0 ∷ 0 ∷ 12 ∷ [])
+    (row-l 0 1 0 0 ∷ row-l 0 2 1 1 ∷ row-lr 1 1 1 1 1 ∷ []) ∷ []
+
 -- An absence is not decided while its last instant is open: nothing stands there yet; a forbidding event may still come; once the
 -- instant is closed none comes too late.
 abbrev openInstants : List Case
@@ -207,7 +236,7 @@ openInstants =
     waiting (event 1 ∷ event 2 ∷ clock (pos 1) ∷ []) 3 (row-l 0 1 0 0 ∷ row-l 1 2 0 0 ∷ []) ∷
     waiting (event 1 ∷ clock (pos 1) ∷ event 2 ∷ clock (pos 2) ∷ []) 4 (row-l 0 1 0 0 ∷ row-l 2 0 0 0 ∷ row-l 1 2 1 1 ∷ []) ∷ []
   where
-    waiting : List Call → ℕ → List Row → Case
+    waiting : List (Call Reading) → ℕ → List Row → Case
     waiting calls n rows = case (R.event 1 ∷ R.event 2 ∷ absence ClosedClosed 0 1 ∷ []) 3000 (pos 0) calls (taken n) rows
 
 -- "A forget f raises the floor to f, drops every row that starts before f, moves the others down in order, renumbers their references": not those that
@@ -241,10 +270,10 @@ refusals =
     case (R.event 1 ∷ []) 3000 (pos 0) (event 1 ∷ forget (negsuc 1000000000) ∷ forget (negsuc 999999999) ∷ forget (pos 1) ∷ forget (pos 0) ∷ forget (pos 0) ∷ forget (negsuc 0) ∷ clock (pos 1) ∷ []) (0 ∷ 0 ∷ 11 ∷ 0 ∷ 11 ∷ 0 ∷ 0 ∷ 11 ∷ 0 ∷ []) (row-l 0 1 0 0 ∷ []) ∷ []
 
 pub cases : List Case
-cases = relations ++ overlaps ++ absences ++ lengths ++ codes ++ orders ++ tightest ++ delays ++ nearests ++ openInstants ++ floors ++ fullTables ++ refusals
+cases = relations ++ overlaps ++ absences ++ lengths ++ codes ++ orders ++ tightest ++ delays ++ nearests ++ additions ++ openInstants ++ floors ++ fullTables ++ refusals
 
 pub examples : map outcome cases ≡ map expected cases
-unfolding cases opening eventStep clockStep forgetStep run numbersOf listing compare recognitions withEntries recognitionsOf isInstant firstFloor isMarkRefused isForgetRefused isRelated isForbidding hasLength isRivalOfSecond isRivalOfFirst
+unfolding cases opening eventStep clockStep forgetStep addStep run numbersOf listing compare recognitions withEntries recognitionsOf isInstant firstFloor isMarkRefused isForgetRefused isRelated isForbidding hasLength isRivalOfSecond isRivalOfFirst
 examples = refl
 
 -- "length divided by 5 rows, rounded down, and never more than 65,535"
@@ -262,7 +291,7 @@ unfolding eventStep
 serials-left m k h l = rw (lt-leb 1000000 (length (m .events)) h, lt-leb 64 (length (keep (isAt (m .openInstant)) (m .events))) l)
 
 -- a jump over 1,000,000,000 instants closes four of them
-pub long-jump : closeDue 9 (pos 0) (pos 1000000000) (record { serial = 1; code = 1; instant = pos 0 } ∷ []) (R.event 1 ∷ after 0 2 ∷ after 1 3 ∷ after 0 999999999 ∷ after 0 1000000000 ∷ []) [] ≡
+pub long-jump : closeDue 9 (pos 0) (pos 1000000000) (record { serial = 1; code = 1; instant = pos 0 } ∷ []) (R.event 1 ∷ after 0 2 ∷ after 1 3 ∷ after 0 999999999 ∷ after 0 1000000000 ∷ []) (replicate 5 firstFloor) [] ≡
     row-l 0 1 0 0 ∷ row-l 1 0 0 2 ∷ row-l 2 1 0 5 ∷ row-l 3 0 0 999999999 ∷ []
-unfolding closeDue nextDue dueEnds closeRows extendRows
+unfolding closeDue nextDue dueEnds closeRows extendRows firstFloor
 long-jump = refl

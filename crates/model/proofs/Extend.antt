@@ -28,8 +28,8 @@ extend es [] ts = ts
 extend es (j ∷ js) ts = extend es js (ts ++ derived j es ts)
 
 -- the rules that leave nothing out
-abbrev pub always : ℤ → ℤ → Bool
-always s e = true
+abbrev pub always : ℕ → ℤ → ℤ → Bool
+always n s e = true
 
 keep-all : (ts : List Recognition) → keep (λ t. true) ts ≡ ts
 keep-all [] = refl
@@ -107,7 +107,7 @@ everything = record { one = λ n m t h. tt; fst = λ n l r h. tt; snd = λ n l r
 
 module _ (ops : List Operator) (es : List Event) where
   abbrev ruleOf : ℕ → Operator → Rule
-  ruleOf n o = record { entry = n; operator = o; test = always }
+  ruleOf n o = record { entry = n; operator = o; test = always n }
 
   abbrev G : List Operator → ℕ → List Recognition → List Recognition
   G os n us = extend es (rules always n os) us
@@ -129,6 +129,21 @@ module _ (ops : List Operator) (es : List Event) where
           inr (omega arith)
 
       go : List·Memᴰ t (us ++ derived (ruleOf n o) es us) ⊎ (suc n ≤ entryOf t) → List·Memᴰ t us ⊎ (n ≤ entryOf t)
+      go (inl h) = old (List·Memᴰ·append-cases us h)
+      go (inr h) = inr (omega arith)
+
+  extend-below : (os : List Operator) (n : ℕ) (us : List Recognition) (t : Recognition) → List·Memᴰ t (G os n us) → List·Memᴰ t us ⊎ (entryOf t < n + length os)
+  unfolding extend
+  extend-below [] n us t m = inl m
+  extend-below (o ∷ os) n us t m = go (extend-below os (suc n) (us ++ derived (ruleOf n o) es us) t m)
+    where
+      old : List·Memᴰ t us ⊎ List·Memᴰ t (derived (ruleOf n o) es us) → List·Memᴰ t us ⊎ (entryOf t < n + length (o ∷ os))
+      old (inl h) = inl h
+      old (inr h) =
+          let e : entryOf t ≡ n = new-entry (new (ruleOf n o) es us t h) in
+          inr (omega arith)
+
+      go : List·Memᴰ t (us ++ derived (ruleOf n o) es us) ⊎ (entryOf t < suc n + length os) → List·Memᴰ t us ⊎ (entryOf t < n + length (o ∷ os))
       go (inl h) = old (List·Memᴰ·append-cases us h)
       go (inr h) = inr (omega arith)
 
@@ -162,6 +177,25 @@ module _ (ops : List Operator) (es : List Event) where
       let b : Made trees p es us x = narrow n us (G (p ∷ os) n us) (extend-more (p ∷ os) n us) (fall (p ∷ os) n us) p (c .0) x (subst (λ z. Made trees z es (G (p ∷ os) n us) x) (sym a) m) in
       extend-more os (suc n) (us ++ derived (ruleOf n p) es us) (tree (n + 0) x) (Memᴰ·append-right us (add (ruleOf n p) es us (tree (n + 0) x) (record { x = x; is = ap (λ i. tree i x) (omega arith); made = b; ok = tt })))
   from-extend (p ∷ os) n us c (suc k) o a x m = Memᴰ·cast (ap (λ i. tree i x) (plus-suc n k)) (from-extend os (suc n) (us ++ derived (ruleOf n p) es us) (c .1) k o a x m)
+
+-- entries added: the recognitions of the others stay
+rules-append : (p : ℕ → ℤ → ℤ → Bool) (n : ℕ) (ops new : List Operator) → rules p n (ops ++ new) ≡ rules p n ops ++ rules p (n + length ops) new
+rules-append p n [] new = ap (λ i. rules p i new) (omega arith)
+rules-append p n (op ∷ ops) new = ap (_∷_ (record { entry = n; operator = op; test = p n })) (rules-append p (suc n) ops new ∙ ap (λ i. rules p (suc n) ops ++ rules p i new) (omega arith))
+
+extend-append : (es : List Event) (js ks : List Rule) (ts : List Recognition) → extend es (js ++ ks) ts ≡ extend es ks (extend es js ts)
+unfolding extend
+extend-append es [] ks ts = refl
+extend-append es (j ∷ js) ks ts = extend-append es js ks (ts ++ derived j es ts)
+
+pub recs-low : (ops : List Operator) (es : List Event) (t : Recognition) → List·Memᴰ t (recognitions ops es) → entryOf t < length ops
+recs-low ops es t m = elim (extend-below ops es ops 0 [] t (subst (List·Memᴰ t) (recognitions-extend ops es) m)) as (λ z. entryOf t < length ops) [ inl k ↦ absurd (List·Memᴰ·not-nil k) | inr k ↦ omega arith ]
+
+pub recs-added : (ops new : List Operator) (es : List Event) (t : Recognition) → (List·Memᴰ t (recognitions ops es) → List·Memᴰ t (recognitions (ops ++ new) es)) × (entryOf t < length ops → List·Memᴰ t (recognitions (ops ++ new) es) → List·Memᴰ t (recognitions ops es))
+recs-added ops new es t = (λ m. subst (List·Memᴰ t) (sym split) (extend-more ops es new (0 + length ops) (recognitions ops es) t m), λ l m. fall ops es new (0 + length ops) (recognitions ops es) t (omega arith) (subst (List·Memᴰ t) split m))
+  where
+    split : recognitions (ops ++ new) es ≡ extend es (rules always (0 + length ops) new) (recognitions ops es)
+    split = recognitions-extend (ops ++ new) es ∙ ap (λ js. extend es js []) (rules-append always 0 ops new) ∙ extend-append es (rules always 0 ops) (rules always (0 + length ops) new) [] ∙ ap (extend es (rules always (0 + length ops) new)) (sym (recognitions-extend ops es))
 
 -- the recognitions are what the operators make of recognitions
 pub recs-from : (ops : List Operator) → Chart 0 ops → (es : List Event) (t : Recognition) → List·Memᴰ t (recognitions ops es) → From ops es (recognitions ops es) t

@@ -9,21 +9,19 @@ use lib.Dec.{T, ltb, ltb→lt, nltb→le}
 use lib.IntN.{ℤ, pos}
 use lib.ListN.{length, getD}
 use Rattle.interval.proofs.Signed.{_<ᶻ_, least-is, greatest-is, le-cases}
-use Rattle.model.specs.Recognitions.{Event, Operator, event, related, or, absence, lasting, after, nearest, Recognition, ofEvent, ofOne, ofTwo, entryOf, startOf, endOf, recognitions}
+use Rattle.model.specs.Recognitions.{Event, Operator, Recognition, ofEvent, ofOne, ofTwo, entryOf, startOf, endOf}
 use Rattle.model.specs.Order.{before, listing, row, place, asRow, asRows}
-use Rattle.model.specs.RowSteps.{Node, rowAt}
+use Rattle.model.specs.RowSteps.{rowAt}
 use Rattle.model.specs.Statements.{Sorted, Reads}
 use Rattle.model.proofs.Sorted.{T-em}
 use Rattle.model.proofs.Order.{before-irrefl, before-trans}
-use Rattle.model.proofs.Trees.{end-by, tree, trees}
-use Rattle.model.proofs.Made.{Made}
-use Rattle.model.proofs.Local.{Lower, Chart}
-use Rattle.model.proofs.Extend.{recs-from}
+use Rattle.model.proofs.Trees.{end-by}
+use Rattle.model.proofs.Local.{Chart}
 use Rattle.model.proofs.Windows.{Inside}
 use Rattle.model.proofs.Place.{place-at, At, mem-getD, getD-mem}
-use Rattle.model.proofs.Rows.{Parts, nil, parts-leaf}
-use Rattle.model.proofs.Closing.{listing-lists, earlier-before}
-use Rattle.model.proofs.Listing.{listing-closed}
+use Rattle.model.proofs.Rows.{Parts, nil}
+use Rattle.model.proofs.Closing.{Rises, listing-lists, earlier-before}
+use Rattle.model.proofs.Listing.{recs-lower, listing-closed}
 
 pub map-at : {A B : Type 0} (f : A → B) (z : B) (d : A) (xs : List A) (i : ℕ) → i < length xs → getD (map f xs) i z ≡ f (getD xs i d)
 map-at f z d [] i h = absurd (omega arith)
@@ -50,44 +48,30 @@ place-less ts t u s m n b = go (mem-getD nil ts t m) (mem-getD nil ts u n)
         late (inl e) = before-irrefl t (subst (λ z. T (before z t)) (sym (c .is) ∙ ap (λ i. getD ts i nil) (sym e) ∙ a .is) b)
         late (inr l) = before-irrefl t (before-trans t u t (subst₂ (λ x y. T (before x y)) (a .is) (c .is) (sorted-at nil ts (a .i) (c .i) s l (c .low))) b)
 
--- parts are of lower entries
-made-lower : (n : ℕ) (op : Operator) (es : List Event) (ts : List Recognition) (x : Node Recognition) → Lower n op → Made trees op es ts x → Parts (λ u. entryOf u < n) (tree n x)
-made-lower n (event k) es ts x l m = parts-leaf (λ u. entryOf u < n) n k es x m
-made-lower n (related c a b) es ts x l m = subst (λ z. Parts (λ u. entryOf u < n) (tree n z)) (sym (m .is)) (subst (λ z. z < n) (sym (m .hasl .entry)) (l .0), subst (λ z. z < n) (sym (m .hasr .entry)) (l .1))
-made-lower n (or a b) es ts x l (inl m) = subst (λ z. Parts (λ u. entryOf u < n) (tree n z)) (sym (m .is)) (subst (λ z. z < n) (sym (m .hasr .entry)) (l .0))
-made-lower n (or a b) es ts x l (inr m) = subst (λ z. Parts (λ u. entryOf u < n) (tree n z)) (sym (m .is)) (subst (λ z. z < n) (sym (m .hasr .entry)) (l .1))
-made-lower n (absence c a b) es ts x l m = subst (λ z. Parts (λ u. entryOf u < n) (tree n z)) (sym (m .is)) (subst (λ z. z < n) (sym (m .hasr .entry)) (l .0))
-made-lower n (nearest c a b) es ts x l m = subst (λ z. Parts (λ u. entryOf u < n) (tree n z)) (sym (m .two .is)) (subst (λ z. z < n) (sym (m .two .hasl .entry)) (l .0), subst (λ z. z < n) (sym (m .two .hasr .entry)) (l .1))
-made-lower n (after a d) es ts x l m = subst (λ z. Parts (λ u. entryOf u < n) (tree n z)) (sym (m .is)) (subst (λ z. z < n) (sym (m .hasr .entry)) l)
-made-lower n (lasting c a d) es ts x l m = subst (λ z. Parts (λ u. entryOf u < n) (tree n z)) (sym (m .is)) (subst (λ z. z < n) (sym (m .hasr .entry)) l)
-
-pub recs-lower : (ops : List Operator) → Chart 0 ops → (es : List Event) (t : Recognition) → List·Memᴰ t (recognitions ops es) → Parts (λ u. entryOf u < entryOf t) t
-recs-lower ops c es t m = let w = recs-from ops c es t m in subst (Parts (λ u. entryOf u < entryOf t)) (sym (w .is)) (made-lower (entryOf t) (w .operator) es (recognitions ops es) (w .x) (w .lower) (w .made))
-
 -- a part is before the whole
 pub part-before : (t u : Recognition) → Inside t u → entryOf u < entryOf t → T (before u t)
 part-before t u h l = earlier-before u t (elim (le-cases (endOf u) (endOf t) (h .1)) as (λ z. (endOf u <ᶻ endOf t) ⊎ ((endOf u ≡ endOf t) × (entryOf u < entryOf t))) [ inl k ↦ inl k | inr k ↦ inr (k, l) ])
 
-module _ (ops : List Operator) (c : Chart 0 ops) (es : List Event) (f o : ℤ) where
+module _ (ops : List Operator) (c : Chart 0 ops) (since : List ℤ) (rises : Rises ops since) (es : List Event) (f o : ℤ) where
   abbrev L : List Recognition
-  L = listing ops es f o
+  L = listing ops since es f o
 
   pub row-at : (t : Recognition) → List·Memᴰ t L → rowAt (asRows L) (place L t) ≡ asRow L t
   row-at t m = go (mem-getD nil L t m)
     where
       go : At nil L t → rowAt (asRows L) (place L t) ≡ asRow L t
-      go a = subst (λ z. rowAt (asRows L) (place L z) ≡ asRow L z) (a .is) (ap (rowAt (asRows L)) (place-at nil L (a .i) (listing-lists ops es f o .sorted) (a .low)) ∙ map-at (asRow L) (row 0 (pos 0) (pos 0) (pos 0) (pos 0)) nil L (a .i) (a .low))
+      go a = subst (λ z. rowAt (asRows L) (place L z) ≡ asRow L z) (a .is) (ap (rowAt (asRows L)) (place-at nil L (a .i) (listing-lists ops since es f o .sorted) (a .low)) ∙ map-at (asRow L) (row 0 (pos 0) (pos 0) (pos 0) (pos 0)) nil L (a .i) (a .low))
 
   -- the parts stand earlier
   pub parts-earlier : (t : Recognition) → List·Memᴰ t L → Parts (λ u. List·Memᴰ u L × (place L u < place L t)) t
   parts-earlier (ofEvent n s x) m = tt
   parts-earlier (ofOne n a t) m =
-      let k : List·Memᴰ t L = listing-closed ops es f o (ofOne n a t) m in
-      (k, place-less L (ofOne n a t) t (listing-lists ops es f o .sorted) m k (part-before (ofOne n a t) t (omega (arith, end-by a (endOf t))) (recs-lower ops c es (ofOne n a t) (listing-lists ops es f o .sound (ofOne n a t) m))))
+      let k : List·Memᴰ t L = listing-closed ops c since rises es f o (ofOne n a t) m in
+      (k, place-less L (ofOne n a t) t (listing-lists ops since es f o .sorted) m k (part-before (ofOne n a t) t (omega (arith, end-by a (endOf t))) (recs-lower ops c es (ofOne n a t) (listing-lists ops since es f o .sound (ofOne n a t) m))))
   parts-earlier (ofTwo n l r) m =
-      let k = listing-closed ops es f o (ofTwo n l r) m in
-      let w = recs-lower ops c es (ofTwo n l r) (listing-lists ops es f o .sound (ofTwo n l r) m) in
-      ((k .0, place-less L (ofTwo n l r) l (listing-lists ops es f o .sorted) m (k .0) (part-before (ofTwo n l r) l (omega (arith, least-is (startOf l) (startOf r), greatest-is (endOf l) (endOf r))) (w .0))), (k .1, place-less L (ofTwo n l r) r (listing-lists ops es f o .sorted) m (k .1) (part-before (ofTwo n l r) r (omega (arith, least-is (startOf l) (startOf r), greatest-is (endOf l) (endOf r))) (w .1))))
+      let k = listing-closed ops c since rises es f o (ofTwo n l r) m in
+      let w = recs-lower ops c es (ofTwo n l r) (listing-lists ops since es f o .sound (ofTwo n l r) m) in
+      ((k .0, place-less L (ofTwo n l r) l (listing-lists ops since es f o .sorted) m (k .0) (part-before (ofTwo n l r) l (omega (arith, least-is (startOf l) (startOf r), greatest-is (endOf l) (endOf r))) (w .0))), (k .1, place-less L (ofTwo n l r) r (listing-lists ops since es f o .sorted) m (k .1) (part-before (ofTwo n l r) r (omega (arith, least-is (startOf l) (startOf r), greatest-is (endOf l) (endOf r))) (w .1))))
 
   pub reads : (t : Recognition) → List·Memᴰ t L → Reads (asRows L) (place L t) t
   unfolding Reads

@@ -5,21 +5,25 @@ use mathlib.Core.Path.{_≡_, refl, sym, ap, ap₂, _∙_, subst}
 use mathlib.Core.Logic.{_⊎_, inl, inr}
 use mathlib.Core.Bool.{Bool, true, false, cond, not}
 use mathlib.Core.List.{List, [], _∷_, _++_, map, map-append, append-assoc, append-nil, List·Memᴰ, List·Memᴰ·not-nil, List·Memᴰ·append-cases}
-use lib.Dec.{T, ltb, leb, nltb→le, nleb→lt}
+use lib.Dec.{T, eqb, ltb, leb, eqb→eq, nltb→le, nleb→lt}
 use lib.IntN.{ℤ, pos, negsuc, natAbs, _+ℤ_, _-ℤ_}
-use lib.ListN.{length, length-map, length-append}
+use lib.ListN.{length, replicate, length-map, length-append, length-replicate}
 use Rattle.interval.specs.Instants.{isInstant, firstFloor, isMarkRefused, isForgetRefused, eqZ}
 use Rattle.interval.proofs.Signed.{posPart, negPart, _≤ᶻ_, _<ᶻ_, eq-fact, eqZ→, eqZ-refl, holds→, →holds, fails→, is-instant, add-fact, sub-fact, antisym}
 use Rattle.interval.proofs.Laws.{floor-instant, floor-least, mark-taken, forget-taken}
 use Rattle.model.specs.Lists.{keep, numbers}
-use Rattle.model.specs.Recognitions.{Event, Operator}
+use Rattle.model.specs.Recognitions.{Event, Operator, areLower, Recognition}
 use Rattle.model.specs.Order.{Row, listing, asRow, asRows}
-use Rattle.model.specs.Reference.{Model, model, Answer, accepted, refused, opening, Call, event, clock, forget, isAt, eventStep, clockStep, forgetStep, step, run, numbersOf, rowsOf}
-use Rattle.model.specs.RowSteps.{closeInstants, instantsTo, keepRows, isLate, forgetRows, Watch, watch, numbered, closedRows, watchOpening, watchEvent, watchClock, watchForget, watchStep, shown}
+use Rattle.model.specs.Reference.{Model, model, Answer, accepted, refused, opening, Call, event, clock, forget, add, Reading, isAt, eventStep, clockStep, forgetStep, withAdded, addStep, step, run, numbersOf, rowsOf}
+use Rattle.model.specs.RowSteps.{closeInstants, instantsTo, keepRows, isLate, forgetRows, Watch, watch, numbered, closedRows, watchOpening, watchEvent, watchClock, watchForget, watchAdded, watchAdd, watchStep, shown}
+use Rattle.model.specs.Consistency.{isRising}
+use Rattle.model.specs.Statements.{IsReader}
 use Rattle.model.proofs.Sorted.{cond-T, keep-append}
-use Rattle.model.proofs.Local.{Chart}
+use Rattle.model.proofs.Local.{Chart, chart-lower, chart-append}
 use Rattle.model.proofs.Place.{keep-none}
-use Rattle.model.proofs.Listing.{listing-forget, listing-event, listing-clock, listing-empty, numbered-mem}
+use Rattle.model.proofs.Since.{rising-at, rising-more, rising-start, rising-add}
+use Rattle.model.proofs.Closing.{Rises}
+use Rattle.model.proofs.Listing.{listing-forget, listing-event, listing-add, listing-clock, listing-empty, numbered-mem}
 
 -- numbered events
 keep-now : (o : ℤ) (s : ℕ) (ks : List ℕ) → keep (isAt o) (numbered o s ks) ≡ numbered o s ks
@@ -53,8 +57,12 @@ keep-length {A} p (x ∷ xs) = go (p x) (keep-length p xs)
     go false h = omega arith
 
 -- what holds of the reference model after every list of calls: its events are those before the open instant, then those at it; the
--- nth has serial n; open instant and floor are in range and in order; nothing is more than it may be
-pub record Good (chart : List Operator) (capacity : ℕ) (m : Model) : Type 0 where
+-- nth has serial n; open instant and floor are in range and in order; operands are lower entries; each entry has an instant from which it
+-- counts, and these do not fall; nothing is more than it may be
+pub record Good (capacity : ℕ) (m : Model) : Type 0 where
+  pub lower : Chart 0 (m .chart)
+  pub entries : length (m .since) ≡ length (m .chart)
+  pub rising : T (isRising firstFloor (m .openInstant) (m .since))
   pub old : List Event
   pub pending : List ℕ
   pub is : m .events ≡ old ++ numbered (m .openInstant) (suc (length old)) pending
@@ -65,9 +73,12 @@ pub record Good (chart : List Operator) (capacity : ℕ) (m : Model) : Type 0 wh
   pub floorRange : T (isInstant (m .floor))
   pub count : length (m .events) ≤ 1000000
   pub few : length (keep (isAt (m .openInstant)) (m .events)) ≤ 64
-  pub fits : length (listing chart (m .events) (m .floor) (m .openInstant)) ≤ capacity
+  pub fits : length (listing (m .chart) (m .since) (m .events) (m .floor) (m .openInstant)) ≤ capacity
 
-module _ {chart : List Operator} {capacity : ℕ} {m : Model} (g : Good chart capacity m) where
+module _ {capacity : ℕ} {m : Model} (g : Good capacity m) where
+  pub good-rises : Rises (m .chart) (m .since)
+  good-rises a n l k = rising-at firstFloor (m .openInstant) (m .since) (g .rising) a n l (let e = g .entries in omega arith)
+
   at-open : keep (isAt (m .openInstant)) (m .events) ≡ numbered (m .openInstant) (suc (length (g .old))) (g .pending)
   at-open = ap (keep (isAt (m .openInstant))) (g .is) ∙ keep-append (isAt (m .openInstant)) (g .old) (numbered (m .openInstant) (suc (length (g .old))) (g .pending)) ∙ ap₂ _++_ (keep-none (isAt (m .openInstant)) (g .old) (λ e n t. let p : e .instant <ᶻ m .openInstant = g .past e n in omega (arith, eq-fact (eqZ→ (e .instant) (m .openInstant) t)))) (keep-now (m .openInstant) (suc (length (g .old))) (g .pending))
 
@@ -88,22 +99,22 @@ module _ {chart : List Operator} {capacity : ℕ} {m : Model} (g : Good chart ca
   later t lt = keep-none (isAt t) (m .events) (λ e n h. let p : e .instant <ᶻ t = sooner t lt e n in omega (arith, eq-fact (eqZ→ (e .instant) t h)))
 
 -- both steps take the same way through a test
-abbrev lift : List Operator → Answer Model → Answer Watch
-lift chart a = record { number = a .number; state = shown chart (a .state) }
+abbrev lift : Answer Model → Answer Watch
+lift a = record { number = a .number; state = shown (a .state) }
 
-cond-lift : (chart : List Operator) (b b' : Bool) (x y : Answer Model) (x' y' : Answer Watch) → b' ≡ b → x' ≡ lift chart x → (T (not b) → y' ≡ lift chart y) → cond b' x' y' ≡ lift chart (cond b x y)
-cond-lift chart b b' x y x' y' e f h = ap (λ z. cond z x' y') e ∙ go b h
+cond-lift : (b b' : Bool) (x y : Answer Model) (x' y' : Answer Watch) → b' ≡ b → x' ≡ lift x → (T (not b) → y' ≡ lift y) → cond b' x' y' ≡ lift (cond b x y)
+cond-lift b b' x y x' y' e f h = ap (λ z. cond z x' y') e ∙ go b h
   where
-    go : (d : Bool) → (T (not d) → y' ≡ lift chart y) → cond d x' y' ≡ lift chart (cond d x y)
+    go : (d : Bool) → (T (not d) → y' ≡ lift y) → cond d x' y' ≡ lift (cond d x y)
     go true k = f
     go false k = k tt
 
-cond-state : (P : Model → Type 0) (b : Bool) (x y : Answer Model) → P (x .state) → (T (not b) → P (y .state)) → P ((cond b x y) .state)
-cond-state P true x y p q = p
+cond-state : (P : Model → Type 0) (b : Bool) (x y : Answer Model) → (T b → P (x .state)) → (T (not b) → P (y .state)) → P ((cond b x y) .state)
+cond-state P true x y p q = p tt
 cond-state P false x y p q = q tt
 
-watch-path : (o f : ℤ) {n n' : ℕ} {ks ks' : List ℕ} {rs rs' : List Row} → n ≡ n' → ks ≡ ks' → rs ≡ rs' → watch o f n ks rs ≡ watch o f n' ks' rs'
-watch-path o f p q r = λ j. watch o f (p j) (q j) (r j)
+watch-path : (o f : ℤ) (chart : List Operator) (since : List ℤ) {n n' : ℕ} {ks ks' : List ℕ} {rs rs' : List Row} → n ≡ n' → ks ≡ ks' → rs ≡ rs' → watch o f chart since n ks rs ≡ watch o f chart since n' ks' rs'
+watch-path o f chart since p q r = λ j. watch o f chart since (p j) (q j) (r j)
 
 abbrev newEvent : Model → ℕ → Event
 newEvent m k = record { serial = suc (length (m .events)); code = k; instant = m .openInstant }
@@ -111,8 +122,11 @@ newEvent m k = record { serial = suc (length (m .events)); code = k; instant = m
 keep-new : (m : Model) (k : ℕ) → keep (isAt (m .openInstant)) (m .events ++ newEvent m k ∷ []) ≡ keep (isAt (m .openInstant)) (m .events) ++ newEvent m k ∷ []
 keep-new m k = keep-append (isAt (m .openInstant)) (m .events) (newEvent m k ∷ []) ∙ ap (λ z. keep (isAt (m .openInstant)) (m .events) ++ z) (cond-T (eqZ (m .openInstant) (m .openInstant)) (newEvent m k ∷ []) [] (eqZ-refl (m .openInstant)))
 
-rows-length : (chart : List Operator) (es : List Event) (f o : ℤ) → length (asRows (listing chart es f o)) ≡ length (listing chart es f o)
-rows-length chart es f o = length-map (listing chart es f o) (asRow (listing chart es f o))
+rows-length : (ts : List Recognition) → length (asRows ts) ≡ length ts
+rows-length ts = length-map ts (asRow ts)
+
+abbrev listed : Model → ℤ → ℤ → List Recognition
+listed m f o = listing (m .chart) (m .since) (m .events) f o
 
 -- o and the instants from o to t-1 make t
 pub instants-to : (o t : ℤ) → o ≤ᶻ t → o +ℤ pos (instantsTo o t) ≡ t
@@ -122,44 +136,58 @@ instants-to o t h = go (t -ℤ o) (sub-fact t o)
     go (pos n) e = let p = add-fact o (pos n) in antisym (o +ℤ pos n) t (omega arith) (omega arith)
     go (negsuc n) e = absurd (omega arith)
 
-module _ (chart : List Operator) (c : Chart 0 chart) (capacity : ℕ) where
-  -- closing the instants from the open one to t-1
-  pub closed-is : (m : Model) → Good chart capacity m → (t : ℤ) → m .openInstant <ᶻ t → closedRows chart (shown chart m) t ≡ asRows (listing chart (m .events) (m .floor) t)
-  unfolding shown
-  closed-is m g t lt =
-      ap₂ (λ n ks. closeInstants (instantsTo (m .openInstant) t) (m .openInstant) (numbered (m .openInstant) (suc n) ks) chart (rowsOf chart m)) count-old (pending-is g)
-      ∙ ap (λ es. closeInstants (instantsTo (m .openInstant) t) (m .openInstant) now chart (asRows (listing chart es (m .floor) (m .openInstant)))) (g .is)
-      ∙ listing-clock chart c (g .old) (suc (length (g .old))) (g .pending) (m .floor) (m .openInstant) (g .low) (g .past) (instantsTo (m .openInstant) t) (m .openInstant) t (omega arith) (instants-to (m .openInstant) t (omega arith))
-      ∙ ap (λ es. asRows (listing chart es (m .floor) t)) (sym (g .is))
-    where
-      now : List Event
-      now = numbered (m .openInstant) (suc (length (g .old))) (g .pending)
+-- closing the instants from the open one to t-1
+pub closed-is : {capacity : ℕ} (m : Model) → Good capacity m → (t : ℤ) → m .openInstant <ᶻ t → closedRows (shown m) t ≡ asRows (listed m (m .floor) t)
+unfolding shown
+closed-is m g t lt =
+    ap₂ (λ n ks. closeInstants many (m .openInstant) (numbered (m .openInstant) (suc n) ks) (m .chart) (m .since) (rowsOf m)) count-old (pending-is g)
+    ∙ ap (λ es. closeInstants many (m .openInstant) now (m .chart) (m .since) (asRows (listing (m .chart) (m .since) es (m .floor) (m .openInstant)))) (g .is)
+    ∙ listing-clock (m .chart) (g .lower) (m .since) (good-rises g) (g .old) (suc (length (g .old))) (g .pending) (m .floor) (m .openInstant) (g .low) (g .past) many (m .openInstant) t (omega arith) (instants-to (m .openInstant) t (omega arith))
+    ∙ ap (λ es. asRows (listing (m .chart) (m .since) es (m .floor) t)) (sym (g .is))
+  where
+    many : ℕ
+    many = instantsTo (m .openInstant) t
 
-      count-old : length (m .events) - length (map (λ e. e .code) (keep (isAt (m .openInstant)) (m .events))) ≡ length (g .old)
-      count-old =
-          let p = count-is g in
-          let q : length (map (λ e. e .code) (keep (isAt (m .openInstant)) (m .events))) ≡ length (g .pending) = ap length (pending-is g) in
-          omega arith
+    now : List Event
+    now = numbered (m .openInstant) (suc (length (g .old))) (g .pending)
 
+    count-old : length (m .events) - length (map (λ e. e .code) (keep (isAt (m .openInstant)) (m .events))) ≡ length (g .old)
+    count-old =
+        let p = count-is g in
+        let q : length (map (λ e. e .code) (keep (isAt (m .openInstant)) (m .events))) ≡ length (g .pending) = ap length (pending-is g) in
+        omega arith
+
+-- an addition
+add-shown : {capacity : ℕ} (m : Model) → Good capacity m → (a : Reading) → cond (eqb (a .number) 0) (accepted (watchAdded (shown m) (a .operators))) (refused (a .number) (shown m)) ≡ lift (cond (eqb (a .number) 0) (accepted (withAdded m (a .operators))) (refused (a .number) m))
+unfolding shown
+add-shown m g a = cond-lift (eqb (a .number) 0) (eqb (a .number) 0) (accepted (withAdded m (a .operators))) (refused (a .number) m) _ _ refl
+    (ap accepted (watch-path (m .openInstant) (m .floor) (m .chart ++ a .operators) (m .since ++ replicate (length (a .operators)) (m .openInstant)) refl refl (ap asRows (sym (listing-add (m .chart) (a .operators) (m .since) (g .entries) (m .events) (m .floor) (m .openInstant))))))
+    (λ h. refl)
+
+module _ {L : Type 0} (read : ℕ → L → Reading) (reader : IsReader read) (capacity : ℕ) where
   -- one call
-  pub step-shown : (m : Model) → Good chart capacity m → (call : Call) → watchStep chart capacity (shown chart m) call ≡ lift chart (step chart capacity m call)
-  unfolding shown eventStep clockStep forgetStep watchEvent watchClock watchForget
+  pub step-shown : (m : Model) → Good capacity m → (call : Call L) → watchStep read capacity (shown m) call ≡ lift (step read capacity m call)
+  unfolding shown eventStep clockStep forgetStep addStep watchEvent watchClock watchForget watchAdd
   step-shown m g (event k) =
-      cond-lift chart (leb 1000000 (length (m .events))) (leb 1000000 (length (m .events))) _ _ _ _ refl refl (λ h.
-      cond-lift chart (leb 64 (length (keep (isAt (m .openInstant)) (m .events)))) _ _ _ _ _ (ap (leb 64) (length-map (keep (isAt (m .openInstant)) (m .events)) (λ e. e .code))) refl (λ h'.
-      ap accepted (watch-path (m .openInstant) (m .floor) (simp length-append (omega arith)) (sym (ap (map (λ e. e .code)) (keep-new m k) ∙ map-append (λ e. e .code) (keep (isAt (m .openInstant)) (m .events)) (newEvent m k ∷ []))) (ap asRows (sym (listing-event chart c (m .events) (m .floor) (m .openInstant) (newEvent m k) refl))))))
+      cond-lift (leb 1000000 (length (m .events))) (leb 1000000 (length (m .events))) _ _ _ _ refl refl (λ h.
+      cond-lift (leb 64 (length (keep (isAt (m .openInstant)) (m .events)))) _ _ _ _ _ (ap (leb 64) (length-map (keep (isAt (m .openInstant)) (m .events)) (λ e. e .code))) refl (λ h'.
+      ap accepted (watch-path (m .openInstant) (m .floor) (m .chart) (m .since) (simp length-append (omega arith)) (sym (ap (map (λ e. e .code)) (keep-new m k) ∙ map-append (λ e. e .code) (keep (isAt (m .openInstant)) (m .events)) (newEvent m k ∷ []))) (ap asRows (sym (listing-event (m .chart) (g .lower) (m .since) (m .events) (m .floor) (m .openInstant) (newEvent m k) refl))))))
   step-shown m g (clock t) =
-      cond-lift chart (isMarkRefused (m .openInstant) t) (isMarkRefused (m .openInstant) t) _ _ _ _ refl refl (λ h.
+      cond-lift (isMarkRefused (m .openInstant) t) (isMarkRefused (m .openInstant) t) _ _ _ _ refl refl (λ h.
       let lt : m .openInstant <ᶻ t = (mark-taken (m .openInstant) t (fails→ _ h)) .later in
-      let e : closedRows chart (shown chart m) t ≡ asRows (listing chart (m .events) (m .floor) t) = closed-is m g t lt in
-      cond-lift chart (ltb capacity (length (listing chart (m .events) (m .floor) t))) _ _ _ _ _ (ap (ltb capacity) (ap length e ∙ rows-length chart (m .events) (m .floor) t)) refl (λ h'.
-      ap accepted (watch-path t (m .floor) refl (sym (ap (map (λ e. e .code)) (later g t lt))) e)))
+      let e : closedRows (shown m) t ≡ asRows (listed m (m .floor) t) = closed-is m g t lt in
+      cond-lift (ltb capacity (length (listed m (m .floor) t))) _ _ _ _ _ (ap (ltb capacity) (ap length e ∙ rows-length (listed m (m .floor) t))) refl (λ h'.
+      ap accepted (watch-path t (m .floor) (m .chart) (m .since) refl (sym (ap (map (λ e. e .code)) (later g t lt))) e)))
   step-shown m g (forget f) =
-      cond-lift chart (isForgetRefused (m .floor) (m .openInstant) f) (isForgetRefused (m .floor) (m .openInstant) f) _ _ _ _ refl refl (λ h.
-      ap accepted (watch-path (m .openInstant) f refl refl (listing-forget chart c (m .events) (m .floor) f (m .openInstant) ((forget-taken (m .floor) (m .openInstant) f (fails→ _ h)) .above))))
+      cond-lift (isForgetRefused (m .floor) (m .openInstant) f) (isForgetRefused (m .floor) (m .openInstant) f) _ _ _ _ refl refl (λ h.
+      ap accepted (watch-path (m .openInstant) f (m .chart) (m .since) refl refl (listing-forget (m .chart) (g .lower) (m .since) (good-rises g) (m .events) (m .floor) f (m .openInstant) ((forget-taken (m .floor) (m .openInstant) f (fails→ _ h)) .above))))
+  step-shown m g (add lines) = add-shown m g (read (length (m .chart)) lines)
 
-  good-event : (m : Model) → Good chart capacity m → (k : ℕ) → length (m .events) < 1000000 → length (keep (isAt (m .openInstant)) (m .events)) < 64 → Good chart capacity (model (m .openInstant) (m .floor) (m .events ++ newEvent m k ∷ []))
+  good-event : (m : Model) → Good capacity m → (k : ℕ) → length (m .events) < 1000000 → length (keep (isAt (m .openInstant)) (m .events)) < 64 → Good capacity (model (m .openInstant) (m .floor) (m .chart) (m .since) (m .events ++ newEvent m k ∷ []))
   good-event m g k l l' = record {
+    lower = g .lower;
+    entries = g .entries;
+    rising = g .rising;
     old = g .old;
     pending = g .pending ++ k ∷ [];
     is = ap₂ (λ es i. es ++ record { serial = i; code = k; instant = m .openInstant } ∷ []) (g .is) serial-is ∙ append-assoc (g .old) now _ ∙ ap (λ z. g .old ++ z) (sym (numbered-snoc (m .openInstant) (suc (length (g .old))) (g .pending) k));
@@ -170,7 +198,7 @@ module _ (chart : List Operator) (c : Chart 0 chart) (capacity : ℕ) where
     floorRange = g .floorRange;
     count = simp length-append (omega arith);
     few = rw (keep-new m k) (simp length-append (omega arith));
-    fits = rw (listing-event chart c (m .events) (m .floor) (m .openInstant) (newEvent m k) refl) (g .fits);
+    fits = rw (listing-event (m .chart) (g .lower) (m .since) (m .events) (m .floor) (m .openInstant) (newEvent m k) refl) (g .fits);
   }
     where
       now : List Event
@@ -182,10 +210,13 @@ module _ (chart : List Operator) (c : Chart 0 chart) (capacity : ℕ) where
       serial-is : suc (length (m .events)) ≡ suc (length (g .old)) + length (g .pending)
       serial-is = let p = count-is g in omega arith
 
-  good-clock : (m : Model) → Good chart capacity m → (t : ℤ) → T (isInstant t) → m .openInstant <ᶻ t → length (listing chart (m .events) (m .floor) t) ≤ capacity → Good chart capacity (model t (m .floor) (m .events))
+  good-clock : (m : Model) → Good capacity m → (t : ℤ) → T (isInstant t) → m .openInstant <ᶻ t → length (listed m (m .floor) t) ≤ capacity → Good capacity (model t (m .floor) (m .chart) (m .since) (m .events))
   good-clock m g t r lt l =
       let lo : m .floor ≤ᶻ m .openInstant = g .low in
       record {
+        lower = g .lower;
+        entries = g .entries;
+        rising = rising-more firstFloor (m .openInstant) t (m .since) (omega arith) (g .rising);
         old = m .events;
         pending = [];
         is = sym (append-nil (m .events));
@@ -199,77 +230,104 @@ module _ (chart : List Operator) (c : Chart 0 chart) (capacity : ℕ) where
         fits = l;
       }
 
-  good-forget : (m : Model) → Good chart capacity m → (f : ℤ) → T (isInstant f) → m .floor ≤ᶻ f → f ≤ᶻ m .openInstant → Good chart capacity (model (m .openInstant) f (m .events))
+  good-forget : (m : Model) → Good capacity m → (f : ℤ) → T (isInstant f) → m .floor ≤ᶻ f → f ≤ᶻ m .openInstant → Good capacity (model (m .openInstant) f (m .chart) (m .since) (m .events))
   unfolding forgetRows keepRows
-  good-forget m g f r lo hi = record { old = g .old; pending = g .pending; is = g .is; past = g .past; serials = g .serials; low = hi; openRange = g .openRange; floorRange = r; count = g .count; few = g .few; fits = shorter }
+  good-forget m g f r lo hi = record { lower = g .lower; entries = g .entries; rising = g .rising; old = g .old; pending = g .pending; is = g .is; past = g .past; serials = g .serials; low = hi; openRange = g .openRange; floorRange = r; count = g .count; few = g .few; fits = shorter }
     where
-      shorter : length (listing chart (m .events) f (m .openInstant)) ≤ capacity
+      shorter : length (listed m f (m .openInstant)) ≤ capacity
       shorter =
-          let p : length (forgetRows chart f (rowsOf chart m)) ≡ length (listing chart (m .events) f (m .openInstant)) = ap length (listing-forget chart c (m .events) (m .floor) f (m .openInstant) lo) ∙ rows-length chart (m .events) f (m .openInstant) in
-          let q : length (forgetRows chart f (rowsOf chart m)) ≡ length (keep (isLate f) (rowsOf chart m)) = length-map (keep (isLate f) (rowsOf chart m)) _ in
-          let r : length (keep (isLate f) (rowsOf chart m)) ≤ length (rowsOf chart m) = keep-length (isLate f) (rowsOf chart m) in
-          let s : length (rowsOf chart m) ≡ length (listing chart (m .events) (m .floor) (m .openInstant)) = rows-length chart (m .events) (m .floor) (m .openInstant) in
-          let t : length (listing chart (m .events) (m .floor) (m .openInstant)) ≤ capacity = g .fits in
+          let p : length (forgetRows (m .chart) f (rowsOf m)) ≡ length (listed m f (m .openInstant)) = ap length (listing-forget (m .chart) (g .lower) (m .since) (good-rises g) (m .events) (m .floor) f (m .openInstant) lo) ∙ rows-length (listed m f (m .openInstant)) in
+          let q : length (forgetRows (m .chart) f (rowsOf m)) ≡ length (keep (isLate f) (rowsOf m)) = length-map (keep (isLate f) (rowsOf m)) _ in
+          let r : length (keep (isLate f) (rowsOf m)) ≤ length (rowsOf m) = keep-length (isLate f) (rowsOf m) in
+          let s : length (rowsOf m) ≡ length (listed m (m .floor) (m .openInstant)) = rows-length (listed m (m .floor) (m .openInstant)) in
+          let t : length (listed m (m .floor) (m .openInstant)) ≤ capacity = g .fits in
           omega arith
 
-  pub good-step : (m : Model) → Good chart capacity m → (call : Call) → Good chart capacity ((step chart capacity m call) .state)
-  unfolding eventStep clockStep forgetStep
+  good-add : (m : Model) → Good capacity m → (new : List Operator) → T (areLower (length (m .chart)) new) → Good capacity (withAdded m new)
+  good-add m g new lo = record {
+    lower = chart-append 0 (m .chart) new (g .lower) (subst (λ i. Chart i new) (omega arith) (chart-lower (length (m .chart)) new lo));
+    entries = simp (length-append, length-replicate) (let e = g .entries in omega arith);
+    rising = rising-add firstFloor (m .openInstant) (m .since) (length new) (g .rising);
+    old = g .old;
+    pending = g .pending;
+    is = g .is;
+    past = g .past;
+    serials = g .serials;
+    low = g .low;
+    openRange = g .openRange;
+    floorRange = g .floorRange;
+    count = g .count;
+    few = g .few;
+    fits = rw (listing-add (m .chart) new (m .since) (g .entries) (m .events) (m .floor) (m .openInstant)) (g .fits);
+  }
+
+  pub good-step : (m : Model) → Good capacity m → (call : Call L) → Good capacity ((step read capacity m call) .state)
+  unfolding eventStep clockStep forgetStep addStep
   good-step m g (event k) =
-      cond-state (Good chart capacity) (leb 1000000 (length (m .events))) _ _ g (λ h.
-      cond-state (Good chart capacity) (leb 64 (length (keep (isAt (m .openInstant)) (m .events)))) _ _ g (λ h'.
+      cond-state (Good capacity) (leb 1000000 (length (m .events))) _ _ (λ h. g) (λ h.
+      cond-state (Good capacity) (leb 64 (length (keep (isAt (m .openInstant)) (m .events)))) _ _ (λ h. g) (λ h'.
       good-event m g k (nleb→lt 1000000 (length (m .events)) h) (nleb→lt 64 (length (keep (isAt (m .openInstant)) (m .events))) h')))
   good-step m g (clock t) =
-      cond-state (Good chart capacity) (isMarkRefused (m .openInstant) t) _ _ g (λ h.
+      cond-state (Good capacity) (isMarkRefused (m .openInstant) t) _ _ (λ h. g) (λ h.
       let p = mark-taken (m .openInstant) t (fails→ _ h) in
-      cond-state (Good chart capacity) (ltb capacity (length (listing chart (m .events) (m .floor) t))) _ _ g (λ h'.
-      good-clock m g t (→holds (isInstant t) (p .inRange)) (p .later) (nltb→le capacity (length (listing chart (m .events) (m .floor) t)) h')))
+      cond-state (Good capacity) (ltb capacity (length (listed m (m .floor) t))) _ _ (λ h. g) (λ h'.
+      good-clock m g t (→holds (isInstant t) (p .inRange)) (p .later) (nltb→le capacity (length (listed m (m .floor) t)) h')))
   good-step m g (forget f) =
-      cond-state (Good chart capacity) (isForgetRefused (m .floor) (m .openInstant) f) _ _ g (λ h.
+      cond-state (Good capacity) (isForgetRefused (m .floor) (m .openInstant) f) _ _ (λ h. g) (λ h.
       let p = forget-taken (m .floor) (m .openInstant) f (fails→ _ h) in
       good-forget m g f (→holds (isInstant f) (p .inRange)) (p .above) (p .below))
+  good-step m g (add lines) =
+      let a = read (length (m .chart)) lines in
+      cond-state (Good capacity) (eqb (a .number) 0) _ _ (λ h. good-add m g (a .operators) (reader (length (m .chart)) lines (eqb→eq (a .number) 0 h))) (λ h. g)
 
-  pub good-run : (calls : List Call) (m : Model) → Good chart capacity m → Good chart capacity (run (step chart capacity) m calls)
+  pub good-run : (calls : List (Call L)) (m : Model) → Good capacity m → Good capacity (run (step read capacity) m calls)
   unfolding run
   good-run [] m g = g
-  good-run (call ∷ calls) m g = good-run calls ((step chart capacity m call) .state) (good-step m g call)
+  good-run (call ∷ calls) m g = good-run calls ((step read capacity m call) .state) (good-step m g call)
 
   -- all calls
-  pub history-from : (calls : List Call) (m : Model) → Good chart capacity m → (run (watchStep chart capacity) (shown chart m) calls ≡ shown chart (run (step chart capacity) m calls)) × (numbersOf (watchStep chart capacity) (shown chart m) calls ≡ numbersOf (step chart capacity) m calls)
+  pub history-from : (calls : List (Call L)) (m : Model) → Good capacity m → (run (watchStep read capacity) (shown m) calls ≡ shown (run (step read capacity) m calls)) × (numbersOf (watchStep read capacity) (shown m) calls ≡ numbersOf (step read capacity) m calls)
   unfolding run numbersOf
   history-from [] m g = (refl, refl)
   history-from (call ∷ calls) m g =
       let e = step-shown m g call in
-      let r = history-from calls ((step chart capacity m call) .state) (good-step m g call) in
-      (ap (λ a. run (watchStep chart capacity) (a .state) calls) e ∙ r .0, ap (λ a. a .number ∷ numbersOf (watchStep chart capacity) (a .state) calls) e ∙ ap (_∷_ ((step chart capacity m call) .number)) (r .1))
+      let r = history-from calls ((step read capacity m call) .state) (good-step m g call) in
+      (ap (λ a. run (watchStep read capacity) (a .state) calls) e ∙ r .0, ap (λ a. a .number ∷ numbersOf (watchStep read capacity) (a .state) calls) e ∙ ap (_∷_ ((step read capacity m call) .number)) (r .1))
 
-  -- the opening
-  good-start : (o : ℤ) → T (isInstant o) → Good chart capacity (model o firstFloor [])
-  good-start o r = record {
-    old = [];
-    pending = [];
-    is = refl;
-    past = λ e n. absurd (List·Memᴰ·not-nil n);
-    serials = refl;
-    low = floor-least o (holds→ (isInstant o) r);
-    openRange = r;
-    floorRange = →holds (isInstant firstFloor) floor-instant;
-    count = omega arith;
-    few = omega arith;
-    fits = rw (listing-empty chart firstFloor o) (omega arith);
-  }
+-- the opening
+abbrev start : List Operator → ℤ → Model
+start chart o = model o firstFloor chart (replicate (length chart) firstFloor) []
 
-  start-shown : (o : ℤ) → shown chart (model o firstFloor []) ≡ watch o firstFloor 0 [] []
-  unfolding shown
-  start-shown o = watch-path o firstFloor refl refl (ap asRows (listing-empty chart firstFloor o))
+good-start : (capacity : ℕ) (chart : List Operator) → Chart 0 chart → (o : ℤ) → T (isInstant o) → Good capacity (start chart o)
+good-start capacity chart c o r = record {
+  lower = c;
+  entries = length-replicate (length chart) firstFloor;
+  rising = rising-start firstFloor o (length chart) (floor-least o (holds→ (isInstant o) r));
+  old = [];
+  pending = [];
+  is = refl;
+  past = λ e n. absurd (List·Memᴰ·not-nil n);
+  serials = refl;
+  low = floor-least o (holds→ (isInstant o) r);
+  openRange = r;
+  floorRange = →holds (isInstant firstFloor) floor-instant;
+  count = omega arith;
+  few = omega arith;
+  fits = rw (listing-empty chart (replicate (length chart) firstFloor) firstFloor o) (omega arith);
+}
 
-  pub good-opening : (o : ℤ) → Good chart capacity ((opening o) .state)
-  unfolding opening
-  good-opening o = go (isInstant o) (λ h. h)
-    where
-      go : (b : Bool) → (T b → T (isInstant o)) → Good chart capacity ((cond b (accepted (model o firstFloor [])) (refused 8 (model (pos 0) firstFloor []))) .state)
-      go true f = good-start o (f tt)
-      go false f = good-start (pos 0) (→holds (isInstant (pos 0)) (is-instant (pos 0) (omega arith)))
+start-shown : (chart : List Operator) (o : ℤ) → shown (start chart o) ≡ watch o firstFloor chart (replicate (length chart) firstFloor) 0 [] []
+unfolding shown
+start-shown chart o = watch-path o firstFloor chart (replicate (length chart) firstFloor) refl refl (ap asRows (listing-empty chart (replicate (length chart) firstFloor) firstFloor o))
 
-  pub opening-shown : (o : ℤ) → watchOpening o ≡ lift chart (opening o)
-  unfolding opening watchOpening
-  opening-shown o = cond-lift chart (isInstant o) (isInstant o) _ _ _ _ refl (ap accepted (sym (start-shown o))) (λ h. ap (refused 8) (sym (start-shown (pos 0))))
+pub good-opening : (capacity : ℕ) (chart : List Operator) → Chart 0 chart → (o : ℤ) → Good capacity ((opening chart o) .state)
+unfolding opening
+good-opening capacity chart c o = go (isInstant o) (λ h. h)
+  where
+    go : (b : Bool) → (T b → T (isInstant o)) → Good capacity ((cond b (accepted (start chart o)) (refused 8 (start [] (pos 0)))) .state)
+    go true f = good-start capacity chart c o (f tt)
+    go false f = good-start capacity [] tt (pos 0) (→holds (isInstant (pos 0)) (is-instant (pos 0) (omega arith)))
+
+pub opening-shown : (chart : List Operator) (o : ℤ) → watchOpening chart o ≡ lift (opening chart o)
+unfolding opening watchOpening
+opening-shown chart o = cond-lift (isInstant o) (isInstant o) _ _ _ _ refl (ap accepted (sym (start-shown chart o))) (λ h. ap (refused 8) (sym (start-shown [] (pos 0))))

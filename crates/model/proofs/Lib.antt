@@ -12,6 +12,7 @@ pub mod Rivals
 pub mod Place
 pub mod Rows
 pub mod Forget
+pub mod Since
 pub mod Listing
 pub mod History
 pub mod Jump

@@ -1,11 +1,12 @@
 -- What an operator makes inside a window of time depends only on the parts and events inside the window.
-use Prim.Native.Nat.{ℕ, suc, _<_}
+use Prim.Native.Nat.{ℕ, suc, _+_, _<_}
 use native.Mathlib.Omega.{arith}
 use mathlib.Core.Path.{_≡_, subst}
 use mathlib.Core.Logic.{inl, inr}
 use mathlib.Core.Bool.{Bool, _&&_}
-use mathlib.Core.List.{List, [], _∷_, List·Memᴰ}
-use lib.Dec.{T, ltb, ltb→lt}
+use mathlib.Core.List.{List, [], _∷_, _++_, List·Memᴰ}
+use lib.Dec.{T, ltb, ltb→lt, lt→ltb}
+use lib.ListN.{length}
 use Rattle.interval.specs.Conditions.{isForbidding}
 use Rattle.interval.specs.declared.Edges.{Edges}
 use Rattle.interval.specs.declared.Nearest.{Nearest}
@@ -14,7 +15,7 @@ use Rattle.model.specs.Recognitions.{Event, Operator, event, related, or
 use Rattle.model.specs.RowSteps.{Node, leaves}
 use Rattle.model.proofs.Made.{Has, One, Two, Made}
 use Rattle.model.proofs.Trees.{tree, trees}
-use Rattle.model.proofs.Sorted.{T-and}
+use Rattle.model.proofs.Sorted.{T-and, and-T}
 
 -- the operands are lower entries
 abbrev pub Lower : ℕ → Operator → Type 0
@@ -45,6 +46,26 @@ lower n (nearest c a b) h = two-lower a b n h
 pub chart-lower : (n : ℕ) (ops : List Operator) → T (areLower n ops) → Chart n ops
 chart-lower n [] h = tt
 chart-lower n (op ∷ ops) h = let p = T-and (isLower n op) (areLower (suc n) ops) h in (lower n op (p .0), chart-lower (suc n) ops (p .1))
+
+lower-two : (a b n : ℕ) → (a < n) × (b < n) → T (ltb a n && ltb b n)
+lower-two a b n h = and-T (ltb a n) (ltb b n) (lt→ltb a n (h .0)) (lt→ltb b n (h .1))
+
+is-lower : (n : ℕ) (op : Operator) → Lower n op → T (isLower n op)
+is-lower n (event k) h = tt
+is-lower n (related c a b) h = lower-two a b n h
+is-lower n (or a b) h = lower-two a b n h
+is-lower n (absence c a b) h = lower-two a b n h
+is-lower n (lasting c a d) h = lt→ltb a n h
+is-lower n (after a d) h = lt→ltb a n h
+is-lower n (nearest c a b) h = lower-two a b n h
+
+pub lower-chart : (n : ℕ) (ops : List Operator) → Chart n ops → T (areLower n ops)
+lower-chart n [] c = tt
+lower-chart n (op ∷ ops) c = and-T (isLower n op) (areLower (suc n) ops) (is-lower n op (c .0)) (lower-chart (suc n) ops (c .1))
+
+pub chart-append : (n : ℕ) (ops new : List Operator) → Chart n ops → Chart (n + length ops) new → Chart n (ops ++ new)
+chart-append n [] new c d = subst (λ i. Chart i new) (omega arith) d
+chart-append n (op ∷ ops) new c d = (c .0, chart-append (suc n) ops new (c .1) (subst (λ i. Chart i new) (omega arith) d))
 
 -- it starts no later than it ends
 abbrev pub Proper : Recognition → Type 0

@@ -7,13 +7,13 @@ use lib.Dec.{ltb, leb, eqb}
 use lib.IntN.{ℤ, pos, negsuc}
 use lib.ListN.{length}
 use lib.Signed.{ltZ, leZ}
-use Rattle.interval.specs.Instants.{isInstant, eqZ, least, greatest}
+use Rattle.interval.specs.Instants.{isInstant, firstFloor, eqZ, least, greatest}
 use Rattle.interval.specs.Conditions.{isRelated, hasLength}
 use Rattle.interval.specs.declared.Relation.{Relation}
 use Rattle.interval.specs.declared.Relation.the-variants.{Seq}
 use Rattle.model.specs.Lists.{every, numbers}
 use Rattle.model.specs.Recognitions.{Operator, event, related, or, absence, lasting, after, nearest, Arm, only, left, right, delayed, endBy}
-use Rattle.model.specs.Order.{Row, none}
+use Rattle.model.specs.Order.{sinceOf, Row, none}
 use Rattle.model.specs.RowSteps.{rowAt, Watch}
 
 abbrev pub isNone : ℤ → Bool
@@ -60,17 +60,26 @@ abbrev pub isOrdered : List Row → ℕ → Bool
 isOrdered rs zero = true
 isOrdered rs (suc i) = leZ ((rowAt rs i) .end) ((rowAt rs (suc i)) .end)
 
--- "start is below the floor, end is not before the open instant"
-abbrev pub isRowConsistent : List Operator → ℤ → ℤ → ℕ → List Row → ℕ → Bool
-isRowConsistent chart f o count rs i = leZ f ((rowAt rs i) .start) && (ltZ ((rowAt rs i) .end) o && (isOrdered rs i && agreesAt count rs i (rowAt rs i) chart ((rowAt rs i) .entry)))
+-- "start is below the floor, end is not before the open instant"; "the out-of-joint rule use[s] the entry's own instant"
+abbrev pub isRowConsistent : List Operator → List ℤ → ℤ → ℤ → ℕ → List Row → ℕ → Bool
+isRowConsistent chart since f o count rs i =
+    leZ f ((rowAt rs i) .start) && (leZ (sinceOf since ((rowAt rs i) .entry)) ((rowAt rs i) .start)
+    && (ltZ ((rowAt rs i) .end) o && (isOrdered rs i && agreesAt count rs i (rowAt rs i) chart ((rowAt rs i) .entry))))
 
-unfoldable pub areRowsConsistent : List Operator → ℤ → ℤ → ℕ → List Row → Bool
-areRowsConsistent chart f o count rs = every (isRowConsistent chart f o count rs) (numbers 0 (length rs))
+unfoldable pub areRowsConsistent : List Operator → List ℤ → ℤ → ℤ → ℕ → List Row → Bool
+areRowsConsistent chart since f o count rs = every (isRowConsistent chart since f o count rs) (numbers 0 (length rs))
+
+-- "that instant may not fall from one entry to the next, nor lie below -1,000,000,000 or above the open instant": from a on to o
+unfoldable pub isRising : ℤ → ℤ → List ℤ → Bool
+isRising a o [] = leZ a o
+isRising a o (s ∷ ss) = leZ a s && isRising s o ss
 
 -- "Out of joint: open instant or floor out of range; floor above open; over 64 pending events, more pending than counted, or a count
--- above 1,000,000; more rows than fit; ... or a row ...". That an unused row is all zeros is left to the table of numbers.
-unfoldable pub isConsistent : List Operator → ℕ → Watch → Bool
-isConsistent chart capacity w =
+-- above 1,000,000; more rows than fit; ... or a row ...". "A watch with another number of entries than the chart is out of joint." That an
+-- unused row is all zeros is left to the table of numbers.
+unfoldable pub isConsistent : ℕ → Watch → Bool
+isConsistent capacity w =
     isInstant (w .openInstant) && (isInstant (w .floor) && (leZ (w .floor) (w .openInstant)
+    && (eqb (length (w .since)) (length (w .chart)) && (isRising firstFloor (w .openInstant) (w .since)
     && (leb (length (w .pending)) 64 && (leb (length (w .pending)) (w .count) && (leb (w .count) 1000000
-    && (leb (length (w .rows)) capacity && areRowsConsistent chart (w .floor) (w .openInstant) (w .count) (w .rows)))))))
+    && (leb (length (w .rows)) capacity && areRowsConsistent (w .chart) (w .since) (w .floor) (w .openInstant) (w .count) (w .rows)))))))))

@@ -1,4 +1,4 @@
--- What the watch does on rows: opening, an event, closing instants, forgetting. Nothing here has to be believed for the reference
+-- What the watch does on rows: opening, an event, closing instants, forgetting, adding entries. Nothing here has to be believed for the reference
 -- model; the theorems say that these steps give the reference model's rows and numbers. The contracts of the watch cite them, for tables that no
 -- history left; `nodeStart`, `nodeEnd` and `moved` alone serve the proofs.
 use Prim.Native.Nat.{ℕ, zero, suc, _-_}
@@ -6,7 +6,7 @@ use mathlib.Core.Bool.{Bool, true, false, cond, not, _&&_}
 use mathlib.Core.List.{List, [], _∷_, _++_, map}
 use lib.Dec.{eqb, ltb, leb}
 use lib.IntN.{ℤ, pos, negsuc, natAbs, _+ℤ_, _-ℤ_}
-use lib.ListN.{length, getD, take}
+use lib.ListN.{length, getD, take, replicate}
 use lib.Signed.{ltZ, leZ}
 use Rattle.interval.specs.Instants.{isInstant, firstFloor, isMarkRefused, isForgetRefused, eqZ, least, greatest}
 use Rattle.interval.specs.Conditions.{isRelated, isForbidding, hasLength, isRivalOfSecond, isRivalOfFirst}
@@ -16,8 +16,8 @@ use Rattle.interval.specs.declared.Edges.{Edges}
 use Rattle.interval.specs.declared.Nearest.{Nearest}
 use Rattle.model.specs.Lists.{keep, some, each, numbers, sortStably}
 use Rattle.model.specs.Recognitions.{Event, Operator, event, related, or, absence, lasting, after, nearest, Arm, only, left, right, delayed, endBy}
-use Rattle.model.specs.Order.{Row, row, none, leftOf, rightOf}
-use Rattle.model.specs.Reference.{Model, Answer, accepted, refused, Call, isAt, rowsOf}
+use Rattle.model.specs.Order.{sinceOf, Row, row, none, leftOf, rightOf}
+use Rattle.model.specs.Reference.{Model, Answer, accepted, refused, Call, Reading, isAt, rowsOf}
 
 -- One step of a recognition over parts of any kind, recognitions or row numbers: an event's serial and instant; a part with its arm; two parts.
 pub data Node (A : Type 0) : Type 0 where
@@ -84,9 +84,9 @@ pub record Rule : Type 0 where
   pub test : ℤ → ℤ → Bool
 
 -- a rule for each entry from n on
-abbrev pub rules : (ℤ → ℤ → Bool) → ℕ → List Operator → List Rule
+abbrev pub rules : (ℕ → ℤ → ℤ → Bool) → ℕ → List Operator → List Rule
 rules p n [] = []
-rules p n (op ∷ ops) = record { entry = n; operator = op; test = p } ∷ rules p (suc n) ops
+rules p n (op ∷ ops) = record { entry = n; operator = op; test = p n } ∷ rules p (suc n) ops
 
 -- row i of a table, and a row number seen as a part
 abbrev pub rowAt : List Row → ℕ → Row
@@ -115,50 +115,59 @@ unfoldable pub extendRows : List Event → List Rule → List Row → List Row
 extendRows es [] rs = rs
 extendRows es (j ∷ js) rs = extendRows es js (rs ++ derivedRows j es rs)
 
--- Closing the instant o: entry by entry, the rows that end at o are appended. Of the events es only those at o count. These rows are the *due*
--- rows of document 01 that are not in the table yet.
-abbrev pub endsAt : ℤ → ℤ → ℤ → Bool
-endsAt o s e = eqZ e o
+-- Closing the instant o: entry by entry, the rows that end at o, and start no earlier than the instant from which the entry counts, are appended. Of the
+-- events es only those at o count. These rows are the *due* rows of document 01 that are not in the table yet.
+abbrev pub endsAt : List ℤ → ℤ → ℕ → ℤ → ℤ → Bool
+endsAt since o n s e = leZ (sinceOf since n) s && eqZ e o
 
-unfoldable pub closeRows : ℤ → List Event → List Operator → List Row → List Row
-closeRows o es chart rs = extendRows es (rules (endsAt o) 0 chart) rs
+unfoldable pub closeRows : ℤ → List Event → List Operator → List ℤ → List Row → List Row
+closeRows o es chart since rs = extendRows es (rules (endsAt since o) 0 chart) rs
 
 -- "a clock mark t closes every instant from the open one to t-1" (request N1): n instants one after another, the first of them o
-unfoldable pub closeInstants : ℕ → ℤ → List Event → List Operator → List Row → List Row
-closeInstants zero o es chart rs = rs
-closeInstants (suc n) o es chart rs = closeInstants n (o +ℤ pos 1) es chart (closeRows o es chart rs)
+unfoldable pub closeInstants : ℕ → ℤ → List Event → List Operator → List ℤ → List Row → List Row
+closeInstants zero o es chart since rs = rs
+closeInstants (suc n) o es chart since rs = closeInstants n (o +ℤ pos 1) es chart since (closeRows o es chart since rs)
 
 -- how many instants are from o to t-1
 abbrev pub instantsTo : ℤ → ℤ → ℕ
 instantsTo o t = natAbs (t -ℤ o)
 
--- The instants at which something is due: those of the events, and for every `after a d` those of the rows of a, d later.
-abbrev pub delayedEnds : List Row → Operator → List ℤ
-delayedEnds rs (event k) = []
-delayedEnds rs (related c a b) = []
-delayedEnds rs (or a b) = []
-delayedEnds rs (absence c a b) = []
-delayedEnds rs (lasting c a d) = []
-delayedEnds rs (nearest c a b) = []
-delayedEnds rs (after a d) = map (λ r. r .end +ℤ pos d) (keep (λ r. eqb (r .entry) a) rs)
+-- The instants at which something is due: those of the events, and for every `after a d` those of the rows of a, d later, that start no earlier
+-- than x, from which the entry counts.
+abbrev pub isWaiting : ℤ → ℕ → Row → Bool
+isWaiting x a r = eqb (r .entry) a && leZ x (r .start)
 
-unfoldable pub dueEnds : List Event → List Operator → List Row → List ℤ
-dueEnds es chart rs = map (λ e. e .instant) es ++ each (delayedEnds rs) chart
+abbrev pub delayedEnds : ℤ → List Row → Operator → List ℤ
+delayedEnds x rs (event k) = []
+delayedEnds x rs (related c a b) = []
+delayedEnds x rs (or a b) = []
+delayedEnds x rs (absence c a b) = []
+delayedEnds x rs (lasting c a d) = []
+delayedEnds x rs (nearest c a b) = []
+delayedEnds x rs (after a d) = map (λ r. r .end +ℤ pos d) (keep (isWaiting x a) rs)
+
+-- those of the operators from entry n on
+abbrev pub delaysFrom : ℕ → List Operator → List ℤ → List Row → List ℤ
+delaysFrom n [] since rs = []
+delaysFrom n (op ∷ ops) since rs = delayedEnds (sinceOf since n) rs op ++ delaysFrom (suc n) ops since rs
+
+unfoldable pub dueEnds : List Event → List Operator → List ℤ → List Row → List ℤ
+dueEnds es chart since rs = map (λ e. e .instant) es ++ delaysFrom 0 chart since rs
 
 -- the first of these instants from o on, and t if none is before t
 abbrev pub firstFrom : ℤ → ℤ → List ℤ → ℤ
 firstFrom o t [] = t
 firstFrom o t (e ∷ es) = cond (leZ o e) (least e (firstFrom o t es)) (firstFrom o t es)
 
-unfoldable pub nextDue : ℤ → ℤ → List Event → List Operator → List Row → ℤ
-nextDue o t es chart rs = firstFrom o t (dueEnds es chart rs)
+unfoldable pub nextDue : ℤ → ℤ → List Event → List Operator → List ℤ → List Row → ℤ
+nextDue o t es chart since rs = firstFrom o t (dueEnds es chart since rs)
 
 -- The instants from o to t-1 closed, where only those count at which something is due: at most n of them.
-unfoldable pub closeDue : ℕ → ℤ → ℤ → List Event → List Operator → List Row → List Row
-closeDue zero o t es chart rs = rs
-closeDue (suc n) o t es chart rs =
-    let e : ℤ = nextDue o t es chart rs in
-    cond (ltZ e t) (closeDue n (e +ℤ pos 1) t es chart (closeRows e es chart rs)) rs
+unfoldable pub closeDue : ℕ → ℤ → ℤ → List Event → List Operator → List ℤ → List Row → List Row
+closeDue zero o t es chart since rs = rs
+closeDue (suc n) o t es chart since rs =
+    let e : ℤ = nextDue o t es chart since rs in
+    cond (ltZ e t) (closeDue n (e +ℤ pos 1) t es chart since (closeRows e es chart since rs)) rs
 
 -- Keeping the rows that pass a test: they stay in their order, and their references are renumbered. Where row i goes: as many rows are
 -- kept before it.
@@ -201,16 +210,19 @@ unfoldable pub forgetRows : List Operator → ℤ → List Row → List Row
 forgetRows chart f rs = keepRows chart (isLate f) rs
 
 -- "A watch has an open instant, a floor, a count of events, a count of rows and the events of the open instant": the codes of
--- these, and the rows themselves
+-- these, and the rows themselves. "The watch now holds, for each entry, the instant from which it counts" (request N13). And the chart that
+-- each call is handed: "as the last addition left it".
 pub record Watch : Type 0 where
   pub openInstant : ℤ
   pub floor : ℤ
+  pub chart : List Operator
+  pub since : List ℤ
   pub count : ℕ
   pub pending : List ℕ
   pub rows : List Row
 
-abbrev pub watch : ℤ → ℤ → ℕ → List ℕ → List Row → Watch
-watch o f n ks rs = record { openInstant = o; floor = f; count = n; pending = ks; rows = rs }
+abbrev pub watch : ℤ → ℤ → List Operator → List ℤ → ℕ → List ℕ → List Row → Watch
+watch o f chart since n ks rs = record { openInstant = o; floor = f; chart = chart; since = since; count = n; pending = ks; rows = rs }
 
 -- events of these codes at the instant o, the first with serial s
 abbrev pub numbered : ℤ → ℕ → List ℕ → List Event
@@ -220,34 +232,46 @@ numbered o s (k ∷ ks) = record { serial = s; code = k; instant = o } ∷ numbe
 abbrev pub pendingEvents : Watch → List Event
 pendingEvents w = numbered (w .openInstant) (suc (w .count - length (w .pending))) (w .pending)
 
-abbrev pub closedRows : List Operator → Watch → ℤ → List Row
-closedRows chart w t = closeInstants (instantsTo (w .openInstant) t) (w .openInstant) (pendingEvents w) chart (w .rows)
+abbrev pub closedRows : Watch → ℤ → List Row
+closedRows w t = closeInstants (instantsTo (w .openInstant) t) (w .openInstant) (pendingEvents w) (w .chart) (w .since) (w .rows)
 
-unfoldable pub watchOpening : ℤ → Answer Watch
-watchOpening o = cond (isInstant o) (accepted (watch o firstFloor 0 [] [])) (refused 8 (watch (pos 0) firstFloor 0 [] []))
+unfoldable pub watchOpening : List Operator → ℤ → Answer Watch
+watchOpening chart o =
+    cond (isInstant o) (accepted (watch o firstFloor chart (replicate (length chart) firstFloor) 0 [] []))
+    (refused 8 (watch (pos 0) firstFloor [] [] 0 [] []))
 
 unfoldable pub watchEvent : Watch → ℕ → Answer Watch
 watchEvent w k =
     cond (leb 1000000 (w .count)) (refused 10 w)
     (cond (leb 64 (length (w .pending))) (refused 9 w)
-    (accepted (watch (w .openInstant) (w .floor) (suc (w .count)) (w .pending ++ k ∷ []) (w .rows))))
+    (accepted (watch (w .openInstant) (w .floor) (w .chart) (w .since) (suc (w .count)) (w .pending ++ k ∷ []) (w .rows))))
 
-unfoldable pub watchClock : List Operator → ℕ → Watch → ℤ → Answer Watch
-watchClock chart capacity w t =
+unfoldable pub watchClock : ℕ → Watch → ℤ → Answer Watch
+watchClock capacity w t =
     cond (isMarkRefused (w .openInstant) t) (refused 8 w)
-    (cond (ltb capacity (length (closedRows chart w t))) (refused 12 w)
-    (accepted (watch t (w .floor) (w .count) [] (closedRows chart w t))))
+    (cond (ltb capacity (length (closedRows w t))) (refused 12 w)
+    (accepted (watch t (w .floor) (w .chart) (w .since) (w .count) [] (closedRows w t))))
 
-unfoldable pub watchForget : List Operator → Watch → ℤ → Answer Watch
-watchForget chart w f =
+unfoldable pub watchForget : Watch → ℤ → Answer Watch
+watchForget w f =
     cond (isForgetRefused (w .floor) (w .openInstant) f) (refused 11 w)
-    (accepted (watch (w .openInstant) f (w .count) (w .pending) (forgetRows chart f (w .rows))))
+    (accepted (watch (w .openInstant) f (w .chart) (w .since) (w .count) (w .pending) (forgetRows (w .chart) f (w .rows))))
 
-abbrev pub watchStep : List Operator → ℕ → Watch → Call → Answer Watch
-watchStep chart capacity w (Call.event k) = watchEvent w k
-watchStep chart capacity w (Call.clock t) = watchClock chart capacity w t
-watchStep chart capacity w (Call.forget f) = watchForget chart w f
+-- "Existing rows are unchanged by the addition"
+abbrev pub watchAdded : Watch → List Operator → Watch
+watchAdded w new = watch (w .openInstant) (w .floor) (w .chart ++ new) (w .since ++ replicate (length new) (w .openInstant)) (w .count) (w .pending) (w .rows)
+
+unfoldable pub watchAdd : {L : Type 0} → (ℕ → L → Reading) → Watch → L → Answer Watch
+watchAdd read w lines =
+    let r : Reading = read (length (w .chart)) lines in
+    cond (eqb (r .number) 0) (accepted (watchAdded w (r .operators))) (refused (r .number) w)
+
+abbrev pub watchStep : {L : Type 0} → (ℕ → L → Reading) → ℕ → Watch → Call L → Answer Watch
+watchStep read capacity w (Call.event k) = watchEvent w k
+watchStep read capacity w (Call.clock t) = watchClock capacity w t
+watchStep read capacity w (Call.forget f) = watchForget w f
+watchStep read capacity w (Call.add lines) = watchAdd read w lines
 
 -- the watch that shows a state of the reference model
-unfoldable pub shown : List Operator → Model → Watch
-shown chart m = watch (m .openInstant) (m .floor) (length (m .events)) (map (λ e. e .code) (keep (isAt (m .openInstant)) (m .events))) (rowsOf chart m)
+unfoldable pub shown : Model → Watch
+shown m = watch (m .openInstant) (m .floor) (m .chart) (m .since) (length (m .events)) (map (λ e. e .code) (keep (isAt (m .openInstant)) (m .events))) (rowsOf m)

@@ -12,10 +12,9 @@ use Rattle.text.specs.Text.{Line, lines}
 use Rattle.chart.specs.Charts.{orNoLine}
 use Rattle.chart.specs.declared.ChartAnswer.{ChartAnswer}
 use Rattle.model.specs.Recognitions.{Operator}
-use Rattle.model.specs.Reference as ref
 use Rattle.model.specs.Reference.{Model, Answer}
 use Rattle.model.specs.Statements.{_∈_}
-use Rattle.model.proofs.ReferenceLaws.{opening-number, step-number}
+use Rattle.model.proofs.ReferenceLaws.{opening-number, event-number, clock-number, forget-number}
 use Rattle.table.specs.Operators.{operatorsOf}
 use Rattle.watch.specs.Demands.{chartNumbers}
 use Rattle.watch.proofs.Numbers.{some-answered}
@@ -32,13 +31,13 @@ Numbered (listed rs) = Unit {0}
 Numbered (refused n line) = (1 ≤ n) × (n ≤ 12)
 
 module _ (ops : List Operator) (room : ℕ) where
-  call-number : (m : Model) (c : Call) → (callAnswer ops room m c) .number ≤ 12
+  call-number : (m : Model) (c : Call) → (callAnswer room m c) .number ≤ 12
   unfolding callAnswer
   call-number m log.Malformed = omega arith
   call-number m (log.Open o) = omega arith
-  call-number m (log.Event k) = step-number ops room m (ref.event k)
-  call-number m (log.Clock x) = step-number ops room m (ref.clock x)
-  call-number m (log.Forget f) = step-number ops room m (ref.forget f)
+  call-number m (log.Event k) = event-number m k
+  call-number m (log.Clock x) = clock-number room m x
+  call-number m (log.Forget f) = forget-number m f
 
   -- an answer goes on or ends the run by its number
   goes-on : (a : Answer Model) (n : ℕ) (on : Outcome) → a .number ≤ 12 → Numbered on → Numbered (cond (eqb (a .number) 0) on (refused (a .number) n))
@@ -49,16 +48,16 @@ module _ (ops : List Operator) (room : ℕ) where
       go true e = k
       go false e = let d = eqb-false (a .number) 0 e in (omega (arith, d), h)
 
-  calls-numbered : (m : Model) (n : ℕ) (ls : List Line) → Numbered (playCalls ops room m n ls)
+  calls-numbered : (m : Model) (n : ℕ) (ls : List Line) → Numbered (playCalls room m n ls)
   unfolding playCalls Numbered
   calls-numbered m n [] = tt
   calls-numbered m n (l ∷ ls) =
-      let a = callAnswer ops room m (callIn l) in
-      goes-on a n (playCalls ops room (a .state) (suc n) ls) (call-number m (callIn l)) (calls-numbered (a .state) (suc n) ls)
+      let a = callAnswer room m (callIn l) in
+      goes-on a n (playCalls room (a .state) (suc n) ls) (call-number m (callIn l)) (calls-numbered (a .state) (suc n) ls)
 
-  first-number : (c : Call) → (openingAnswer c) .number ≤ 12
+  first-number : (c : Call) → (openingAnswer ops c) .number ≤ 12
   unfolding openingAnswer
-  first-number (log.Open o) = opening-number o
+  first-number (log.Open o) = opening-number ops o
   first-number log.Malformed = omega arith
   first-number (log.Event k) = omega arith
   first-number (log.Clock x) = omega arith
@@ -68,8 +67,8 @@ module _ (ops : List Operator) (room : ℕ) where
   unfolding playLog Numbered
   log-numbered n [] = (omega arith, omega arith)
   log-numbered n (l ∷ ls) =
-      let a = openingAnswer (callIn l) in
-      goes-on a n (playCalls ops room (a .state) (suc n) ls) (first-number (callIn l)) (calls-numbered (a .state) (suc n) ls)
+      let a = openingAnswer ops (callIn l) in
+      goes-on a n (playCalls room (a .state) (suc n) ls) (first-number (callIn l)) (calls-numbered (a .state) (suc n) ls)
 
 -- a number of the chart reader
 chart-number : {n : ℕ} → n ∈ (0 ∷ chartNumbers) → n ≤ 6

@@ -26,7 +26,7 @@ use Rattle.state.specs.declared.WatchState.{WatchState}
 use Rattle.watch.specs.Histories.{State}
 use Rattle.watch.specs.declared.Answer.{Answer}
 use Rattle.watch.proofs.Calls.{clock-8, forget-11, opening-8}
-use Rattle.watch.proofs.Steps.{event-call, clock-call, forget-call, event-passed, clock-passed, forget-passed}
+use Rattle.watch.proofs.Steps.{event-passed, clock-passed, forget-passed}
 use Rattle.program.specs.Outcomes.{callIn, isEmpty}
 use Rattle.program.specs.Runs.{Progress, refusedRun, nextRun, entryRun, chartEnd, stepped, openingLine, callStep, narrowed, lineStep, afterLine, isRefused, isEarly, Holds, HasLines, restLength, restMoved}
 use Rattle.program.specs.declared.Run.{Run}
@@ -59,29 +59,29 @@ narrowed-same own s h x = go (isInstant x) refl
 -- the calls on a consistent watch and table
 module _ (chart : Chart) (w : WatchState) (t : List ℤ) where
   abbrev given : State
-  given = record { watch = w; table = t }
+  given = record { watch = w; table = t; chart = chart }
 
   module _ (z : checkNumber chart w t ≡ 0) where
     -- a line of the log after its opening
     module _ (d : Call) (a : Answer) where
-      pub call-event : (k : ℕ) → d ≡ log.Event k → a ≡ eventOwn w k → step a t ≡ callStep chart given d
+      pub call-event : (k : ℕ) → d ≡ log.Event k → a ≡ eventOwn w k → step a t ≡ callStep given d
       unfolding callStep
-      call-event k e h = rw e (ap (λ x. step x t) h ∙ sym (event-passed chart w t z k) ∙ sym (event-call chart given k))
+      call-event k e h = rw e (ap (λ x. step x t) h ∙ sym (event-passed chart w t z k))
 
-      pub call-clock : (x : ℤ) (u : List ℤ) → d ≡ log.Clock x → (a ≡ (clockOwn chart w t (narrowed x)) .answer) × (u ≡ (clockOwn chart w t (narrowed x)) .table) → step a u ≡ callStep chart given d
+      pub call-clock : (x : ℤ) (u : List ℤ) → d ≡ log.Clock x → (a ≡ (clockOwn chart w t (narrowed x)) .answer) × (u ≡ (clockOwn chart w t (narrowed x)) .table) → step a u ≡ callStep given d
       unfolding callStep
-      call-clock x u e h = rw e (ap₂ step (h .0) (h .1) ∙ narrowed-same (clockOwn chart w t) (refusedStep 8 w t) (λ y q. clock-8 chart w t y (refuses-mark (w .instant) y (inl q))) x ∙ sym (clock-call chart given x ∙ clock-passed chart w t z x))
+      call-clock x u e h = rw e (ap₂ step (h .0) (h .1) ∙ narrowed-same (clockOwn chart w t) (refusedStep 8 w t) (λ y q. clock-8 chart w t y (refuses-mark (w .instant) y (inl q))) x ∙ sym (clock-passed chart w t z x))
 
-      pub call-forget : (f : ℤ) (u : List ℤ) → d ≡ log.Forget f → (a ≡ (forgetOwn chart w t (narrowed f)) .answer) × (u ≡ (forgetOwn chart w t (narrowed f)) .table) → step a u ≡ callStep chart given d
+      pub call-forget : (f : ℤ) (u : List ℤ) → d ≡ log.Forget f → (a ≡ (forgetOwn chart w t (narrowed f)) .answer) × (u ≡ (forgetOwn chart w t (narrowed f)) .table) → step a u ≡ callStep given d
       unfolding callStep
-      call-forget f u e h = rw e (ap₂ step (h .0) (h .1) ∙ narrowed-same (forgetOwn chart w t) (refusedStep 11 w t) (λ y q. forget-11 chart w t y (refuses-forget (w .floor) (w .instant) y (out-of-range q))) f ∙ sym (forget-call chart given f ∙ forget-passed chart w t z f))
+      call-forget f u e h = rw e (ap₂ step (h .0) (h .1) ∙ narrowed-same (forgetOwn chart w t) (refusedStep 11 w t) (λ y q. forget-11 chart w t y (refuses-forget (w .floor) (w .instant) y (out-of-range q))) f ∙ sym (forget-passed chart w t z f))
 
   module _ (d : Call) where
-    pub call-malformed : d ≡ log.Malformed → refusedStep 7 w t ≡ callStep chart given d
+    pub call-malformed : d ≡ log.Malformed → refusedStep 7 w t ≡ callStep given d
     unfolding callStep
     call-malformed e = rw e
 
-    pub call-open : (o : ℤ) → d ≡ log.Open o → refusedStep 7 w t ≡ callStep chart given d
+    pub call-open : (o : ℤ) → d ≡ log.Open o → refusedStep 7 w t ≡ callStep given d
     unfolding callStep
     call-open o e = rw e
 

@@ -80,9 +80,9 @@ same-unformed p l e = go (p .run .stage)
     go Refused = refl
 
 -- what it makes of a run
-unformed-entry : (r : Run) → entryRun r (readLines (r .chart) (unformed ∷ [])) ≡ refusedRun r (cond (eqb (r .chart .count) 32) 2 3) (r .chart .count + 1)
+unformed-entry : (r : Run) → entryRun r (readLines (r .chart) (unformed ∷ [])) ≡ refusedRun r (cond (leb 32 (r .chart .count)) 2 3) (r .chart .count + 1)
 unfolding entryRun
-unformed-entry r = rw (read-unformed (r .chart) unformed [] refl, refused-number, refused-line) (go (eqb (r .chart .count) 32) _ (λ n. refusedRun r n (r .chart .count + 1)))
+unformed-entry r = rw (read-unformed (r .chart) unformed [] refl, refused-number, refused-line) (go (leb 32 (r .chart .count)) _ (λ n. refusedRun r n (r .chart .count + 1)))
   where
     go : (b : Bool) (x : Run) (f : ℕ → Run) → cond (eqb (cond b 2 3) 0) x (f (cond b 2 3)) ≡ f (cond b 2 3)
     go true x f = refl

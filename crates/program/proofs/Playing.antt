@@ -23,17 +23,17 @@ use Rattle.model.specs.Recognitions.{Operator}
 use Rattle.model.specs.Reference as ref
 use Rattle.model.specs.Reference.{Model, rowsOf}
 use Rattle.model.proofs.ReferenceLaws.{run-none, run-more, numbers-more, opening-accepted, opening-refused}
-use Rattle.table.specs.Operators.{operatorsOf}
+use Rattle.table.specs.Operators.{operatorsOf, readingOf}
 use Rattle.table.specs.Table.{rowsIn, roomIn}
-use Rattle.watch.specs.Steps.{Step, holding, emptyWatch, openingStep}
+use Rattle.watch.specs.Steps.{Step, holding, emptyWatch, openingStep, eventStep, clockStep, forgetStep}
+use Rattle.watch.specs.Histories as watch
 use Rattle.watch.specs.Histories.{State, call, answers, opened}
 use Rattle.watch.specs.Demands.{history, modelAfter}
 use Rattle.watch.specs.declared.Watch.{Watch}
 use Rattle.watch.proofs.Calls.{opening-8, opening-taken}
 use Rattle.watch.proofs.Demands.{demand-3}
-use Rattle.watch.proofs.Steps.{after-none, after-more, answers-more}
+use Rattle.watch.proofs.Steps.{event-call, clock-call, forget-call}
 use Rattle.table.proofs.Tables as tables
-use Rattle.watch.proofs.Shown as watch
 use Rattle.log.specs.declared.Call.{Call}
 use Rattle.log.specs.declared.Call.the-variants as log
 use Rattle.program.specs.Outcomes.{Outcome, listed, refused, callIn, openingAnswer, callAnswer, playCalls, playLog, isEmpty, chartLines, logLines, playLines}
@@ -68,44 +68,45 @@ module _ (chart : Chart) (usable : isUsable chart ≡ true) (t : List ℤ) (o : 
   abbrev ops : List Operator
   ops = operatorsOf chart
 
-  abbrev step : Model → ref.Call → ref.Answer Model
-  step = ref.step ops (roomIn t)
+  abbrev step : Model → watch.Call → ref.Answer Model
+  step = ref.step readingOf (roomIn t)
 
   -- each call is answered as in the reference model
-  same-number : (cs : List ref.Call) (c : ref.Call) → (call chart (history chart t o cs) c) .answer .refusal ≡ (step (modelAfter chart t o cs) c) .number
+  same-number : (cs : List watch.Call) (c : watch.Call) → (call (history chart t o cs) c) .number ≡ (step (modelAfter chart t o cs) c) .number
   same-number cs c =
       let before = opened chart t o in
-      let m = (ref.opening o) .state in
-      let e = sym (answers-more chart before cs c) ∙ (demand-3 chart usable t o inRange (cs ++ c ∷ [])) .numbers ∙ numbers-more step m cs c in
-      sym (last-is (answers chart before cs) _) ∙ ap lastOf e ∙ last-is (ref.numbersOf step m cs) _
+      let m = (ref.opening ops o) .state in
+      let e = sym (numbers-more call before cs c) ∙ (demand-3 chart usable t o inRange (cs ++ c ∷ [])) .numbers ∙ numbers-more step m cs c in
+      sym (last-is (answers before cs) _) ∙ ap lastOf e ∙ last-is (ref.numbersOf step m cs) _
 
   -- the rows are its rows
-  same-rows : (cs : List ref.Call) → rowsIn ((history chart t o cs) .watch .rows) ((history chart t o cs) .table) ≡ rowsOf ops (modelAfter chart t o cs)
-  same-rows cs = let d = demand-3 chart usable t o inRange cs .follows in ap₂ rowsIn (d .rows) (d .table) ∙ tables.rows-flat (rowsOf ops (modelAfter chart t o cs)) _
+  same-rows : (cs : List watch.Call) → rowsIn ((history chart t o cs) .watch .rows) ((history chart t o cs) .table) ≡ rowsOf (modelAfter chart t o cs)
+  same-rows cs = let d = demand-3 chart usable t o inRange cs .follows in ap₂ rowsIn (d .rows) (d .table) ∙ tables.rows-flat (rowsOf (modelAfter chart t o cs)) _
 
   -- a run after the opening and these calls
-  abbrev playing : ℕ → ℕ → List ref.Call → Progress
+  abbrev playing : ℕ → ℕ → List watch.Call → Progress
   playing n line cs = progress Calls n line chart (holding ((history chart t o cs) .watch)) ((history chart t o cs) .table)
 
-  -- a line with a call of the reference model
-  one-call : (n line : ℕ) (cs : List ref.Call) (c : ref.Call) (ls : List Line) → comesTo (playing 0 (line + 1) (cs ++ c ∷ [])) ls ≡ playCalls ops (roomIn t) (modelAfter chart t o (cs ++ c ∷ [])) (suc (line + 1)) ls → comesTo (stepped (playing n line cs .run) (call chart (history chart t o cs) c)) ls ≡ cond (eqb ((step (modelAfter chart t o cs) c) .number) 0) (playCalls ops (roomIn t) ((step (modelAfter chart t o cs) c) .state) (suc (suc line)) ls) (refused ((step (modelAfter chart t o cs) c) .number) (suc line))
+  -- a line with a call of the reference model, which leaves the chart: the step x
+  one-call : (n line : ℕ) (cs : List watch.Call) (c : watch.Call) (x : Step) → call (history chart t o cs) c ≡ watch.stepped chart x → (ls : List Line) → comesTo (playing 0 (line + 1) (cs ++ c ∷ [])) ls ≡ playCalls (roomIn t) (modelAfter chart t o (cs ++ c ∷ [])) (suc (line + 1)) ls → comesTo (stepped (playing n line cs .run) x) ls ≡ cond (eqb ((step (modelAfter chart t o cs) c) .number) 0) (playCalls (roomIn t) ((step (modelAfter chart t o cs) c) .state) (suc (suc line)) ls) (refused ((step (modelAfter chart t o cs) c) .number) (suc line))
   unfolding stepped nextRun
-  one-call n line cs c ls on = rw (← same-number cs c) (go (eqb (x .answer .refusal) 0))
+  one-call n line cs c x e ls on = rw (← same-number cs c, ap (λ y. y .number) e) (go (eqb (x .answer .refusal) 0))
     where
-      x : Step
-      x = call chart (history chart t o cs) c
-
       r : Run
       r = playing n line cs .run
 
-      go : (b : Bool) → comesTo (cond b (record { run = nextRun r Calls chart (x .answer .watch); table = x .table }) (record { run = refusedRun r (x .answer .refusal) (line + 1); table = x .table })) ls ≡ cond b (playCalls ops (roomIn t) ((step (modelAfter chart t o cs) c) .state) (suc (suc line)) ls) (refused (x .answer .refusal) (suc line))
-      go true = ap (λ s. comesTo (progress Calls 0 (line + 1) chart (holding (s .watch)) (s .table)) ls) (sym (after-more chart (opened chart t o) cs c)) ∙ on ∙ ap₂ (λ m k. playCalls ops (roomIn t) m (suc k) ls) (run-more step ((ref.opening o) .state) cs c) (add-one line)
+      more : history chart t o (cs ++ c ∷ []) ≡ (watch.stepped chart x) .state
+      more = run-more call (opened chart t o) cs c ∙ ap (λ y. y .state) e
+
+      go : (b : Bool) → comesTo (cond b (record { run = nextRun r Calls chart (x .answer .watch); table = x .table }) (record { run = refusedRun r (x .answer .refusal) (line + 1); table = x .table })) ls ≡ cond b (playCalls (roomIn t) ((step (modelAfter chart t o cs) c) .state) (suc (suc line)) ls) (refused (x .answer .refusal) (suc line))
+      go true = ap (λ s. comesTo (progress Calls 0 (line + 1) chart (holding (s .watch)) (s .table)) ls) (sym more) ∙ on ∙ ap₂ (λ m k. playCalls (roomIn t) m (suc k) ls) (run-more step ((ref.opening (operatorsOf chart) o) .state) cs c) (add-one line)
       go false = comes-refused r (x .table) (x .answer .refusal) (line + 1) ls ∙ ap (refused (x .answer .refusal)) (add-one line)
 
-  pub calls-play : (n line : ℕ) (cs : List ref.Call) (ls : List Line) → comesTo (playing n line cs) ls ≡ playCalls ops (roomIn t) (modelAfter chart t o cs) (suc line) ls
+  -- no line of a log adds entries
+  pub calls-play : (n line : ℕ) (cs : List watch.Call) → (history chart t o cs) .chart ≡ chart → (ls : List Line) → comesTo (playing n line cs) ls ≡ playCalls (roomIn t) (modelAfter chart t o cs) (suc line) ls
   unfolding afterLines endRun outcomeOf playCalls lineStep callStep callAnswer stepped
-  calls-play n line cs [] = ap listed (same-rows cs)
-  calls-play n line cs (l ∷ ls) = go (callIn l) (λ c. one-call n line cs c ls (calls-play 0 (line + 1) (cs ++ c ∷ []) ls))
+  calls-play n line cs same [] = ap listed (same-rows cs)
+  calls-play n line cs same (l ∷ ls) = go (callIn l) (λ c x e. one-call n line cs c x e ls (calls-play 0 (line + 1) (cs ++ c ∷ []) (ap (λ s. s .chart) (run-more call (opened chart t o) cs c ∙ ap (λ y. y .state) e)) ls))
     where
       s : State
       s = history chart t o cs
@@ -116,12 +117,12 @@ module _ (chart : Chart) (usable : isUsable chart ≡ true) (t : List ℤ) (o : 
       r : Run
       r = playing n line cs .run
 
-      go : (c : Call) → ((d : ref.Call) → comesTo (stepped r (call chart s d)) ls ≡ cond (eqb ((step m d) .number) 0) (playCalls ops (roomIn t) ((step m d) .state) (suc (suc line)) ls) (refused ((step m d) .number) (suc line))) → comesTo (stepped r (callStep chart s c)) ls ≡ cond (eqb ((callAnswer ops (roomIn t) m c) .number) 0) (playCalls ops (roomIn t) ((callAnswer ops (roomIn t) m c) .state) (suc (suc line)) ls) (refused ((callAnswer ops (roomIn t) m c) .number) (suc line))
+      go : (c : Call) → ((d : watch.Call) (x : Step) → call s d ≡ watch.stepped chart x → comesTo (stepped r x) ls ≡ cond (eqb ((step m d) .number) 0) (playCalls (roomIn t) ((step m d) .state) (suc (suc line)) ls) (refused ((step m d) .number) (suc line))) → comesTo (stepped r (callStep (record { watch = s .watch; table = s .table; chart = chart }) c)) ls ≡ cond (eqb ((callAnswer (roomIn t) m c) .number) 0) (playCalls (roomIn t) ((callAnswer (roomIn t) m c) .state) (suc (suc line)) ls) (refused ((callAnswer (roomIn t) m c) .number) (suc line))
       go log.Malformed on = comes-refused r (s .table) 7 (line + 1) ls ∙ ap (refused 7) (add-one line)
       go (log.Open x) on = comes-refused r (s .table) 7 (line + 1) ls ∙ ap (refused 7) (add-one line)
-      go (log.Event k) on = on (ref.event k)
-      go (log.Clock x) on = on (ref.clock x)
-      go (log.Forget f) on = on (ref.forget f)
+      go (log.Event k) on = on (ref.event k) (eventStep chart (s .watch) (s .table) k) (event-call s k ∙ ap (λ c. watch.stepped c (eventStep c (s .watch) (s .table) k)) same)
+      go (log.Clock x) on = on (ref.clock x) (clockStep chart (s .watch) (s .table) x) (clock-call s x ∙ ap (λ c. watch.stepped c (clockStep c (s .watch) (s .table) x)) same)
+      go (log.Forget f) on = on (ref.forget f) (forgetStep chart (s .watch) (s .table) f) (forget-call s f ∙ ap (λ c. watch.stepped c (forgetStep c (s .watch) (s .table) f)) same)
 
 -- the log of a chart that a watch may use
 log-plays : (chart : Chart) → isUsable chart ≡ true → (n line : ℕ) (w : Watch) (t : List ℤ) (ls : List Line) → comesTo (progress Opening n line chart w t) ls ≡ playLog (operatorsOf chart) (roomIn t) (suc line) ls
@@ -132,13 +133,13 @@ log-plays chart usable n line w t (l ∷ ls) = go (callIn l)
     r : Run
     r = progress Opening n line chart w t .run
 
-    opens : (o : ℤ) (b : Bool) → isInstant o ≡ b → comesTo (stepped r (openingStep chart t o)) ls ≡ cond (eqb ((ref.opening o) .number) 0) (playCalls (operatorsOf chart) (roomIn t) ((ref.opening o) .state) (suc (suc line)) ls) (refused ((ref.opening o) .number) (suc line))
+    opens : (o : ℤ) (b : Bool) → isInstant o ≡ b → comesTo (stepped r (openingStep chart t o)) ls ≡ cond (eqb ((ref.opening (operatorsOf chart) o) .number) 0) (playCalls (roomIn t) ((ref.opening (operatorsOf chart) o) .state) (suc (suc line)) ls) (refused ((ref.opening (operatorsOf chart) o) .number) (suc line))
     opens o true e =
         let h = opening-taken chart t o usable e in
-        ap (λ x. comesTo (stepped r x) ls) h ∙ ap (λ x. comesTo (progress Calls 0 (line + 1) chart (x .answer .watch) (x .table)) ls) (sym h) ∙ ap (λ s. comesTo (progress Calls 0 (line + 1) chart (holding (s .watch)) (s .table)) ls) (sym (after-none chart (opened chart t o))) ∙ calls-play chart usable t o e 0 (line + 1) [] ls ∙ rw (run-none (ref.step (operatorsOf chart) (roomIn t)) ((ref.opening o) .state), opening-accepted o e, add-one line)
-    opens o false e = ap (λ x. comesTo (stepped r x) ls) (opening-8 chart t o usable e) ∙ comes-refused r t 8 (line + 1) ls ∙ rw (opening-refused o e, add-one line)
+        ap (λ x. comesTo (stepped r x) ls) h ∙ ap (λ x. comesTo (progress Calls 0 (line + 1) chart (x .answer .watch) (x .table)) ls) (sym h) ∙ ap (λ s. comesTo (progress Calls 0 (line + 1) chart (holding (s .watch)) (s .table)) ls) (sym (run-none call (opened chart t o))) ∙ calls-play chart usable t o e 0 (line + 1) [] (ap (λ s. s .chart) (run-none call (opened chart t o))) ls ∙ rw (run-none (ref.step readingOf (roomIn t)) ((ref.opening (operatorsOf chart) o) .state), opening-accepted (operatorsOf chart) o e, add-one line)
+    opens o false e = ap (λ x. comesTo (stepped r x) ls) (opening-8 chart t o usable e) ∙ comes-refused r t 8 (line + 1) ls ∙ rw (opening-refused (operatorsOf chart) o e, add-one line)
 
-    go : (c : Call) → comesTo (openingLine r t c) ls ≡ cond (eqb ((openingAnswer c) .number) 0) (playCalls (operatorsOf chart) (roomIn t) ((openingAnswer c) .state) (suc (suc line)) ls) (refused ((openingAnswer c) .number) (suc line))
+    go : (c : Call) → comesTo (openingLine r t c) ls ≡ cond (eqb ((openingAnswer (operatorsOf chart) c) .number) 0) (playCalls (roomIn t) ((openingAnswer (operatorsOf chart) c) .state) (suc (suc line)) ls) (refused ((openingAnswer (operatorsOf chart) c) .number) (suc line))
     go (log.Open o) = opens o (isInstant o) refl
     go log.Malformed = comes-refused r t 7 (line + 1) ls ∙ ap (refused 7) (add-one line)
     go (log.Event k) = comes-refused r t 7 (line + 1) ls ∙ ap (refused 7) (add-one line)

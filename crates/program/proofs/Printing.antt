@@ -1,7 +1,7 @@
 -- What a finished run prints is what it comes to.
 use Prim.Native.Nat.{ℕ, _+_, _*_, _≤_}
 use native.Mathlib.Omega.{arith}
-use mathlib.Core.Path.{_≡_, refl, sym, ap, _∙_, subst}
+use mathlib.Core.Path.{_≡_, refl, sym, ap, ap₂, _∙_, subst}
 use mathlib.Core.Bool.{Bool, true, false, cond}
 use mathlib.Core.List.{List, [], _∷_, _++_}
 use lib.Dec.{eqb}
@@ -19,12 +19,14 @@ use Rattle.model.proofs.Theorems as model
 use Rattle.table.specs.Operators.{operatorsOf}
 use Rattle.table.specs.Table.{rowsIn, roomIn}
 use Rattle.watch.specs.Steps.{Step, openingStep}
-use Rattle.watch.specs.Histories.{State, state, call}
-use Rattle.watch.proofs.History.{bounds, history-shown}
+use Rattle.watch.specs.Histories as histories
+use Rattle.watch.specs.Histories.{State, call}
+use Rattle.state.specs.declared.WatchState.{WatchState}
+use Rattle.watch.proofs.History.{bounds, played, reached, history-shown}
 use Rattle.table.proofs.Lower.{usable-lower}
 use Rattle.table.proofs.Tables as tables
-use Rattle.watch.proofs.Shown as watch
-use Rattle.watch.proofs.Steps.{opening-length}
+use Rattle.watch.proofs.Shown.{Shows}
+use Rattle.watch.proofs.Steps.{opening-length, event-call, clock-call, forget-call}
 use Rattle.log.specs.declared.Call.{Call}
 use Rattle.log.specs.declared.Call.the-variants as log
 use Rattle.printing.specs.Listing.{listingText, tableText, refusalText, refusalLength, refusalOutput, listingFits, refusalFits}
@@ -48,28 +50,28 @@ module _ (chart : Chart) (usable : isUsable chart ≡ true) (s : State) (h : OfH
 
   -- the rows that it shows
   abbrev m : rows.Watch
-  m = ref.run (rows.watchStep (operatorsOf chart) room) ((rows.watchOpening (h .opened)) .state) (h .calls)
+  m = reached chart usable (h .before) (h .opened) (h .inRange) (h .calls)
 
-  is-shown : s ≡ watch.stateOf room tail m
-  is-shown = h .same ∙ (history-shown chart usable (h .before) (h .opened) (h .inRange) (h .calls)) .0
+  is-shown : Shows room tail s m
+  is-shown = subst (λ x. Shows room tail x m) (sym (h .same)) ((history-shown chart usable (h .before) (h .opened) (h .inRange) (h .calls)) .0)
 
   few : length (m .rows) ≤ room
-  few = (bounds (operatorsOf chart) room m (holds→ _ (model.consistent (operatorsOf chart) (usable-lower chart usable) room (h .opened) (h .calls)))) .few
+  few = (bounds room m (holds→ _ (model.consistent (played chart usable (h .before) (h .opened) (h .inRange) (h .calls))))) .few
 
   same-length : length (s .table) ≡ length (h .before)
   same-length =
       let g = capacity-fits (length (h .before)) in
-      ap (λ x. length (x .table)) is-shown ∙ tables.length-table room tail (m .rows) few ∙ omega (arith, g, length-drop (room * 5) (h .before))
+      ap length (is-shown .table) ∙ tables.length-table room tail (m .rows) few ∙ omega (arith, g, length-drop (room * 5) (h .before))
 
   rows-few : s .watch .rows ≤ roomIn (s .table)
-  rows-few = subst (λ n. s .watch .rows ≤ capacity n) (sym same-length) (subst (λ x. x .watch .rows ≤ room) (sym is-shown) few)
+  rows-few = subst (λ n. s .watch .rows ≤ capacity n) (sym same-length) (subst (λ w. w .rows ≤ room) (sym (is-shown .watch)) few)
 
   -- its listing, from the table's numbers and from its rows
   pub same-listing : tableText (s .watch .rows) (s .table) ≡ listingText (rowsIn (s .watch .rows) (s .table))
   same-listing =
-      ap (λ x. tableText (x .watch .rows) (x .table)) is-shown
+      ap₂ (λ w u. tableText (w .rows) u) (is-shown .watch) (is-shown .table)
       ∙ table-listing (m .rows) _
-      ∙ ap listingText (sym (ap (λ x. rowsIn (x .watch .rows) (x .table)) is-shown ∙ tables.rows-flat (m .rows) _))
+      ∙ ap listingText (sym (ap₂ (λ w u. rowsIn (w .rows) u) (is-shown .watch) (is-shown .table) ∙ tables.rows-flat (m .rows) _))
 
   pub listing-fits : (out : List ℕ) → 40 + roomIn (s .table) * 81 ≤ length out → listingFits (s .watch .rows) (s .table) out ≡ true
   listing-fits out g =
@@ -86,19 +88,22 @@ stepped-table r x = go (eqb (x .answer .refusal) 0)
     go true = refl
     go false = refl
 
-call-length : (chart : Chart) → isUsable chart ≡ true → (s : State) → OfHistory chart s → (c : Call) → length ((callStep chart s c) .table) ≡ length (s .table)
+call-length : (chart : Chart) → isUsable chart ≡ true → (w : WatchState) (t : List ℤ) → OfHistory chart (record { watch = w; table = t; chart = chart }) → (c : Call) → length ((callStep (record { watch = w; table = t; chart = chart }) c) .table) ≡ length t
 unfolding callStep
-call-length chart usable s h c = go c
+call-length chart usable w t h c = go c
   where
-    one : (d : ref.Call) → length ((call chart s d) .table) ≡ length (s .table)
-    one d = same-length chart usable (state (call chart s d)) (history-on chart s d h) ∙ ap length (history-before chart s d h) ∙ sym (same-length chart usable s h)
+    s : State
+    s = record { watch = w; table = t; chart = chart }
 
-    go : (k : Call) → length ((callStep chart s k) .table) ≡ length (s .table)
+    one : (d : histories.Call) (x : Step) → call s d ≡ histories.stepped chart x → length (x .table) ≡ length t
+    one d x e = same-length chart usable ((histories.stepped chart x) .state) (history-on chart s d x e h) ∙ ap length (history-before chart s d x e h) ∙ sym (same-length chart usable s h)
+
+    go : (k : Call) → length ((callStep s k) .table) ≡ length t
     go log.Malformed = refl
     go (log.Open o) = refl
-    go (log.Event k) = one (ref.event k)
-    go (log.Clock x) = one (ref.clock x)
-    go (log.Forget f) = one (ref.forget f)
+    go (log.Event k) = one (ref.event k) _ (event-call s k)
+    go (log.Clock x) = one (ref.clock x) _ (clock-call s x)
+    go (log.Forget f) = one (ref.forget f) _ (forget-call s f)
 
 line-length : (p : Progress) (l : Line) → Reached p → length (afterLine p l .table) ≡ length (p .table)
 unfolding lineStep Holds openingLine
@@ -117,7 +122,7 @@ line-length p l h = go (p .run .stage) h
     go : (s : Stage) → Holds s r (p .table) → length (lineStep s r (p .table) l .table) ≡ length (p .table)
     go Entries k = refl
     go Opening k = opens (callIn l)
-    go Calls k = ap length (stepped-table r (callStep (r .chart) (stateOf r (p .table)) (callIn l))) ∙ call-length (r .chart) (k .1) (stateOf r (p .table)) (k .2) (callIn l)
+    go Calls k = ap length (stepped-table r (callStep (stateOf r (p .table)) (callIn l))) ∙ call-length (r .chart) (k .1) (r .watch .state) (p .table) (k .2) (callIn l)
     go Refused k = refl
 
 pub lines-length : (p : Progress) (ls : List Line) → Reached p → length (afterLines p ls .table) ≡ length (p .table)

@@ -18,11 +18,13 @@ use Rattle.chart.specs.declared.ChartAnswer.{ChartAnswer}
 use Rattle.chart.proofs.Lines.{read-none, read-taken, lines-good, lines-more}
 use Rattle.chart.proofs.Usable.{Good, good-none, good-usable, usable-few}
 use Rattle.model.specs.Reference as ref
-use Rattle.watch.specs.Steps.{Step, openingStep, refusedStep}
-use Rattle.watch.specs.Histories.{State, state, call, opened}
+use Rattle.watch.specs.Steps.{Step, openingStep, refusedStep, eventStep, clockStep, forgetStep}
+use Rattle.watch.specs.Histories as watch
+use Rattle.watch.specs.Histories.{State, call, opened}
 use Rattle.watch.specs.declared.Watch.{Watch}
 use Rattle.watch.proofs.Calls.{opening-8}
-use Rattle.watch.proofs.Steps.{after-none, after-more}
+use Rattle.model.proofs.ReferenceLaws.{run-none, run-more}
+use Rattle.watch.proofs.Steps.{event-call, clock-call, forget-call}
 use Rattle.log.specs.declared.Call.{Call}
 use Rattle.log.specs.declared.Call.the-variants as log
 use Rattle.program.specs.Outcomes.{callIn, isEmpty}
@@ -68,7 +70,7 @@ entries-on r t l h = go (isEmpty l)
     go false = more (eqb (a .refusal) 0) refl
 
 -- a step of the watch that ends in a history
-stepped-on : (r : Run) (x : Step) → isUsable (r .chart) ≡ true → (x .answer .refusal ≡ 0 → OfHistory (r .chart) (state x)) → Reached (stepped r x)
+stepped-on : (r : Run) (x : Step) → isUsable (r .chart) ≡ true → (x .answer .refusal ≡ 0 → OfHistory (r .chart) ((watch.stepped (r .chart) x) .state)) → Reached (stepped r x)
 unfolding Holds stepped nextRun refusedRun
 stepped-on r x usable h = go (eqb (x .answer .refusal) 0) refl
   where
@@ -80,34 +82,35 @@ opening-on : (r : Run) (t : List ℤ) (c : Call) → Holds Opening r t → Reach
 unfolding openingLine Holds refusedRun
 opening-on r t (log.Open o) usable = stepped-on r (openingStep (r .chart) t o) usable (λ z. go z (isInstant o) refl)
   where
-    go : (openingStep (r .chart) t o) .answer .refusal ≡ 0 → (b : Bool) → isInstant o ≡ b → OfHistory (r .chart) (state (openingStep (r .chart) t o))
-    go z true e = record { before = t; opened = o; inRange = e; calls = []; same = sym (after-none (r .chart) (opened (r .chart) t o)) }
+    go : (openingStep (r .chart) t o) .answer .refusal ≡ 0 → (b : Bool) → isInstant o ≡ b → OfHistory (r .chart) ((watch.stepped (r .chart) (openingStep (r .chart) t o)) .state)
+    go z true e = record { before = t; opened = o; inRange = e; calls = []; same = sym (run-none call (opened (r .chart) t o)) }
     go z false e = absurd (let k : (openingStep (r .chart) t o) .answer .refusal ≡ 8 = ap (λ x. x .answer .refusal) (opening-8 (r .chart) t o usable e) in omega (arith, k, z))
 opening-on r t log.Malformed usable = tt
 opening-on r t (log.Event k) usable = tt
 opening-on r t (log.Clock x) usable = tt
 opening-on r t (log.Forget f) usable = tt
 
-pub history-on : (chart : Chart) (s : State) (c : ref.Call) → OfHistory chart s → OfHistory chart (state (call chart s c))
-history-on chart s c h = record {
+-- one call more, which leaves the chart: the step x
+pub history-on : (chart : Chart) (s : State) (c : watch.Call) (x : Step) → call s c ≡ watch.stepped chart x → OfHistory chart s → OfHistory chart ((watch.stepped chart x) .state)
+history-on chart s c x e h = record {
   before = h .before;
   opened = h .opened;
   inRange = h .inRange;
   calls = h .calls ++ c ∷ [];
-  same = ap (λ x. state (call chart x c)) (h .same) ∙ sym (after-more chart (opened chart (h .before) (h .opened)) (h .calls) c);
+  same = sym (ap (λ y. y .state) e) ∙ ap (λ y. (call y c) .state) (h .same) ∙ sym (run-more call (opened chart (h .before) (h .opened)) (h .calls) c);
 }
 
-pub history-before : (chart : Chart) (s : State) (c : ref.Call) (h : OfHistory chart s) → history-on chart s c h .before ≡ h .before
+pub history-before : (chart : Chart) (s : State) (c : watch.Call) (x : Step) (e : call s c ≡ watch.stepped chart x) (h : OfHistory chart s) → history-on chart s c x e h .before ≡ h .before
 unfolding history-on
-history-before chart s c h = refl
+history-before chart s c x e h = refl
 
-calls-on : (r : Run) (t : List ℤ) (c : Call) → Holds Calls r t → Reached (stepped r (callStep (r .chart) (stateOf r t) c))
+calls-on : (r : Run) (t : List ℤ) (c : Call) → Holds Calls r t → Reached (stepped r (callStep (stateOf r t) c))
 unfolding callStep Holds
 calls-on r t log.Malformed (z, usable, h) = stepped-on r (refusedStep 7 (r .watch .state) t) usable (λ y. h)
 calls-on r t (log.Open x) (z, usable, h) = stepped-on r (refusedStep 7 (r .watch .state) t) usable (λ y. h)
-calls-on r t (log.Event k) (z, usable, h) = stepped-on r (call (r .chart) (stateOf r t) (ref.event k)) usable (λ y. history-on (r .chart) (stateOf r t) (ref.event k) h)
-calls-on r t (log.Clock x) (z, usable, h) = stepped-on r (call (r .chart) (stateOf r t) (ref.clock x)) usable (λ y. history-on (r .chart) (stateOf r t) (ref.clock x) h)
-calls-on r t (log.Forget f) (z, usable, h) = stepped-on r (call (r .chart) (stateOf r t) (ref.forget f)) usable (λ y. history-on (r .chart) (stateOf r t) (ref.forget f) h)
+calls-on r t (log.Event k) (z, usable, h) = stepped-on r (eventStep (r .chart) (r .watch .state) t k) usable (λ y. history-on (r .chart) (stateOf r t) (ref.event k) _ (event-call (stateOf r t) k) h)
+calls-on r t (log.Clock x) (z, usable, h) = stepped-on r (clockStep (r .chart) (r .watch .state) t x) usable (λ y. history-on (r .chart) (stateOf r t) (ref.clock x) _ (clock-call (stateOf r t) x) h)
+calls-on r t (log.Forget f) (z, usable, h) = stepped-on r (forgetStep (r .chart) (r .watch .state) t f) usable (λ y. history-on (r .chart) (stateOf r t) (ref.forget f) _ (forget-call (stateOf r t) f) h)
 
 pub line-on : (p : Progress) (l : Line) → Reached p → Reached (afterLine p l)
 unfolding lineStep
@@ -190,7 +193,7 @@ line-counted p l = go (p .run .stage)
     go : (s : Stage) → Counted r (lineStep s r (p .table) l .run)
     go Entries = either-counted r (isEmpty l) (chartEnd r) (entryRun r a) (either-counted r (eqb (r .chart .count) 0) (refusedRun r 1 1) (nextRun r Opening (r .chart) (r .watch)) (refused-counted r 1 1) (next-counted r Opening (r .chart) (r .watch))) (either-counted r (eqb (a .refusal) 0) (nextRun r Entries (a .chart) (r .watch)) (refusedRun r (a .refusal) (a .line)) (next-counted r Entries (a .chart) (r .watch)) (refused-counted r (a .refusal) (a .line)))
     go Opening = opening-counted r (p .table) (callIn l)
-    go Calls = step-counted r (callStep (r .chart) (stateOf r (p .table)) (callIn l))
+    go Calls = step-counted r (callStep (stateOf r (p .table)) (callIn l))
     go Refused = λ z. omega arith
 
 parts-counted : (p : Progress) (s : List ℕ) (ss : List (List ℕ)) → isRefused (afterParts p (s ∷ ss) .run .stage) ≡ false → afterParts p (s ∷ ss) .run .line ≤ p .run .line + length ss

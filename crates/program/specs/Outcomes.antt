@@ -29,35 +29,39 @@ pub data Outcome : Type 0 where
 unfoldable pub callIn : Line → Call
 callIn l = cond (isRecord l) (callOf (l .bytes)) log.Malformed
 
--- the first log line: its own refusal, or "7 ... `open` missing"
-unfoldable pub openingAnswer : Call → Answer Model
-openingAnswer (log.Open o) = model.opening o
-openingAnswer log.Malformed = model.refused ((answerOf log.Malformed) .refusal) (model.model (pos 0) firstFloor [])
-openingAnswer (log.Event k) = model.refused 7 (model.model (pos 0) firstFloor [])
-openingAnswer (log.Clock x) = model.refused 7 (model.model (pos 0) firstFloor [])
-openingAnswer (log.Forget f) = model.refused 7 (model.model (pos 0) firstFloor [])
+-- a model of no entries, as a refused opening leaves it
+abbrev noModel : Model
+noModel = model.model (pos 0) firstFloor [] [] []
 
--- every other log line: its own refusal, "7 ... `open` ... repeated", or what the reference model answers
-unfoldable pub callAnswer : List Operator → ℕ → Model → Call → Answer Model
-callAnswer ops room m log.Malformed = model.refused ((answerOf log.Malformed) .refusal) m
-callAnswer ops room m (log.Open o) = model.refused 7 m
-callAnswer ops room m (log.Event k) = model.step ops room m (model.event k)
-callAnswer ops room m (log.Clock x) = model.step ops room m (model.clock x)
-callAnswer ops room m (log.Forget f) = model.step ops room m (model.forget f)
+-- the first log line: its own refusal, or "7 ... `open` missing"
+unfoldable pub openingAnswer : List Operator → Call → Answer Model
+openingAnswer ops (log.Open o) = model.opening ops o
+openingAnswer ops log.Malformed = model.refused ((answerOf log.Malformed) .refusal) noModel
+openingAnswer ops (log.Event k) = model.refused 7 noModel
+openingAnswer ops (log.Clock x) = model.refused 7 noModel
+openingAnswer ops (log.Forget f) = model.refused 7 noModel
+
+-- every other log line: its own refusal, "7 ... `open` ... repeated", or what the reference model answers. No line of a log adds entries.
+unfoldable pub callAnswer : ℕ → Model → Call → Answer Model
+callAnswer room m log.Malformed = model.refused ((answerOf log.Malformed) .refusal) m
+callAnswer room m (log.Open o) = model.refused 7 m
+callAnswer room m (log.Event k) = model.eventStep m k
+callAnswer room m (log.Clock x) = model.clockStep room m x
+callAnswer room m (log.Forget f) = model.forgetStep m f
 
 -- the log lines after the opening, from line n of the input on; the first refusal ends the run
-unfoldable pub playCalls : List Operator → ℕ → Model → ℕ → List Line → Outcome
-playCalls ops room m n [] = listed (rowsOf ops m)
-playCalls ops room m n (l ∷ ls) =
-    let a = callAnswer ops room m (callIn l) in
-    cond (eqb (a .number) 0) (playCalls ops room (a .state) (suc n) ls) (refused (a .number) n)
+unfoldable pub playCalls : ℕ → Model → ℕ → List Line → Outcome
+playCalls room m n [] = listed (rowsOf m)
+playCalls room m n (l ∷ ls) =
+    let a = callAnswer room m (callIn l) in
+    cond (eqb (a .number) 0) (playCalls room (a .state) (suc n) ls) (refused (a .number) n)
 
 -- the log, from line n of the input on, which is one past the last where there is no log line
 unfoldable pub playLog : List Operator → ℕ → ℕ → List Line → Outcome
 playLog ops room n [] = refused 7 n
 playLog ops room n (l ∷ ls) =
-    let a = openingAnswer (callIn l) in
-    cond (eqb (a .number) 0) (playCalls ops room (a .state) (suc n) ls) (refused (a .number) n)
+    let a = openingAnswer ops (callIn l) in
+    cond (eqb (a .number) 0) (playCalls room (a .state) (suc n) ls) (refused (a .number) n)
 
 -- "The first empty line ends the chart."
 abbrev pub isEmpty : Line → Bool

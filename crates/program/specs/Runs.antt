@@ -13,10 +13,10 @@ use Rattle.interval.specs.Instants.{isInstant}
 use Rattle.chart.specs.Charts.{isUsable, readLines, noEntries, takenChart}
 use Rattle.chart.specs.declared.Chart.{Chart}
 use Rattle.chart.specs.declared.ChartAnswer.{ChartAnswer}
-use Rattle.model.specs.Reference as model
 use Rattle.table.specs.Table.{rowsIn}
-use Rattle.watch.specs.Steps.{Step, openingStep, refusedStep, emptyWatch}
-use Rattle.watch.specs.Histories.{State, call}
+use Rattle.watch.specs.Steps.{Step, openingStep, eventStep, clockStep, forgetStep, refusedStep, emptyWatch}
+use Rattle.watch.specs.Histories as watch
+use Rattle.watch.specs.Histories.{State}
 use Rattle.watch.specs.Demands.{history}
 use Rattle.watch.specs.declared.Watch.{Watch}
 use Rattle.log.specs.declared.Call.{Call}
@@ -76,14 +76,14 @@ openingLine r t (log.Forget f) = refusedAt r t 7 (r .line + 1)
 
 -- every other log line
 abbrev pub stateOf : Run → List ℤ → State
-stateOf r t = record { watch = r .watch .state; table = t }
+stateOf r t = record { watch = r .watch .state; table = t; chart = r .chart }
 
-unfoldable pub callStep : Chart → State → Call → Step
-callStep c s log.Malformed = refusedStep 7 (s .watch) (s .table)
-callStep c s (log.Open o) = refusedStep 7 (s .watch) (s .table)
-callStep c s (log.Event k) = call c s (model.event k)
-callStep c s (log.Clock x) = call c s (model.clock x)
-callStep c s (log.Forget f) = call c s (model.forget f)
+unfoldable pub callStep : State → Call → Step
+callStep s log.Malformed = refusedStep 7 (s .watch) (s .table)
+callStep s (log.Open o) = refusedStep 7 (s .watch) (s .table)
+callStep s (log.Event k) = eventStep (s .chart) (s .watch) (s .table) k
+callStep s (log.Clock x) = clockStep (s .chart) (s .watch) (s .table) x
+callStep s (log.Forget f) = forgetStep (s .chart) (s .watch) (s .table) f
 
 -- a number of the log as an i32: itself where it is an instant, otherwise one that is none
 unfoldable pub narrowed : ℤ → ℤ
@@ -91,7 +91,7 @@ narrowed x = cond (isInstant x) x (pos 2000000000)
 
 -- a line that lacks its byte 10 or has over 64 bytes
 unfoldable pub unformedRun : Stage → Run → Run
-unformedRun Entries r = refusedRun r (cond (eqb (r .chart .count) 32) 2 3) (r .chart .count + 1)
+unformedRun Entries r = refusedRun r (cond (leb 32 (r .chart .count)) 2 3) (r .chart .count + 1)
 unformedRun Opening r = refusedRun r 7 (r .line + 1)
 unformedRun Calls r = refusedRun r 7 (r .line + 1)
 unformedRun Refused r = r
@@ -100,7 +100,7 @@ unformedRun Refused r = r
 unfoldable pub lineStep : Stage → Run → List ℤ → Line → Progress
 lineStep Entries r t l = record { run = cond (isEmpty l) (chartEnd r) (entryRun r (readLines (r .chart) (l ∷ []))); table = t }
 lineStep Opening r t l = openingLine r t (callIn l)
-lineStep Calls r t l = stepped r (callStep (r .chart) (stateOf r t) (callIn l))
+lineStep Calls r t l = stepped r (callStep (stateOf r t) (callIn l))
 lineStep Refused r t l = record { run = r; table = t }
 
 abbrev pub afterLine : Progress → Line → Progress
@@ -131,12 +131,12 @@ isRefused Refused = true
 unfoldable pub keptOf : Progress → List ℕ → List ℕ
 keptOf p s = cond (isRefused (p .run .stage)) [] (lastPart (split 10 s))
 
--- watch and table are those of a history: an opening at some instant in range, and some calls
+-- watch, table and chart are those of a history: an opening of the chart at some instant in range, and some calls
 pub record OfHistory (c : Chart) (s : State) : Type 0 where
   pub before : List ℤ
   pub opened : ℤ
   pub inRange : isInstant opened ≡ true
-  pub calls : List model.Call
+  pub calls : List watch.Call
   pub same : s ≡ history c before opened calls
 
 -- What holds of a run at each stage: its chart was read from some lines; a watch may use it; watch and table are those of a history.

@@ -3,7 +3,7 @@ ghost use mathlib.Core.Path.{_≡_};
 ghost use mathlib.Core.Bool.{true, false, cond};
 ghost use mathlib.Core.List.{_∷_, []};
 ghost use Prim.Native.Nat.{_+_, _≤_, _<_, _^_};
-ghost use lib.Dec.{eqb, leb};
+ghost use lib.Dec.{leb};
 ghost use lib.ListN.{length, drop};
 ghost use Rattle.text.specs.Text.{whole, lineSize};
 ghost use Rattle.chart.specs.Charts.{isUsable, readLines};
@@ -202,12 +202,12 @@ fn unformed_line(run: Run) -> Run
 // Such a line in the chart, where a 33rd line comes first. Constant time.
 fn unformed_entry(run: Run) -> Run
     requires { ⌜ run .chart .count ≤ 32 ⌝ }
-    ensures { λ r. ⌜ r ≡ refusedRun run (cond (eqb (run .chart .count) 32) 2 3) (run .chart .count + 1) ⌝ }
+    ensures { λ r. ⌜ r ≡ refusedRun run (cond (leb 32 (run .chart .count)) 2 3) (run .chart .count + 1) ⌝ }
 {
     let chart = run.chart;
     let n = chart.count;
     let line = (n + 1) as u64;
-    if n == 32 {
+    if 32 <= n {
         return refused_run(run, 2, line);
     }
     refused_run(run, 3, line)
@@ -372,33 +372,43 @@ fn open_at(run: Run, table: &mut [i32], o: i64) -> Run
     next_run(run, Stage::Calls, chart, watch)
 }
 
-// Plays whole lines of the log after its opening. One look at each byte, the reading of the call, and the call.
+// Plays whole lines of the log after its opening. One look at each byte, the reading of the call, and the call. No line of a log alters the entries:
+// they are left where they are, so that their 32 instants are not copied for each line.
 fn feed_calls(run: Run, table: &mut [i32], s: &[u8]) -> Fed
     requires { ⌜ Reached (record { run = run; table = now table }) × (run .stage ≡ Stage.Calls) × (run .line + length (now s) < 2 ^ 64) ⌝ }
     ensures { λ r. ⌜ Read (record { run = run; table = now (table .entry) }) (record { run = r .run; table = now (table .exit) }) (r .used) (now (s .entry)) × (isRefused (r .run .stage) ≡ false → lineSize (drop (r .used) (now (s .entry))) ≡ 0) ⌝ }
 {
     let chart = run.chart;
-    let mut watch = run.watch;
+    let watch = run.watch;
+    let mut state = watch.state;
     let mut line = run.line;
     let mut at: usize = 0;
     let mut size = text::line_size(s);
     while size != 0 {
         let end = at + size - 1;
-        let a = call_line(chart, watch, table, &s[at..end]);
+        let a = call_line(chart, Watch { state }, table, &s[at..end]);
         let refusal = a.refusal;
         if refusal != 0 {
             return Fed {
-                run: stopped_run(chart, watch, refusal, line + 1),
+                run: stopped_run(chart, Watch { state }, refusal, line + 1),
                 used: at,
             };
         }
-        watch = a.watch;
+        let answered = a.watch;
+        let next = answered.state;
+        let codes = next.codes;
+        state.instant = next.instant;
+        state.floor = next.floor;
+        state.events = next.events;
+        state.rows = next.rows;
+        state.pending = next.pending;
+        state.codes = codes;
         line += 1;
         at += size;
         size = text::line_size(&s[at..]);
     }
     Fed {
-        run: calls_run(chart, watch, line),
+        run: calls_run(chart, Watch { state }, line),
         used: at,
     }
 }
@@ -430,7 +440,7 @@ fn stopped_run(chart: Chart, watch: Watch, refusal: u32, line: u64) -> Run
 // A line of the log after its opening, without its byte 10, on a watch and table that are consistent.
 fn call_line(chart: Chart, watch: Watch, table: &mut [i32], s: &[u8]) -> Answer
     requires { ⌜ checkNumber chart (watch .state) (now table) ≡ 0 ⌝ }
-    ensures { λ r. ⌜ record { answer = r; table = now (table .exit) } ≡ callStep chart (record { watch = watch .state; table = now (table .entry) }) (callOf (now (s .entry))) ⌝ }
+    ensures { λ r. ⌜ record { answer = r; table = now (table .exit) } ≡ callStep (record { watch = watch .state; table = now (table .entry); chart = chart }) (callOf (now (s .entry))) ⌝ }
 {
     let c = log::read_call(s);
     match c {

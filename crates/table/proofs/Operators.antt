@@ -1,18 +1,23 @@
 -- Laws of a chart value's operators: what the operator of each kind is, and what is looked up of an entry's.
-use Prim.Native.Nat.{ℕ, zero, suc, _+_, _≤_, _<_}
+use Prim.Native.Nat.{ℕ, zero, suc, _+_, _-_, _≤_, _<_}
 use native.Mathlib.Omega.{arith}
 use native.Mathlib.Nat.{add-zero, zero-add}
-use mathlib.Core.Path.{_≡_, refl, sym, ap, _∙_}
-use mathlib.Core.List.{List, [], _∷_, map}
-use lib.ListN.{length}
+use mathlib.Core.Path.{_≡_, refl, sym, ap, subst, _∙_}
+use mathlib.Core.Logic.{⊎-elim}
+use mathlib.Core.List.{List, [], _∷_, _++_, map}
+use lib.ListN.{length, getD, length-append, length-map, List·getD-append, List·getD-map}
+use lib.Seq.{getD-append-add, ext-getD}
+use Rattle.text.proofs.Laws.{lt-or-le}
 use Rattle.chart.specs.Operators.{kindOf, shapeOf}
-use Rattle.chart.specs.Charts.{entryAt}
+use Rattle.chart.specs.Records.{entry}
+use Rattle.chart.specs.Charts.{entryAt, withEntries}
 use Rattle.chart.specs.declared.Chart.{Chart}
 use Rattle.chart.specs.declared.Entry.{Entry}
 use Rattle.chart.specs.declared.operator.Kind.{Kind}
 use Rattle.chart.specs.declared.operator.Kind.the-variants.{Event, Or, Pair, Absence, Length, After, Nearest, Unknown}
 use Rattle.chart.specs.declared.operator.Shape.{Shape}
 use Rattle.chart.specs.declared.operator.Shape.the-variants.{Leaf, Single, Arms, Double, Delayed}
+use Rattle.chart.proofs.Entries.{added-count, entry-kept, entry-added}
 use Rattle.model.specs.Lists.{numbers}
 use Rattle.model.specs.Recognitions.{Operator, event, related, or, absence, lasting, after, nearest}
 use Rattle.table.specs.Operators.{operatorBy, entryOperator, operatorsOf, arityOf}
@@ -104,3 +109,40 @@ module _ {A : Type 0} (look : List Operator → ℕ → A) (of : Operator → A)
 
   pub operator-past : (n : ℕ) → chart .count ≤ n → look (operatorsOf chart) n ≡ past
   operator-past n h = ap (λ ops. look ops n) (operators-all chart) ∙ from-past 0 (chart .count) n h
+
+-- entries added to a chart: its own operators stay, and the added ones follow
+module _ (c : Chart) (es : List Entry) where
+  abbrev past : Operator
+  past = entryOperator (entry 0 0 0)
+
+  at-place : (d : Chart) (n : ℕ) → n < d .count → getD (operatorsOf d) n past ≡ entryOperator (entryAt d n)
+  at-place d = operator-at (λ ops n. getD ops n past) (λ op. op) past (record { none = λ n. refl; first = λ op ops. refl; later = λ op ops n. refl }) d
+
+  own-place : (i : ℕ) → i < c .count → getD (operatorsOf (withEntries c es)) i past ≡ getD (operatorsOf c ++ map entryOperator es) i past
+  own-place i h =
+      at-place (withEntries c es) i (omega (arith, added-count c es))
+      ∙ ap entryOperator (entry-kept c es i h)
+      ∙ sym (at-place c i h)
+      ∙ sym (List·getD-append (operatorsOf c) (map entryOperator es) past i (omega (arith, length-operators c)))
+
+  added-place : (i : ℕ) → i < length es → getD (operatorsOf (withEntries c es)) (c .count + i) past ≡ getD (operatorsOf c ++ map entryOperator es) (c .count + i) past
+  added-place i h =
+      at-place (withEntries c es) (c .count + i) (omega (arith, added-count c es))
+      ∙ ap entryOperator (entry-added c es i h)
+      ∙ sym (List·getD-map entryOperator es i (entry 0 0 0))
+      ∙ sym (getD-append-add (operatorsOf c) (map entryOperator es) i past)
+      ∙ ap (λ n. getD (operatorsOf c ++ map entryOperator es) (n + i) past) (length-operators c)
+
+  pub operators-added : operatorsOf (withEntries c es) ≡ operatorsOf c ++ map entryOperator es
+  operators-added = ext-getD past _ _ (length-operators (withEntries c es) ∙ lengths) at
+    where
+      lengths : (withEntries c es) .count ≡ length (operatorsOf c ++ map entryOperator es)
+      lengths = omega (arith, added-count c es, length-append (operatorsOf c) (map entryOperator es), length-operators c, length-map es entryOperator)
+
+      at : (i : ℕ) → i < length (operatorsOf (withEntries c es)) → getD (operatorsOf (withEntries c es)) i past ≡ getD (operatorsOf c ++ map entryOperator es) i past
+      at i h = ⊎-elim (own-place i) added (lt-or-le i (c .count))
+        where
+          added : c .count ≤ i → getD (operatorsOf (withEntries c es)) i past ≡ getD (operatorsOf c ++ map entryOperator es) i past
+          added g =
+              let k : c .count + (i - c .count) ≡ i = omega arith in
+              subst (λ n. getD (operatorsOf (withEntries c es)) n past ≡ getD (operatorsOf c ++ map entryOperator es) n past) k (added-place (i - c .count) (omega (arith, length-operators (withEntries c es), added-count c es)))

@@ -4,12 +4,14 @@ use Prim.Native.Nat.{ℕ, _-_}
 use mathlib.Core.List.{List, _++_, map}
 use lib.ListN.{replicate}
 use Rattle.chart.specs.Operators.{kindOf}
-use Rattle.chart.specs.Charts.{entryAt}
+use Rattle.text.specs.Text.{lines}
+use Rattle.chart.specs.Charts.{entryAt, entriesOf, addedVerdict}
 use Rattle.chart.specs.declared.Chart.{Chart}
 use Rattle.chart.specs.declared.Entry.{Entry}
 use Rattle.chart.specs.declared.operator.Kind.{Kind}
 use Rattle.chart.specs.declared.operator.Kind.the-variants.{Event, Or, Pair, Absence, Length, After, Nearest, Unknown}
 use Rattle.model.specs.Lists.{numbers}
+use Rattle.model.specs.Reference.{Reading}
 use Rattle.model.specs.Recognitions.{Operator, event, related, or, absence, lasting, after, nearest}
 
 -- An unknown code stands in no chart that a watch may use; it is read as a delay here only to have a value.
@@ -29,6 +31,11 @@ entryOperator e = operatorBy (kindOf (e .op)) (e .a) (e .b)
 -- "A chart has 1 to 32 entries, numbered from 0"
 unfoldable pub operatorsOf : Chart → List Operator
 operatorsOf c = map (λ n. entryOperator (entryAt c n)) (numbers 0 (c .count))
+
+-- What the chart reader says of added lines, the first of which asks for entry n, as the reference model has it (request N13): its number, and the operators
+-- that the lines have
+unfoldable pub readingOf : ℕ → List ℕ → Reading
+readingOf n s = record { number = (addedVerdict n (lines s)) .refusal; operators = map entryOperator (entriesOf n (lines s)) }
 
 -- The column "left, right" of the operator table: how many references a row of an operator is written with; of the two of an `or` one is none.
 -- A row of `after` has "left r, right -1" (request N1); of cut and change "Left and right are r and s" (request N5)

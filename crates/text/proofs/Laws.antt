@@ -6,7 +6,7 @@ use native.Mathlib.Numerals.{add-one}
 use mathlib.Core.Path.{_≡_, refl, sym, ap, ap₂, _∙_}
 use mathlib.Core.Bool.{Bool, true, false, cond}
 use mathlib.Core.Logic.{_⊎_, inl, inr, ⊎-elim}
-use mathlib.Core.List.{List, [], _∷_, _++_, append-nil}
+use mathlib.Core.List.{List, [], _∷_, _++_, append-nil, append-assoc}
 use borrow.Author.Tests.{eq-eqb, ne-eqb, eqb-true, lt-ltb, le-ltb, ltb-true, ltb-false}
 use lib.Dec.{eqb, ltb}
 use lib.ListN.{length, take, drop, getD, drop-of-length-le, length-take, length-drop}
@@ -184,6 +184,19 @@ module _ (x : ℕ) where
 pub lines-parts : (s : List ℕ) → lines s ≡ ended (split 10 s)
 unfolding lines
 lines-parts s = refl
+
+-- a text that ends with byte 10 has its lines, and what follows it has its own
+ended-append : (p : List ℕ) (ps : List (List ℕ)) (q : List ℕ) (qs : List (List ℕ)) → ended (glued (p ∷ ps) ([] ∷ q ∷ qs)) ≡ ended (glued (p ∷ ps) ([] ∷ [] ∷ [])) ++ ended (q ∷ qs)
+ended-append p [] q qs = refl
+ended-append p (r ∷ []) q qs = ap (λ ls. whole p ∷ ls) (ended-append r [] q qs)
+ended-append p (r ∷ u ∷ us) q qs = ap (λ ls. whole p ∷ ls) (ended-append r (u ∷ us) q qs)
+
+pub lines-append : (s t : List ℕ) → lines ((s ++ 10 ∷ []) ++ t) ≡ lines (s ++ 10 ∷ []) ++ lines t
+unfolding lines split
+lines-append s t = go (split-some 10 s) (split-some 10 t)
+  where
+    go : (p : List ℕ) × (ps : List (List ℕ)) × (split 10 s ≡ p ∷ ps) → (q : List ℕ) × (qs : List (List ℕ)) × (split 10 t ≡ q ∷ qs) → ended (split 10 ((s ++ 10 ∷ []) ++ t)) ≡ ended (split 10 (s ++ 10 ∷ [])) ++ ended (split 10 t)
+    go (p, ps, e) (q, qs, d) = rw (append-assoc s (10 ∷ []) t, split-append 10 s (10 ∷ t), split-append 10 s (10 ∷ []), e, d) (ended-append p ps q qs)
 
 -- the first byte 10 ends the first line
 pub lines-cut : (s : List ℕ) → indexOf 10 s < length s → lines s ≡ whole (take (indexOf 10 s) s) ∷ lines (drop (suc (indexOf 10 s)) s)

@@ -1,24 +1,24 @@
 -- The steps of the calls, by the tests that lead to each answer.
-use Prim.Native.Nat.{ℕ, _*_, _≤_, _<_}
+use Prim.Native.Nat.{ℕ, _*_, _-_, _≤_, _<_}
 use native.Mathlib.Omega.{arith}
 use mathlib.Core.Path.{_≡_, refl, sym, ap, _∙_}
 use mathlib.Core.Bool.{Bool, true, false, cond}
-use borrow.Author.Tests.{leb-true, leb-false, lt-ltb, le-ltb}
+use borrow.Author.Tests.{eq-eqb, ne-eqb, leb-true, leb-false, lt-ltb, le-ltb}
 use lib.Dec.{leb}
 use lib.ListN.{length}
 use mathlib.Core.List.{List}
 use lib.IntN.{ℤ, pos}
 use Rattle.interval.specs.Instants.{isInstant, isMarkRefused, isForgetRefused}
-use Rattle.chart.specs.Charts.{isUsable}
+use Rattle.chart.specs.Charts.{isUsable, readAdded}
 use Rattle.chart.specs.declared.Chart.{Chart}
 use Rattle.table.specs.Table.{zeroed, roomIn}
 use Rattle.consistency.proofs.Theorems as consistency
-use Rattle.state.specs.State.{emptyState, marked, raised}
+use Rattle.state.specs.State.{emptyState, openState, extended, marked, raised}
 use Rattle.consistency.specs.Consistency.{areConsistent}
 use Rattle.closing.specs.Closed.{closedRows, closedNumber, closedTable}
 use Rattle.closing.proofs.Entries.{number-fits, number-over}
 use Rattle.forgetting.specs.Forgetting.{keptRows, forgottenTable}
-use Rattle.watch.specs.Steps.{Step, refusedStep, takenStep, openingStep, checkNumber, checked, clockOwn, forgetOwn}
+use Rattle.watch.specs.Steps.{Step, refusedStep, takenStep, openingStep, checkNumber, checked, clockOwn, forgetOwn, addition, addOwn, addStep}
 use Rattle.state.specs.declared.WatchState.{WatchState}
 
 module _ (chart : Chart) (t : List ℤ) (o : ℤ) where
@@ -30,7 +30,7 @@ module _ (chart : Chart) (t : List ℤ) (o : ℤ) where
   unfolding openingStep
   opening-8 e d = rw (e, d)
 
-  pub opening-taken : isUsable chart ≡ true → isInstant o ≡ true → openingStep chart t o ≡ takenStep (emptyState o) (zeroed 0 (roomIn t * 5) t)
+  pub opening-taken : isUsable chart ≡ true → isInstant o ≡ true → openingStep chart t o ≡ takenStep (openState (chart .count) o) (zeroed 0 (roomIn t * 5) t)
   unfolding openingStep
   opening-taken e d = rw (e, d)
 
@@ -133,3 +133,21 @@ module _ (chart : Chart) (w : WatchState) (t : List ℤ) (f : ℤ) where
   pub forget-taken : barred ≡ false → forgetOwn chart w t f ≡ takenStep (raised w f (length (keptRows chart w t f))) (forgottenTable chart w t f)
   unfolding forgetOwn
   forget-taken e = rw e
+
+-- an addition
+module _ (chart : Chart) (w : WatchState) (t : List ℤ) (s : List ℕ) where
+  pub add-passed : checkNumber chart w t ≡ 0 → addStep chart w t s ≡ addOwn chart w s
+  unfolding addStep
+  add-passed z = rw (eq-eqb (checkNumber chart w t) 0 z)
+
+  pub add-refused : (checkNumber chart w t ≡ 0 → ⊥) → addStep chart w t s ≡ addition (checkNumber chart w t) 0 w chart
+  unfolding addStep
+  add-refused d = rw (ne-eqb (checkNumber chart w t) 0 d)
+
+  pub lines-refused : ((readAdded chart s) .refusal ≡ 0 → ⊥) → addOwn chart w s ≡ addition ((readAdded chart s) .refusal) ((readAdded chart s) .line) w chart
+  unfolding addOwn
+  lines-refused d = rw (ne-eqb ((readAdded chart s) .refusal) 0 d)
+
+  pub lines-taken : (readAdded chart s) .refusal ≡ 0 → addOwn chart w s ≡ addition 0 0 (extended w ((readAdded chart s) .chart .count - chart .count)) ((readAdded chart s) .chart)
+  unfolding addOwn
+  lines-taken z = rw (eq-eqb ((readAdded chart s) .refusal) 0 z)

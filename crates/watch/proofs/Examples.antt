@@ -14,11 +14,12 @@ use Rattle.text.specs.Quoted.{bytes, tabbed, unended, text}
 use Rattle.decimal.specs.Spelling.{isDigit, allDigits, valueFrom, hasLeadingZero, isNumber, numberOf, withoutMinus, withMinus, instantOf, digitsWithin, spelledNumber, spelled}
 use Rattle.chart.specs.Operators.{words, sameBytes, placeOf, operatorOf, edgesOf, relationOf, lengthTestOf, kindOf, inRange, areLower}
 use Rattle.chart.specs.Records.{entry, withCode, eventLine, withOperands, secondOperand, operandsLine, byOperator, operatorLine, numbered, parsedLine, checkedEntry, checkedLine, answerTo}
-use Rattle.chart.specs.Charts.{noEntries, withEntry, refusedChart, readLines, orNoLine, readChart, entryFits, allBelow, isUsable}
+use Rattle.chart.specs.Charts.{noEntries, withEntry, refusedChart, readLines, orNoLine, readChart, faultIn, entriesOf, addedVerdict, withEntries, readAdded, entryFits, allBelow, isUsable}
 use Rattle.chart.specs.declared.Chart.{Chart}
 use Rattle.chart.specs.declared.Entry.{Entry}
 use Rattle.model.specs.Capacity.{capacity}
-use Rattle.model.specs.Reference.{Call, event, clock, forget}
+use Rattle.model.specs.Reference.{event, clock, forget}
+use Rattle.model.specs.Consistency.{isRising}
 use Rattle.model.specs.RowSteps.{extendRows, closeRows, closeInstants, keepRows, forgetRows}
 use Rattle.table.specs.Table.{rowsIn, putRow, putRows, areZeros, zeroed}
 use Rattle.table.specs.Operators.{operatorBy, operatorsOf, arityOf}
@@ -28,16 +29,26 @@ use Rattle.consistency.proofs.Examples.{chartOf, table, minus}
 use Rattle.tree.specs.Tree.{rowBytes, referenceBytes, treeWithin, treeBytes}
 use Rattle.closing.specs.Closed.{closedRows}
 use Rattle.forgetting.specs.Forgetting.{keptRows, forgottenTable}
-use Rattle.watch.specs.Steps.{Step, TreeStep, openingStep, checkNumber, checked, eventOwn, eventStep, clockOwn, clockStep, forgetOwn, forgetStep, endPart, endRows, treeOwn, treeStep}
-use Rattle.watch.specs.Histories.{call}
+use Rattle.watch.specs.Steps.{Step, TreeStep, openingStep, checkNumber, checked, eventOwn, eventStep, clockOwn, clockStep, forgetOwn, forgetStep, addOwn, addStep, endPart, endRows, treeOwn, treeStep}
+use Rattle.watch.specs.Histories as histories
+use Rattle.watch.specs.Histories.{Call, call}
 use Rattle.state.specs.declared.WatchState.{WatchState}
+use Rattle.watch.specs.declared.Addition.{Addition}
 use Rattle.watch.specs.declared.Part.{Part}
 
--- a watch: open instant, floor, count of events, count of rows, and the codes of the pending events
+-- a watch: open instant, floor, count of events, count of rows, and the codes of the pending events; it has no entries
 abbrev watch : ℤ → ℤ → ℕ → ℕ → List ℕ → WatchState
-watch o f events rows ks = record { instant = o; floor = f; events = events; rows = rows; pending = length ks; codes = ks ++ replicate (64 - length ks) 0 }
+watch o f events rows ks = record { instant = o; floor = f; events = events; rows = rows; pending = length ks; codes = ks ++ replicate (64 - length ks) 0; entries = 0; since = replicate 32 (pos 0) }
 
--- "an empty watch ...: floor -1,000,000,000, counts 0, no events"
+-- the same with entries that count from these instants
+abbrev counting : List ℤ → WatchState → WatchState
+counting since w = record { instant = w .instant; floor = w .floor; events = w .events; rows = w .rows; pending = w .pending; codes = w .codes; entries = length since; since = since ++ replicate (32 - length since) (pos 0) }
+
+-- the same with the chart's entries, which count from "the opening floor"
+abbrev on : Chart → WatchState → WatchState
+on chart w = counting (replicate (chart .count) (minus 1000000000)) w
+
+-- "an empty watch ...: floor -1,000,000,000, counts 0, no events"; "an empty watch has none" of the entries
 abbrev emptyAt : ℤ → WatchState
 emptyAt o = watch o (minus 1000000000) 0 0 []
 
@@ -75,11 +86,13 @@ charts =
     of 33 (replicate 32 (entry 0 1 0)) 14 ∷ []
   where
     of : ℕ → List Entry → ℕ → Check
-    of count es n = check (record { count = count; entries = es ++ replicate (32 - length es) (entry 0 0 0) }) (emptyAt (pos 0)) [] n
+    of count es n =
+        let chart : Chart = record { count = count; entries = es ++ replicate (32 - length es) (entry 0 0 0) } in
+        check chart (on chart (emptyAt (pos 0))) [] n
 
 -- "Calls on a watch check 14, 13": the chart has no entry, and the floor is above the open instant
 abbrev firstChart : List Check
-firstChart = check noEntry (watch (pos 0) (pos 1) 0 0 []) [] 14 ∷ check oneEntry (watch (pos 0) (pos 1) 0 0 []) [] 13 ∷ []
+firstChart = check noEntry (watch (pos 0) (pos 1) 0 0 []) [] 14 ∷ check oneEntry (on oneEntry (watch (pos 0) (pos 1) 0 0 [])) [] 13 ∷ []
 
 -- "13 watch or table out of joint": the cases of crate `consistency`. The codes of pending events are not looked at.
 abbrev outOfJoint : List Check
@@ -92,7 +105,7 @@ pub checkCases : List Check
 checkCases = charts ++ firstChart ++ outOfJoint
 
 pub checks : map (λ (c : Check). checkNumber (c .chart) (c .watch) (c .table)) checkCases ≡ map (λ (c : Check). c .number) checkCases
-unfolding checkCases consistency.cases isInstant isLength isRelated hasLength split lines bytes tabbed unended text isDigit allDigits valueFrom hasLeadingZero isNumber numberOf withoutMinus withMinus instantOf words sameBytes placeOf operatorOf edgesOf relationOf lengthTestOf kindOf inRange areLower withCode eventLine withOperands secondOperand operandsLine byOperator operatorLine numbered parsedLine checkedEntry checkedLine answerTo noEntries withEntry refusedChart readLines orNoLine readChart entryFits allBelow isUsable capacity rowsIn areZeros operatorBy operatorsOf isWatchInRange isTableRowConsistent areConsistent checkNumber
+unfolding checkCases consistency.cases isInstant firstFloor isLength isRelated hasLength split lines bytes tabbed unended text isDigit allDigits valueFrom hasLeadingZero isNumber numberOf withoutMinus withMinus instantOf words sameBytes placeOf operatorOf edgesOf relationOf lengthTestOf kindOf inRange areLower withCode eventLine withOperands secondOperand operandsLine byOperator operatorLine numbered parsedLine checkedEntry checkedLine answerTo noEntries withEntry refusedChart readLines orNoLine readChart entryFits allBelow isUsable capacity rowsIn areZeros operatorBy operatorsOf isRising isWatchInRange isTableRowConsistent areConsistent checkNumber
 checks = refl
 
 -- What a call hands back: its number, the watch and the table after it.
@@ -106,6 +119,9 @@ outcome n w t = record { number = n; watch = w; table = t }
 
 abbrev pub ofStep : Step → Outcome
 ofStep s = outcome (s .answer .refusal) (s .answer .watch .state) (s .table)
+
+abbrev ofCall : histories.Called → Outcome
+ofCall s = outcome (s .number) (s .state .watch) (s .state .table)
 
 -- Openings: chart, table and instant, and what is handed back.
 pub record Opening : Type 0 where
@@ -127,9 +143,9 @@ cleared = table ("0 0 0 0 0" ∷ "0 0 0 0 0" ∷ "7 8 9" ∷ [])
 pub openingCases : List Opening
 openingCases =
     -- "Opening a watch fills all rows with zeros"; "Numbers after the last row the table can hold are never altered."
-    opens oneEntry used (pos 5) (outcome 0 (emptyAt (pos 5)) cleared) ∷
-    opens oneEntry used (minus 1000000000) (outcome 0 (emptyAt (minus 1000000000)) cleared) ∷
-    opens oneEntry used (pos 1000000000) (outcome 0 (emptyAt (pos 1000000000)) cleared) ∷
+    opens oneEntry used (pos 5) (outcome 0 (on oneEntry (emptyAt (pos 5))) cleared) ∷
+    opens oneEntry used (minus 1000000000) (outcome 0 (on oneEntry (emptyAt (minus 1000000000))) cleared) ∷
+    opens oneEntry used (pos 1000000000) (outcome 0 (on oneEntry (emptyAt (pos 1000000000))) cleared) ∷
     -- "A refused opening (14, then 8) returns an empty watch at instant 0: floor -1,000,000,000, counts 0, no events."
     opens oneEntry used (minus 1000000001) (outcome 8 (emptyAt (pos 0)) used) ∷
     opens oneEntry used (pos 1000000001) (outcome 8 (emptyAt (pos 0)) used) ∷
@@ -149,11 +165,11 @@ pub record Called : Type 0 where
   pub expected : Outcome
 
 abbrev takes : Chart → WatchState → List ℤ → Call → WatchState → List ℤ → Called
-takes chart w t c w' t' = record { chart = chart; watch = w; table = t; call = c; expected = outcome 0 w' t' }
+takes chart w t c w' t' = record { chart = chart; watch = on chart w; table = t; call = c; expected = outcome 0 (on chart w') t' }
 
 -- "Every other refusal from 8 on returns the watch given. After a refusal all lent memory holds what it held before."
 abbrev refuses : Chart → WatchState → List ℤ → Call → ℕ → Called
-refuses chart w t c n = record { chart = chart; watch = w; table = t; call = c; expected = outcome n w t }
+refuses chart w t c n = record { chart = chart; watch = on chart w; table = t; call = c; expected = outcome n (on chart w) t }
 
 -- "Calls on a watch check 14, 13, then their own": the floor is above the open instant; there are as many events and as many of the open instant as may
 -- be, and the mark and the forget are out of range
@@ -254,12 +270,84 @@ forgets =
     refuses inSequence (five (pos 1) 5) (table fiveRows) (forget (pos 7)) 11 ∷
     refuses inSequence (five (pos 1) 5) (table fiveRows) (forget (minus 1000000001)) 11 ∷ []
 
-pub callCases : List Called
-callCases = firstChecks ++ eventCalls ++ markOrder ++ marks ++ jumps ++ forgets
+-- "A recognition belongs to the table if it starts no earlier than that and the floor" (request N13): two entries, `seq` of the event with itself, of which the
+-- second counts from 3. Events came at 1 and 3, and one comes at 5: the second gets the pair that starts at 3 alone. "fullness ... use[s] the entry's own
+-- instant": there is room for these rows and no more. A row that starts before its entry's instant is out of joint.
+abbrev laterEntries : List Called
+laterEntries =
+    at (table (twoRows ++ "1 0 1 1 3" ∷ replicate 4 "0 0 0 0 0")) (outcome 0 (after 7) (table (old ++ "0 3 -1 5 5" ∷ "1 1 3 3 5" ∷ "1 0 3 1 5" ∷ "2 1 3 3 5" ∷ []))) ∷
+    at (table (old ++ replicate 3 "0 0 0 0 0")) (outcome 12 before (table (old ++ replicate 3 "0 0 0 0 0"))) ∷
+    at (table ("0 1 -1 1 1" ∷ "0 2 -1 3 3" ∷ "2 0 1 1 3" ∷ replicate 4 "0 0 0 0 0")) (outcome 13 before (table ("0 1 -1 1 1" ∷ "0 2 -1 3 3" ∷ "2 0 1 1 3" ∷ replicate 4 "0 0 0 0 0"))) ∷ []
+  where
+    chart : Chart
+    chart = chartOf ("0 event 1" ∷ "1 seq 0 0" ∷ "2 seq 0 0" ∷ [])
 
-pub calls : map (λ (c : Called). ofStep (call (c .chart) (record { watch = c .watch; table = c .table }) (c .call))) callCases ≡ map (λ (c : Called). c .expected) callCases
-unfolding callCases isInstant isLength isMarkRefused isForgetRefused isRelated isForbidding hasLength split lines bytes tabbed unended text isDigit allDigits valueFrom hasLeadingZero isNumber numberOf withoutMinus withMinus instantOf words sameBytes placeOf operatorOf lengthTestOf kindOf inRange areLower withCode eventLine withOperands secondOperand operandsLine byOperator operatorLine numbered parsedLine checkedEntry checkedLine answerTo noEntries withEntry refusedChart readLines orNoLine readChart entryFits allBelow isUsable capacity extendRows closeRows closeInstants keepRows forgetRows rowsIn putRow putRows areZeros zeroed operatorBy operatorsOf isWatchInRange isTableRowConsistent areConsistent checked eventOwn eventStep closedRows clockOwn clockStep keptRows forgottenTable forgetOwn forgetStep call
+    old : List String
+    old = twoRows ++ "1 0 1 1 3" ∷ []
+
+    since : WatchState → WatchState
+    since w = counting (minus 1000000000 ∷ minus 1000000000 ∷ pos 3 ∷ []) w
+
+    before : WatchState
+    before = since (watch (pos 5) (pos 0) 3 3 (1 ∷ []))
+
+    after : ℕ → WatchState
+    after n = since (watch (pos 6) (pos 0) 3 n [])
+
+    at : List ℤ → Outcome → Called
+    at t expected = record { chart = chart; watch = before; table = t; call = clock (pos 6); expected = expected }
+
+pub callCases : List Called
+callCases = firstChecks ++ eventCalls ++ markOrder ++ marks ++ jumps ++ forgets ++ laterEntries
+
+pub calls : map (λ (c : Called). ofCall (call (record { watch = c .watch; table = c .table; chart = c .chart }) (c .call))) callCases ≡ map (λ (c : Called). c .expected) callCases
+unfolding callCases isInstant firstFloor isLength isMarkRefused isForgetRefused isRelated isForbidding hasLength split lines bytes tabbed unended text isDigit allDigits valueFrom hasLeadingZero isNumber numberOf withoutMinus withMinus instantOf words sameBytes placeOf operatorOf lengthTestOf kindOf inRange areLower withCode eventLine withOperands secondOperand operandsLine byOperator operatorLine numbered parsedLine checkedEntry checkedLine answerTo noEntries withEntry refusedChart readLines orNoLine readChart entryFits allBelow isUsable capacity extendRows closeRows closeInstants keepRows forgetRows rowsIn putRow putRows areZeros zeroed operatorBy operatorsOf isRising isWatchInRange isTableRowConsistent areConsistent checked eventOwn eventStep closedRows clockOwn clockStep keptRows forgottenTable forgetOwn forgetStep call
 calls = refl
+
+-- Additions (request N13): chart, watch, table and lines, and the whole answer.
+pub record Adding : Type 0 where
+  pub chart : Chart
+  pub watch : WatchState
+  pub table : List ℤ
+  pub lines : List ℕ
+  pub expected : Addition
+
+abbrev answer : ℕ → ℕ → WatchState → Chart → Addition
+answer n line w chart = record { refusal = n; line = line; watch = record { state = w }; chart = chart }
+
+-- "After 14 and 13, whose line is 0, bad lines, or none, give the chart reader's number and line, counted from the first added line, ..., and the old chart
+-- and watch stay."
+abbrev turnsBack : Chart → WatchState → List String → ℕ → ℕ → Adding
+turnsBack chart w ls n line = record { chart = chart; watch = w; table = []; lines = text ls; expected = answer n line w chart }
+
+-- "numbered on from the last entry"; "the open instant for added ones"
+abbrev adds : List String → List ℤ → List String → List ℤ → Adding
+adds before since ls since' = record { chart = chartOf before; watch = counting since now; table = []; lines = text ls; expected = answer 0 0 (counting since' now) (chartOf (before ++ ls)) }
+  where
+    now : WatchState
+    now = watch (pos 5) (pos 2) 9 0 (1 ∷ 7 ∷ [])
+
+abbrev thirtyTwo : Chart
+thirtyTwo = record { count = 32; entries = replicate 32 (entry 0 1 0) }
+
+pub addingCases : List Adding
+addingCases =
+    adds ("0 event 1" ∷ []) (minus 1000000000 ∷ []) ("1 event 2" ∷ "2 seq 0 1" ∷ []) (minus 1000000000 ∷ pos 5 ∷ pos 5 ∷ []) ∷
+    adds ("0 event 1" ∷ "1 or 0 0" ∷ []) (minus 1000000000 ∷ pos 3 ∷ []) ("2 after 1 4" ∷ []) (minus 1000000000 ∷ pos 3 ∷ pos 5 ∷ []) ∷
+    -- "1 at line 1 for none"; the second line bad, and the chart's own line before it is not counted
+    turnsBack oneEntry (on oneEntry (emptyAt (pos 5))) [] 1 1 ∷
+    turnsBack oneEntry (on oneEntry (emptyAt (pos 5))) ("1 event 2" ∷ "1 event 2" ∷ []) 4 2 ∷
+    turnsBack oneEntry (on oneEntry (emptyAt (pos 5))) ("0 event 2" ∷ []) 4 1 ∷
+    turnsBack thirtyTwo (on thirtyTwo (emptyAt (pos 5))) ("bad" ∷ []) 2 1 ∷
+    -- 14 before 13 before the lines; "A watch with another number of entries than the chart is out of joint"
+    turnsBack noEntry (watch (pos 0) (pos 1) 0 0 []) ("bad" ∷ []) 14 0 ∷
+    turnsBack oneEntry (on oneEntry (watch (pos 0) (pos 1) 0 0 [])) ("bad" ∷ []) 13 0 ∷
+    turnsBack oneEntry (counting (minus 1000000000 ∷ minus 1000000000 ∷ []) (emptyAt (pos 5))) ("1 event 2" ∷ []) 13 0 ∷
+    turnsBack oneEntry (emptyAt (pos 5)) ("1 event 2" ∷ []) 13 0 ∷ []
+
+pub additions : map (λ (c : Adding). addStep (c .chart) (c .watch) (c .table) (c .lines)) addingCases ≡ map (λ (c : Adding). c .expected) addingCases
+unfolding addingCases isInstant firstFloor isLength split lines bytes tabbed unended text isDigit allDigits valueFrom hasLeadingZero isNumber numberOf withoutMinus withMinus instantOf words sameBytes placeOf operatorOf edgesOf relationOf lengthTestOf kindOf inRange areLower withCode eventLine withOperands secondOperand operandsLine byOperator operatorLine numbered parsedLine checkedEntry checkedLine answerTo noEntries withEntry refusedChart readLines orNoLine readChart faultIn entriesOf addedVerdict withEntries readAdded entryFits allBelow isUsable capacity rowsIn areZeros operatorBy operatorsOf isRising isWatchInRange isTableRowConsistent areConsistent checkNumber addOwn addStep
+additions = refl
 
 -- Trees of the five rows: chart, watch, row and output lent; the number, the length and the output after it.
 pub record Written : Type 0 where
@@ -281,7 +369,7 @@ pub record Tree : Type 0 where
   pub expected : Written
 
 abbrev tree : Chart → WatchState → ℕ → String → Written → Tree
-tree chart w i out expected = record { chart = chart; watch = w; row = i; out = bytes out; expected = expected }
+tree chart w i out expected = record { chart = chart; watch = on chart w; row = i; out = bytes out; expected = expected }
 
 pub treeCases : List Tree
 treeCases =
@@ -298,7 +386,7 @@ treeCases =
     tree noEntry (five (pos 7) 5) 5 "" (written 14 0 "") ∷ []
 
 pub trees : map (λ (c : Tree). ofTree (treeStep (c .chart) (c .watch) (table fiveRows) (c .row) (c .out))) treeCases ≡ map (λ (c : Tree). c .expected) treeCases
-unfolding treeCases isInstant isRelated split lines bytes tabbed unended text isDigit allDigits valueFrom hasLeadingZero isNumber numberOf withoutMinus withMinus instantOf digitsWithin spelledNumber spelled words sameBytes placeOf operatorOf kindOf inRange areLower withCode eventLine withOperands secondOperand operandsLine byOperator operatorLine numbered parsedLine checkedEntry checkedLine answerTo noEntries withEntry refusedChart readLines orNoLine readChart entryFits allBelow isUsable capacity rowsIn areZeros operatorBy operatorsOf isWatchInRange isTableRowConsistent areConsistent arityOf rowBytes referenceBytes treeWithin treeBytes checkNumber treeOwn treeStep
+unfolding treeCases isInstant firstFloor isRelated split lines bytes tabbed unended text isDigit allDigits valueFrom hasLeadingZero isNumber numberOf withoutMinus withMinus instantOf digitsWithin spelledNumber spelled words sameBytes placeOf operatorOf kindOf inRange areLower withCode eventLine withOperands secondOperand operandsLine byOperator operatorLine numbered parsedLine checkedEntry checkedLine answerTo noEntries withEntry refusedChart readLines orNoLine readChart entryFits allBelow isUsable capacity rowsIn areZeros operatorBy operatorsOf isRising isWatchInRange isTableRowConsistent areConsistent arityOf rowBytes referenceBytes treeWithin treeBytes checkNumber treeOwn treeStep
 trees = refl
 
 -- Reads of the five rows: chart, watch and end; the first row of the part, how many rows it has, and the part.
@@ -316,7 +404,7 @@ pub record Read : Type 0 where
   pub expected : Found
 
 abbrev reads : Chart → WatchState → ℤ → Found → Read
-reads chart w e expected = record { chart = chart; watch = w; end = e; expected = expected }
+reads chart w e expected = record { chart = chart; watch = on chart w; end = e; expected = expected }
 
 pub readCases : List Read
 readCases =
@@ -330,5 +418,5 @@ readCases =
     reads noEntry (five (pos 0) 5) (pos 5) (found 0 0 []) ∷ []
 
 pub parts : map (λ (c : Read). record { rows = endRows (c .chart) (c .watch) (table fiveRows) (c .end); part = endPart (c .chart) (c .watch) (table fiveRows) (c .end) }) readCases ≡ map (λ (c : Read). c .expected) readCases
-unfolding readCases isInstant isRelated split lines bytes tabbed unended text isDigit allDigits valueFrom hasLeadingZero isNumber numberOf withoutMinus withMinus instantOf words sameBytes placeOf operatorOf kindOf inRange areLower withCode eventLine withOperands secondOperand operandsLine byOperator operatorLine numbered parsedLine checkedEntry checkedLine answerTo noEntries withEntry refusedChart readLines orNoLine readChart entryFits allBelow isUsable capacity rowsIn areZeros operatorBy operatorsOf isWatchInRange isTableRowConsistent areConsistent checkNumber endPart endRows
+unfolding readCases isInstant firstFloor isRelated split lines bytes tabbed unended text isDigit allDigits valueFrom hasLeadingZero isNumber numberOf withoutMinus withMinus instantOf words sameBytes placeOf operatorOf kindOf inRange areLower withCode eventLine withOperands secondOperand operandsLine byOperator operatorLine numbered parsedLine checkedEntry checkedLine answerTo noEntries withEntry refusedChart readLines orNoLine readChart entryFits allBelow isUsable capacity rowsIn areZeros operatorBy operatorsOf isRising isWatchInRange isTableRowConsistent areConsistent checkNumber endPart endRows
 parts = refl

@@ -1,53 +1,37 @@
 -- Laws of the calls on a watch and of histories that other crates go by.
 use Prim.Native.Nat.{ℕ, _*_}
 use native.Mathlib.Omega.{arith}
-use mathlib.Core.Path.{_≡_, refl, ap}
+use mathlib.Core.Path.{_≡_, refl}
 use mathlib.Core.Bool.{Bool, true, false, cond}
-use mathlib.Core.List.{List, [], _∷_, _++_}
+use mathlib.Core.List.{List}
 use lib.IntN.{ℤ, pos}
 use lib.ListN.{length}
 use Rattle.interval.specs.Instants.{isInstant}
 use Rattle.chart.specs.Charts.{isUsable}
 use Rattle.chart.specs.declared.Chart.{Chart}
-use Rattle.model.specs.Reference.{Call, event, clock, forget}
+use Rattle.model.specs.Reference.{event, clock, forget}
 use Rattle.model.proofs.Capacity.{capacity-fits}
 use Rattle.table.specs.Table.{zeroed, roomIn}
 use Rattle.table.proofs.Laws.{length-zeroed}
-use Rattle.state.specs.State.{emptyState}
+use Rattle.state.specs.State.{emptyState, openState}
 use Rattle.watch.specs.Steps.{refusedStep, takenStep, openingStep, checkNumber, eventOwn, eventStep, clockOwn, clockStep, forgetOwn, forgetStep}
-use Rattle.watch.specs.Histories.{State, state, call, after, answers}
+use Rattle.watch.specs.Histories.{State, stepped, call}
 use Rattle.state.specs.declared.WatchState.{WatchState}
 use Rattle.watch.proofs.Calls.{check-passed}
 
-module _ (chart : Chart) (s : State) where
+module _ (s : State) where
   -- which step a call is
-  pub event-call : (k : ℕ) → call chart s (event k) ≡ eventStep chart (s .watch) (s .table) k
+  pub event-call : (k : ℕ) → call s (event k) ≡ stepped (s .chart) (eventStep (s .chart) (s .watch) (s .table) k)
   unfolding call
   event-call k = refl
 
-  pub clock-call : (x : ℤ) → call chart s (clock x) ≡ clockStep chart (s .watch) (s .table) x
+  pub clock-call : (x : ℤ) → call s (clock x) ≡ stepped (s .chart) (clockStep (s .chart) (s .watch) (s .table) x)
   unfolding call
   clock-call x = refl
 
-  pub forget-call : (f : ℤ) → call chart s (forget f) ≡ forgetStep chart (s .watch) (s .table) f
+  pub forget-call : (f : ℤ) → call s (forget f) ≡ stepped (s .chart) (forgetStep (s .chart) (s .watch) (s .table) f)
   unfolding call
   forget-call f = refl
-
-  pub after-none : after chart s [] ≡ s
-  unfolding after
-  after-none = refl
-
--- one call more at the end of a history
-module _ (chart : Chart) where
-  pub after-more : (s : State) (cs : List Call) (c : Call) → after chart s (cs ++ c ∷ []) ≡ state (call chart (after chart s cs) c)
-  unfolding after
-  after-more s [] c = refl
-  after-more s (d ∷ cs) c = after-more (state (call chart s d)) cs c
-
-  pub answers-more : (s : State) (cs : List Call) (c : Call) → answers chart s (cs ++ c ∷ []) ≡ answers chart s cs ++ (call chart (after chart s cs) c) .answer .refusal ∷ []
-  unfolding answers after
-  answers-more s [] c = refl
-  answers-more s (d ∷ cs) c = ap (_∷_ ((call chart s d) .answer .refusal)) (answers-more (state (call chart s d)) cs c)
 
 -- the calls on a consistent watch and table
 module _ (chart : Chart) (w : WatchState) (t : List ℤ) (z : checkNumber chart w t ≡ 0) where
@@ -68,7 +52,7 @@ pub opening-length : (chart : Chart) (t : List ℤ) (o : ℤ) → length ((openi
 unfolding openingStep
 opening-length chart t o = go (isUsable chart) (isInstant o)
   where
-    go : (a b : Bool) → length ((cond a (cond b (takenStep (emptyState o) (zeroed 0 (roomIn t * 5) t)) (refusedStep 8 (emptyState (pos 0)) t)) (refusedStep 14 (emptyState (pos 0)) t)) .table) ≡ length t
+    go : (a b : Bool) → length ((cond a (cond b (takenStep (openState (chart .count) o) (zeroed 0 (roomIn t * 5) t)) (refusedStep 8 (emptyState (pos 0)) t)) (refusedStep 14 (emptyState (pos 0)) t)) .table) ≡ length t
     go true true = length-zeroed 0 (roomIn t * 5) t (omega arith) (omega (arith, capacity-fits (length t)))
     go true false = refl
     go false b = refl

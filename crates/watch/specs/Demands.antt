@@ -3,61 +3,67 @@
 use Prim.Native.Nat.{ℕ, _*_, _-_, _≤_}
 use mathlib.Core.Path.{_≡_}
 use mathlib.Core.Bool.{Bool, true, false, not, _&&_}
-use mathlib.Core.Logic.{_↔_}
+use mathlib.Core.Logic.{_⊎_, _↔_}
 use mathlib.Core.List.{List, [], _∷_, _++_, map}
 use lib.Dec.{T, eqb}
 use lib.IntN.{ℤ, pos}
 use lib.ListN.{length, take, drop, replicate}
-use lib.Signed.{ltZ}
+use lib.Signed.{leZ, ltZ}
 use Rattle.interval.specs.Instants.{isInstant, eqZ}
-use Rattle.chart.specs.Charts.{isUsable, noEntries, addLine, readChart}
+use Rattle.chart.specs.Charts.{isUsable, noEntries, addLine, readChart, readAdded}
 use Rattle.chart.specs.declared.Chart.{Chart}
 use Rattle.chart.specs.declared.ChartAnswer.{ChartAnswer}
 use Rattle.model.specs.Lists.{keep}
-use Rattle.model.specs.Recognitions.{Recognition, endOf}
-use Rattle.model.specs.Order.{before, listing, Row, asRows}
-use Rattle.model.specs.Reference.{Model, Call, opening, step, run, numbersOf, rowsOf, isAt}
+use Rattle.model.specs.Recognitions.{Recognition, entryOf, startOf, endOf}
+use Rattle.model.specs.Order.{before, sinceOf, listing, asRows}
+use Rattle.model.specs.Reference.{Model, opening, step, run, numbersOf, rowsOf, isAt}
 use Rattle.model.specs.Statements.{_∈_, Sorted, IsRecognition, Reads}
 use Rattle.model.specs.Reference as ref
 use Rattle.table.specs.Table.{rowsIn, flat, roomIn, tableOf}
-use Rattle.table.specs.Operators.{operatorsOf}
+use Rattle.table.specs.Operators.{operatorsOf, readingOf}
 use Rattle.tree.specs.Tree.{recognitionBytes}
-use Rattle.watch.specs.Steps.{emptyWatch, openingStep, checkNumber, endPart, endRows, rowPart, takenTree, treeStep}
-use Rattle.watch.specs.Histories.{State, state, call, after, answers, opened}
+use Rattle.watch.specs.Steps.{emptyWatch, openingStep, checkNumber, addStep, endPart, endRows, rowPart, takenTree, treeStep}
+use Rattle.watch.specs.Histories.{Call, State, call, after, answers, opened}
 use Rattle.state.specs.declared.WatchState.{WatchState}
+use Rattle.watch.specs.declared.Addition.{Addition}
 
--- A history: an opening of this chart, table and instant, and then these calls. The watch and table after it; and the reference model, document 01's
+-- A history: an opening of this chart, table and instant, and then these calls. Watch, table and chart after it; and the reference model, document 01's
 -- book, which is fed the chart, the calls and the number of rows the table can hold.
 abbrev pub history : Chart → List ℤ → ℤ → List Call → State
-history chart t o calls = after chart (opened chart t o) calls
+history chart t o calls = after (opened chart t o) calls
 
 abbrev pub modelAfter : Chart → List ℤ → ℤ → List Call → Model
-modelAfter chart t o calls = run (step (operatorsOf chart) (roomIn t)) ((opening o) .state) calls
+modelAfter chart t o calls = run (step readingOf (roomIn t)) ((opening (operatorsOf chart) o) .state) calls
 
 -- the recognitions that the model's rows are written from, in the order of rows
-abbrev pub listed : Chart → Model → List Recognition
-listed chart m = listing (operatorsOf chart) (m .events) (m .floor) (m .openInstant)
+abbrev pub listed : Model → List Recognition
+listed m = listing (m .chart) (m .since) (m .events) (m .floor) (m .openInstant)
 
 -- "After every such list, the empty one too, the watch has the book's open instant, floor, count of events, number of rows and events of the open
 -- instant in their order. The rows in use are the book's, number for number; the others are zeros; the numbers after the last row the table can
 -- hold are those from before the opening. A row's references, followed down, give its recognition's own tree." And a call for the tree of a row
--- writes that recognition's bytes, where the output lent is long enough: "Its length is handed back and the output past it stays."
-pub record FollowsModel (chart : Chart) (t : List ℤ) (s : State) (m : Model) : Type 0 where
+-- writes that recognition's bytes, where the output lent is long enough: "Its length is handed back and the output past it stays." "The one chart of a history
+-- is the opened one with its additions", and the book "keeps each entry's instant as the watch does" (request N13): behind the entries' the watch has
+-- zeros.
+pub record FollowsModel (t : List ℤ) (s : State) (m : Model) : Type 0 where
   pub instant : s .watch .instant ≡ m .openInstant
   pub floor : s .watch .floor ≡ m .floor
+  pub chart : operatorsOf (s .chart) ≡ m .chart
+  pub entries : s .watch .entries ≡ length (m .chart)
+  pub since : s .watch .since ≡ m .since ++ replicate (32 - length (m .chart)) (pos 0)
   pub events : s .watch .events ≡ length (m .events)
-  pub rows : s .watch .rows ≡ length (rowsOf (operatorsOf chart) m)
+  pub rows : s .watch .rows ≡ length (rowsOf m)
   pub pending : take (s .watch .pending) (s .watch .codes) ≡ map (λ e. e .code) (keep (isAt (m .openInstant)) (m .events))
   pub pendingCount : s .watch .pending ≡ length (keep (isAt (m .openInstant)) (m .events))
-  pub table : s .table ≡ tableOf (roomIn t) (drop (roomIn t * 5) t) (rowsOf (operatorsOf chart) m)
-  pub trees : (us vs : List Recognition) (u : Recognition) → listed chart m ≡ us ++ u ∷ vs → Reads (rowsIn (s .watch .rows) (s .table)) (length us) u
-  pub bytes : (us vs : List Recognition) (u : Recognition) (out : List ℕ) → listed chart m ≡ us ++ u ∷ vs → length (recognitionBytes u) ≤ length out → treeStep chart (s .watch) (s .table) (length us) out ≡ takenTree (recognitionBytes u) out
+  pub table : s .table ≡ tableOf (roomIn t) (drop (roomIn t * 5) t) (rowsOf m)
+  pub trees : (us vs : List Recognition) (u : Recognition) → listed m ≡ us ++ u ∷ vs → Reads (rowsIn (s .watch .rows) (s .table)) (length us) u
+  pub bytes : (us vs : List Recognition) (u : Recognition) (out : List ℕ) → listed m ≡ us ++ u ∷ vs → length (recognitionBytes u) ≤ length out → treeStep (s .chart) (s .watch) (s .table) (length us) out ≡ takenTree (recognitionBytes u) out
 
 -- of a history: its opening is accepted, its state follows the model; "Each call was accepted, or refused with a number, as in the book."
 pub record HistoryFollows (chart : Chart) (t : List ℤ) (o : ℤ) (calls : List Call) : Type 0 where
   pub accepted : (openingStep chart t o) .answer .refusal ≡ 0
-  pub follows : FollowsModel chart t (history chart t o calls) (modelAfter chart t o calls)
-  pub numbers : answers chart (opened chart t o) calls ≡ numbersOf (step (operatorsOf chart) (roomIn t)) ((opening o) .state) calls
+  pub follows : FollowsModel t (history chart t o calls) (modelAfter chart t o calls)
+  pub numbers : answers (opened chart t o) calls ≡ numbersOf (step readingOf (roomIn t)) ((opening (operatorsOf chart) o) .state) calls
 
 -- Demand 3, for every chart that 14 lets through, every table, every opening instant in range and every list of calls
 abbrev pub Demand3 : Type 0
@@ -72,14 +78,6 @@ openingNumbers = 14 ∷ 8 ∷ []
 abbrev pub checkNumbers : List ℕ
 checkNumbers = 14 ∷ 13 ∷ []
 
-abbrev pub callNumbers : Call → List ℕ
-callNumbers (ref.event k) = checkNumbers ++ 10 ∷ 9 ∷ []
-callNumbers (ref.clock x) = checkNumbers ++ 8 ∷ 12 ∷ []
-callNumbers (ref.forget f) = checkNumbers ++ 11 ∷ []
-
-abbrev pub treeNumbers : List ℕ
-treeNumbers = checkNumbers ++ 15 ∷ 16 ∷ []
-
 -- "1 no line; 2 a 33rd line; 3 a line not of the form above; 4 entry number not the next; 5 operand not lower; 6 code or length out of range";
 -- "in a line 2, 3, 4, 6, 5"
 abbrev pub lineNumbers : List ℕ
@@ -88,25 +86,41 @@ lineNumbers = 2 ∷ 3 ∷ 4 ∷ 6 ∷ 5 ∷ []
 abbrev pub chartNumbers : List ℕ
 chartNumbers = 1 ∷ lineNumbers
 
+abbrev pub callNumbers : Call → List ℕ
+callNumbers (ref.event k) = checkNumbers ++ 10 ∷ 9 ∷ []
+callNumbers (ref.clock x) = checkNumbers ++ 8 ∷ 12 ∷ []
+callNumbers (ref.forget f) = checkNumbers ++ 11 ∷ []
+callNumbers (ref.add lines) = checkNumbers ++ chartNumbers
+
+abbrev pub treeNumbers : List ℕ
+treeNumbers = checkNumbers ++ 15 ∷ 16 ∷ []
+
 -- "Returned: the number, the line counted from 1 (line 1 for refusal 1) and a chart of no entries"; "refusal number and line out, both 0 for a chart
--- taken"
-pub record ChartAnswered (numbers : List ℕ) (a : ChartAnswer) : Type 0 where
+-- taken"; of added lines "the old chart" (request N13): `kept` is the chart that a refusal hands back
+pub record ChartAnswered (numbers : List ℕ) (kept : Chart) (a : ChartAnswer) : Type 0 where
   pub number : a .refusal ∈ (0 ∷ numbers)
   pub together : (a .refusal ≡ 0) ↔ (a .line ≡ 0)
-  pub none : (a .refusal ≡ 0 → ⊥) → a .chart ≡ noEntries
+  pub none : (a .refusal ≡ 0 → ⊥) → a .chart ≡ kept
+
+-- "After 14 and 13, whose line is 0, bad lines, or none, give the chart reader's number and line": the line is 0 where the check refuses, or nothing does
+abbrev pub LineHolds : ℕ → Addition → Type 0
+LineHolds check x = (x .line ≡ 0) ↔ ((x .refusal ≡ 0) ⊎ (check ≡ 0 → ⊥))
 
 -- Demand 1: "every call ... refuses by a listed number what it cannot take; a refused event, mark or forget hands back the watch it got, and no refusal
 -- alters a lent byte". A read cannot alter the table it is lent. Crate log has the demand for a line of the log.
 pub record Demand1 : Type 0 where
   -- 0, or a number that the call is refused with
-  pub callsNumbered : (chart : Chart) (s : State) (c : Call) → (call chart s c) .answer .refusal ∈ (0 ∷ callNumbers c)
+  pub callsNumbered : (s : State) (c : Call) → (call s c) .number ∈ (0 ∷ callNumbers c)
   pub openingsNumbered : (chart : Chart) (t : List ℤ) (o : ℤ) → (openingStep chart t o) .answer .refusal ∈ (0 ∷ openingNumbers)
   pub checksNumbered : (chart : Chart) (w : WatchState) (t : List ℤ) → checkNumber chart w t ∈ (0 ∷ checkNumbers)
   pub treesNumbered : (chart : Chart) (w : WatchState) (t : List ℤ) (i : ℕ) (out : List ℕ) → (treeStep chart w t i out) .answer .refusal ∈ (0 ∷ treeNumbers)
-  pub charts : (s : List ℕ) → ChartAnswered chartNumbers (readChart s)
-  pub chartLines : (c : Chart) (s : List ℕ) → ChartAnswered lineNumbers (addLine c s)
-  -- "Every other refusal from 8 on returns the watch given. After a refusal all lent memory holds what it held before."
-  pub calls : (chart : Chart) (s : State) (c : Call) → ((call chart s c) .answer .refusal ≡ 0 → ⊥) → state (call chart s c) ≡ s
+  pub charts : (s : List ℕ) → ChartAnswered chartNumbers noEntries (readChart s)
+  pub chartLines : (c : Chart) (s : List ℕ) → ChartAnswered lineNumbers noEntries (addLine c s)
+  pub addedLines : (c : Chart) (s : List ℕ) → ChartAnswered chartNumbers c (readAdded c s)
+  pub additionLines : (chart : Chart) (w : WatchState) (t : List ℤ) (s : List ℕ) → LineHolds (checkNumber chart w t) (addStep chart w t s)
+  -- "Every other refusal from 8 on returns the watch given. After a refusal all lent memory holds what it held before." Of an addition "the old chart and watch
+  -- stay"
+  pub calls : (s : State) (c : Call) → ((call s c) .number ≡ 0 → ⊥) → (call s c) .state ≡ s
   -- "A refused opening (14, then 8) returns an empty watch at instant 0"
   pub openings : (chart : Chart) (t : List ℤ) (o : ℤ) → ((openingStep chart t o) .answer .refusal ≡ 0 → ⊥) → ((openingStep chart t o) .answer .watch ≡ emptyWatch (pos 0)) × ((openingStep chart t o) .table ≡ t)
   -- "A refused read returns an empty part, and a check call beside it gives the number"
@@ -124,22 +138,24 @@ abbrev pub isForget : Call → Bool
 isForget (ref.event k) = false
 isForget (ref.clock x) = false
 isForget (ref.forget f) = true
+isForget (ref.add lines) = false
 
-unfoldable pub nothingForgotten : Chart → State → List Call → Bool
-nothingForgotten chart s [] = true
-nothingForgotten chart s (c ∷ cs) = not (isForget c && eqb ((call chart s c) .answer .refusal) 0) && nothingForgotten chart (state (call chart s c)) cs
+unfoldable pub nothingForgotten : State → List Call → Bool
+nothingForgotten s [] = true
+nothingForgotten s (c ∷ cs) = not (isForget c && eqb ((call s c) .number) 0) && nothingForgotten ((call s c) .state) cs
 
--- the rows in use are as many as ts has, and are its rows; ts has each recognition over the closed instants, those before the open one, one time, none
--- besides, in the order of rows
-pub record HoldsRecognitions (chart : Chart) (s : State) (m : Model) : Type 0 where
+-- the rows in use are as many as ts has, and are its rows; ts has each recognition over the closed instants, those before the open one, that starts no earlier
+-- than its entry counts, one time, none besides, in the order of rows
+pub record HoldsRecognitions (s : State) (m : Model) : Type 0 where
   pub ts : List Recognition
   pub rows : s .watch .rows ≡ length ts
   pub inUse : take (s .watch .rows * 5) (s .table) ≡ flat (asRows ts)
   pub increasing : Sorted before ts
-  pub members : (u : Recognition) → (u ∈ ts) ↔ (IsRecognition (operatorsOf chart) (m .events) u × T (ltZ (endOf u) (s .watch .instant)))
+  pub members : (u : Recognition) → (u ∈ ts) ↔ (IsRecognition (operatorsOf (s .chart)) (m .events) u × T (leZ (sinceOf (m .since) (entryOf u)) (startOf u)) × T (ltZ (endOf u) (s .watch .instant)))
 
 -- Demand 2: "While nothing has been forgotten, in a history as 3 has it, the table after each accepted clock mark holds, for each chart entry, the
 -- recognitions that the published definition gives for the closed instants: each of them one time, none besides, in the stated order." It is so
--- after every call, an accepted clock mark among them, which makes its instant the open one.
+-- after every call, an accepted clock mark among them, which makes its instant the open one. "A recognition belongs to the table if it starts no earlier than
+-- that and the floor; demands 2 and 3 ask for these and bar the earlier ones" (request N13): those that start before their entry's instant.
 abbrev pub Demand2 : Type 0
-Demand2 = (chart : Chart) → isUsable chart ≡ true → (t : List ℤ) (o : ℤ) → isInstant o ≡ true → (calls : List Call) → nothingForgotten chart (opened chart t o) calls ≡ true → HoldsRecognitions chart (history chart t o calls) (modelAfter chart t o calls)
+Demand2 = (chart : Chart) → isUsable chart ≡ true → (t : List ℤ) (o : ℤ) → isInstant o ≡ true → (calls : List Call) → nothingForgotten (opened chart t o) calls ≡ true → HoldsRecognitions (history chart t o calls) (modelAfter chart t o calls)

@@ -7,9 +7,9 @@ use lib.Dec.{ltb, leb, eqb}
 use lib.IntN.{ℤ, pos}
 use lib.ListN.{length, drop}
 use Rattle.interval.specs.Instants.{isInstant, isMarkRefused, isForgetRefused}
-use Rattle.chart.specs.Charts.{isUsable}
+use Rattle.chart.specs.Charts.{isUsable, readAdded}
 use Rattle.chart.specs.declared.Chart.{Chart}
-use Rattle.state.specs.State.{emptyState, withEvent, marked, raised}
+use Rattle.state.specs.State.{emptyState, openState, extended, withEvent, marked, raised}
 use Rattle.state.specs.declared.WatchState.{WatchState}
 use Rattle.table.specs.Table.{putRows, zeroed, part, roomIn}
 use Rattle.table.specs.Operators.{operatorsOf}
@@ -20,6 +20,7 @@ use Rattle.forgetting.specs.Forgetting.{keptRows, forgottenTable}
 use Rattle.tree.specs.Tree.{treeBytes}
 use Rattle.watch.specs.declared.Watch.{Watch}
 use Rattle.watch.specs.declared.Answer.{Answer}
+use Rattle.watch.specs.declared.Addition.{Addition}
 use Rattle.watch.specs.declared.Part.{Part}
 use Rattle.watch.specs.declared.TreeAnswer.{TreeAnswer}
 
@@ -46,11 +47,11 @@ takenStep w t = record { answer = answered 0 w; table = t }
 abbrev pub emptyWatch : ℤ → Watch
 emptyWatch o = holding (emptyState o)
 
--- "Opening a watch fills all rows with zeros"; "A refused opening (14, then 8) returns an empty watch at instant 0"
+-- "Opening a watch fills all rows with zeros"; each entry counts from "the opening floor" (request N13). "A refused opening (14, then 8) returns an empty watch at instant 0"
 unfoldable pub openingStep : Chart → List ℤ → ℤ → Step
 openingStep chart t o =
     cond (isUsable chart)
-    (cond (isInstant o) (takenStep (emptyState o) (zeroed 0 (roomIn t * 5) t)) (refusedStep 8 (emptyState (pos 0)) t))
+    (cond (isInstant o) (takenStep (openState (chart .count) o) (zeroed 0 (roomIn t * 5) t)) (refusedStep 8 (emptyState (pos 0)) t))
     (refusedStep 14 (emptyState (pos 0)) t)
 
 -- "Calls on a watch check 14, 13, then their own"
@@ -85,6 +86,21 @@ forgetOwn chart w t f =
 
 unfoldable pub forgetStep : Chart → WatchState → List ℤ → ℤ → Step
 forgetStep chart w t f = checked chart w t (forgetOwn chart w t f)
+
+-- what an addition answers; it alters no table
+abbrev pub addition : ℕ → ℕ → WatchState → Chart → Addition
+addition n line w chart = record { refusal = n; line = line; watch = holding w; chart = chart }
+
+-- "bad lines, or none, give the chart reader's number and line, counted from the first added line, ..., and the old chart and watch stay"; the entries
+-- of the others count from "the open instant" (request N13)
+unfoldable pub addOwn : Chart → WatchState → List ℕ → Addition
+addOwn chart w s =
+    let a = readAdded chart s in
+    cond (eqb (a .refusal) 0) (addition 0 0 (extended w (a .chart .count - chart .count)) (a .chart)) (addition (a .refusal) (a .line) w chart)
+
+-- "After 14 and 13, whose line is 0"
+unfoldable pub addStep : Chart → WatchState → List ℤ → List ℕ → Addition
+addStep chart w t s = cond (eqb (checkNumber chart w t) 0) (addOwn chart w s) (addition (checkNumber chart w t) 0 w chart)
 
 -- "The rows with a given end are handed back as that part of the caller's table; it may be empty." "A refused read returns an empty part, and
 -- a check call beside it gives the number". Rows stand by end, so that they are the ones from the first that does not end before e.

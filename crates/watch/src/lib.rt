@@ -1,6 +1,6 @@
 // The chronicle watch: a watch by value, its calls, and the caller's table lent to each of them.
 ghost use mathlib.Core.Path.{_≡_};
-ghost use Rattle.watch.specs.Steps.{answered, emptyWatch, openingStep, checkNumber, eventOwn, eventStep, clockOwn, clockStep, forgetOwn, forgetStep, endRows, endPart, treeOwn, treeStep};
+ghost use Rattle.watch.specs.Steps.{answered, emptyWatch, openingStep, checkNumber, eventOwn, eventStep, clockOwn, clockStep, forgetOwn, forgetStep, addOwn, addStep, endRows, endPart, treeOwn, treeStep};
 use chart::Chart;
 use state::WatchState;
 
@@ -16,6 +16,16 @@ pub struct Watch {
 pub struct Answer {
     pub refusal: u32,
     pub watch: Watch,
+}
+
+// What an addition answers: the refusal's number, 0 for none, and its line, counted from the first added line, 0 for none and for 14 and 13; and watch
+// and chart to go on with. In C's layout.
+#[repr(C)]
+pub struct Addition {
+    pub refusal: u32,
+    pub line: u32,
+    pub watch: Watch,
+    pub chart: Chart,
 }
 
 // Consecutive rows of a table: the number of the first and how many there are. In C's layout, for a host in C.
@@ -71,7 +81,7 @@ impl Watch {
         }
         let room = table::rows_that_fit(table.len());
         table::zero_part(table, 0, room * 5);
-        taken(state::empty(instant))
+        taken(state::opened(chart.count, instant))
     }
 
     // An event of code k on a watch that is known to be consistent: 10, then 9. Constant time.
@@ -188,6 +198,50 @@ impl Watch {
         }
         let n = forgetting::forget(chart, s, table, f);
         taken(s.raised(f, n))
+    }
+
+    // Adds the entries of lines to the chart, numbered on from the last entry; they count from the open instant: 14, 13, then the chart reader's 1 to 6. Refused:
+    // watch and chart as given. A check, then linear in the bytes of the lines up to the 33rd entry.
+    pub fn add_lines(self, chart: Chart, table: &[i32], s: &[u8]) -> Addition
+        ensures { λ r. ⌜ r ≡ addStep chart (self .state) (now (table .entry)) (now (s .entry)) ⌝ }
+    {
+        let n = self.check(chart, table);
+        if n != 0 {
+            return Addition {
+                refusal: n,
+                line: 0,
+                watch: self,
+                chart,
+            };
+        }
+        self.add_unchecked(chart, table, s)
+    }
+
+    // The same without the check, on a watch that is known to be consistent.
+    fn add_unchecked(self, chart: Chart, table: &[i32], s: &[u8]) -> Addition
+        requires { ⌜ checkNumber chart (self .state) (now table) ≡ 0 ⌝ }
+        ensures { λ r. ⌜ r ≡ addOwn chart (self .state) (now (s .entry)) ⌝ }
+    {
+        let a = chart::read_added(chart, s);
+        let longer = a.chart;
+        let state = self.state;
+        if a.refusal != 0 {
+            return Addition {
+                refusal: a.refusal,
+                line: a.line,
+                watch: self,
+                chart,
+            };
+        }
+        let watch = Watch {
+            state: state.extended(longer.count - chart.count),
+        };
+        Addition {
+            refusal: 0,
+            line: 0,
+            watch,
+            chart: longer,
+        }
     }
 
     // The rows that end at `end`, by their numbers, which a host in C can take; refused (14, 13): no row, both numbers 0. A check, then

@@ -7,8 +7,11 @@ pub mod closing;
 pub mod storage;
 
 use crate::chart_value;
-use crate::interface::{Answer, Calls, Chart, ChartAnswer, Entry, Rows, TreeAnswer, Watch, MOST_ENTRIES, MOST_PENDING};
-use crate::plain_chart;
+use crate::interface::{
+    Addition, Answer, Calls, Chart, ChartAnswer, Entry, Rows, TreeAnswer, Watch, FIRST_FLOOR, MOST_ENTRIES,
+    MOST_PENDING,
+};
+use crate::plain_chart::{self, Verdict};
 use closing::{Closing, AFTER, AT_LEAST, CHANGE, CLOSED_CLOSED, CUT, EQUALS, EVENT, LASTS, NONE, OPEN_CLOSED, OR, SEQ};
 use std::ops::RangeInclusive;
 use storage::{Row, Span, Storage, END, ENTRY, START, UNUSED};
@@ -51,6 +54,7 @@ pub fn calls<W: PlainWatch>() -> Calls {
         check: W::check,
         rows_ending: W::rows_ending,
         tree: W::tree,
+        add_lines: W::add_lines,
     }
 }
 
@@ -87,7 +91,7 @@ pub trait PlainWatch: Closing {
             return Answer { refusal: 8, watch: Watch::empty(0) };
         }
         Self::rows_mut(table).fill(UNUSED);
-        Answer { refusal: 0, watch: Watch::empty(instant) }
+        Answer { refusal: 0, watch: Watch::opened(instant, chart.count) }
     }
 
     fn event(watch: Watch, chart: Chart, table: &[i32], code: u8) -> Answer {
@@ -147,6 +151,32 @@ pub trait PlainWatch: Closing {
             return TreeAnswer { refusal: 16, length: 0 };
         }
         TreeAnswer { refusal: 0, length: Self::write_tree(&chart, rows, row as i32, out, 0) }
+    }
+
+    fn add_lines(watch: Watch, chart: Chart, table: &[i32], bytes: &[u8]) -> Addition {
+        let refusal = Self::check(watch, chart, table);
+        let refused = |refusal: u32, line: u32| Addition { refusal, line, watch, chart };
+        if refusal != 0 {
+            return refused(refusal, 0);
+        }
+        match Self::read_lines(&chart, bytes) {
+            Ok(added) => {
+                let watch = Self::with_entries(watch, added.len());
+                Addition { refusal: 0, line: 0, watch, chart: chart_value::with_added(&chart, &added) }
+            }
+            Err(Verdict { refusal, line }) => refused(refusal, line),
+        }
+    }
+
+    fn read_lines(chart: &Chart, bytes: &[u8]) -> Result<Vec<plain_chart::Entry>, Verdict> {
+        plain_chart::read_more(chart.count, bytes)
+    }
+
+    /// The watch with so many entries more, which count from the open instant.
+    fn with_entries(mut watch: Watch, added: usize) -> Watch {
+        watch.since[watch.entries..][..added].fill(watch.instant);
+        watch.entries += added;
+        watch
     }
 
     // Chart and table.
@@ -280,6 +310,8 @@ pub trait PlainWatch: Closing {
 
     fn is_consistent(watch: &Watch, chart: &Chart, rows: &[Row]) -> bool {
         Self::is_watch_in_range(watch)
+            && Self::has_entries_of(watch, chart)
+            && Self::are_instants_of_entries(watch, &watch.since[..chart.count])
             && watch.rows <= rows.len()
             && (0..watch.rows).all(|index| Self::is_row_consistent(watch, chart, rows, index))
             && Self::are_unused(&rows[watch.rows..])
@@ -294,6 +326,15 @@ pub trait PlainWatch: Closing {
             && watch.events <= MOST_EVENTS
     }
 
+    fn has_entries_of(watch: &Watch, chart: &Chart) -> bool {
+        watch.entries == chart.count
+    }
+
+    /// Whether entries may count from these instants: none falls, so that the first and the last tell for the others.
+    fn are_instants_of_entries(watch: &Watch, since: &[i32]) -> bool {
+        since.is_sorted() && since[0] >= FIRST_FLOOR && since[since.len() - 1] <= watch.instant
+    }
+
     fn are_unused(rows: &[Row]) -> bool {
         rows.iter().all(|row| *row == UNUSED)
     }
@@ -304,9 +345,15 @@ pub trait PlainWatch: Closing {
         row[ENTRY] >= 0
             && number < chart.count
             && row[START] >= watch.floor
+            && Self::counts(watch, row)
             && row[END] < watch.instant
             && (index == 0 || rows[index - 1][END] <= row[END])
             && Self::agrees(&chart.entries[number], watch, row, &rows[..index])
+    }
+
+    /// Whether a row of an entry in the chart starts no earlier than its entry counts.
+    fn counts(watch: &Watch, row: &Row) -> bool {
+        row[START] >= watch.since[row[ENTRY] as usize]
     }
 
     /// Whether a row's references, start, end and condition are those of its entry; `lower` are the rows before it.

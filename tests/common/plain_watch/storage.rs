@@ -262,17 +262,21 @@ impl DoubleEndedIterator for TableSpans<'_> {
     }
 }
 
-/// The place of an entry's own rows: the table's free ones.
+/// The place of an entry's own rows: the table's free ones. The entry counts from an instant on.
 pub struct Own<'a> {
     pub entry: i32,
+    pub since: i32,
     pub free: &'a mut [Row],
     pub pushed: usize,
 }
 
 impl Own<'_> {
-    /// Appends a row of the entry; none where the table is full.
+    /// Appends a row of the entry, but for one that starts before the entry counts; none where the table is full.
     #[inline]
     pub fn push(&mut self, left: i32, right: i32, start: i32, end: i32) -> Option<()> {
+        if start < self.since {
+            return Some(());
+        }
         *self.free.get_mut(self.pushed)? = [self.entry, left, right, start, end];
         self.pushed += 1;
         Some(())

@@ -31,7 +31,7 @@ abbrev μ-loop : tie.MeasureT-loop
 abbrev Inv-candidates : tie.InvT-candidates
 Inv-candidates t₀ n f edges a b end room i₀ top count₀ t i count =
     let rows = absenceRow edges (natAbs (f .entry)) (f .instant) (toZ w32 a) (toZ w32 b) top t₀ in
-    Filling (f .room) n (each rows (span (f .first) (f .end))) t₀ count (each rows (span i (f .end))) t
+    Filling (f .room) (f .since) n (each rows (span (f .first) (f .end))) t₀ count (each rows (span i (f .end))) t
 
 abbrev μ-candidates : tie.MeasureT-candidates
 μ-candidates t₀ n f edges a b end room i₀ top count₀ t i count = f .end - i
@@ -58,7 +58,7 @@ returns c =
     let s = d .before .before in
     let g = s .args in
     let f = first d in
-    simp (same32 _ (s .fits .a)) at (over _ (d .first-of .result) (g .f .end) (past _ _ _ (begin _ _ _ (g .t .now) (s .pre .fit)) _ (f .least) (f .most) (λ j p q. absence-other (g .edges) (natAbs (g .f .entry)) (g .f .instant) _ (g .b) (topOf (g .b) (g .f .end) (g .t .now)) (g .t .now) j (f .none j p q))) (c .if1 .taken))
+    simp (same32 _ (s .fits .a)) at (over _ (d .first-of .result) (g .f .end) (past _ _ _ (begin _ (g .f .since) _ _ (g .t .now) (s .pre .fit)) _ (f .least) (f .most) (λ j p q. absence-other (g .edges) (natAbs (g .f .entry)) (g .f .instant) _ (g .b) (topOf (g .b) (g .f .end) (g .t .now)) (g .t .now) j (f .none j p q))) (c .if1 .taken))
 
 candidates-holds : tie.Need-candidates-holds Inv-loop μ-loop Inv-candidates μ-candidates
 candidates-holds c =
@@ -66,7 +66,7 @@ candidates-holds c =
     let s = d .before .before in
     let g = s .args in
     let f = first d in
-    past _ _ _ (begin _ _ _ _ (s .pre .fit)) _ (f .least) (f .most) (λ j p q. absence-other (g .edges) (natAbs (g .f .entry)) (g .f .instant) _ _ (c .top-of .result) (g .t .now) j (f .none j p q))
+    past _ _ _ (begin _ _ _ _ _ (s .pre .fit)) _ (f .least) (f .most) (λ j p q. absence-other (g .edges) (natAbs (g .f .entry)) (g .f .instant) _ _ (c .top-of .result) (g .t .now) j (f .none j p q))
 
 -- row i of the table t, while the one before this closing was t₀
 module _ (c : tie.After-is-of Inv-loop μ-loop Inv-candidates μ-candidates) where

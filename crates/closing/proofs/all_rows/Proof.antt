@@ -16,6 +16,7 @@ use Rattle.chart.proofs.Usable.{usable-few, usable-fits}
 use Rattle.model.proofs.Capacity.{capacity-most, capacity-fits}
 use Rattle.model.proofs.Due.{next-none, next-more}
 use Rattle.model.specs.Capacity.{capacity}
+use Rattle.model.specs.Order.{sinceOf}
 use Rattle.model.specs.RowSteps.{closeRows, delayedEnds}
 use Rattle.model.specs.Statements.{NextDue}
 use Rattle.table.specs.Table.{rowsIn}
@@ -24,7 +25,7 @@ use Rattle.chart.specs.Charts.{entryAt}
 use Rattle.ordering.specs.Ordered.{ordered}
 use Rattle.ordering.proofs.Appended.{alike-behind}
 use Rattle.ordering.proofs.Steps.{ordered-few}
-use Rattle.closing.specs.Added.{FilledBy, eventsAt, addedRows}
+use Rattle.closing.specs.Added.{FilledBy, counted, eventsAt, addedRows}
 use Rattle.closing.proofs.Grown.{Grown, all-ordered}
 use Rattle.closing.proofs.Growth.{grown-none, grown-settled}
 use Rattle.closing.proofs.Entries.{Closing, closing-none, same-size, least, closing-ended, leftRows, left-first, left-last, Entered, entered}
@@ -33,16 +34,16 @@ use Rattle.closing.proofs.all_rows.Statement.{statement}
 use Rattle.closing.proofs.all_rows.Tie as tie
 
 abbrev Inv-loop : tie.InvT-loop
-Inv-loop t₀ rows room jump p codes chart count n₀ next₀ i₀ t n next i =
+Inv-loop since t₀ rows jump p codes chart count room n₀ next₀ i₀ t n next i =
     let o : ℤ = jump .instant in
     (i ≤ chart .count) ×
     (count ≡ chart .count) ×
     Grown o rows n t ×
-    Closing room rows (leftRows chart o (eventsAt o p codes) 0 rows t₀) t₀ n (leftRows chart o (eventsAt o p codes) i n t) t ×
-    NextDue (entryEnds chart (rowsIn n t) i) (o +ℤ pos 1) (jump .mark) (toZ w32 next)
+    Closing (jump .room) rows (leftRows chart since o (eventsAt o p codes) 0 rows t₀) t₀ n (leftRows chart since o (eventsAt o p codes) i n t) t ×
+    NextDue (entryEnds chart since (rowsIn n t) i) (o +ℤ pos 1) (jump .mark) (toZ w32 next)
 
 abbrev μ-loop : tie.MeasureT-loop
-μ-loop t₀ rows room jump p codes chart count n₀ next₀ i₀ t n next i = chart .count - i
+μ-loop since t₀ rows jump p codes chart count room n₀ next₀ i₀ t n next i = chart .count - i
 
 loop-holds : tie.Need-loop-holds Inv-loop μ-loop
 loop-holds c =
@@ -59,8 +60,8 @@ loop-holds c =
     )
 
 -- the table is long enough
-held : (c : tie.Start Inv-loop μ-loop) → c .args .room * 5 ≤ length (c .args .t .now)
-held c = let room : c .args .room ≡ capacity (length (c .args .t .now)) = c .pre .3 in omega (arith, capacity-fits (length (c .args .t .now)))
+held : (c : tie.Start Inv-loop μ-loop) → c .args .jump .room * 5 ≤ length (c .args .t .now)
+held c = let room : c .args .jump .room ≡ capacity (length (c .args .t .now)) = c .pre .3 in omega (arith, capacity-fits (length (c .args .t .now)))
 
 below : (c : tie.In-loop Inv-loop μ-loop) → c .before .loop .i < c .before .before .before .args .t1 .count
 below c = omega arith
@@ -74,7 +75,7 @@ number c =
     (low, toZ-pos w32 (c .before .loop .i) (omega arith))
 
 -- the instant, as it is read
-instant : (c : tie.After-struct-told2 Inv-loop μ-loop) → SFits w32 (c .before .before .before .before .before .args .jump .instant)
+instant : (c : tie.After-struct-told2 Inv-loop μ-loop) → SFits w32 (c .before .before .before .before .before .before .args .jump .instant)
 instant c = record { sfits = c .struct-told2 .given .0 .1 }
 
 -- the limit is behind the instant
@@ -85,13 +86,13 @@ behind c =
 
 entry-rows-requires : tie.Need-entry-rows-requires Inv-loop μ-loop
 entry-rows-requires c κs =
-    let y = c .before .before .before in
+    let y = c .before .before .before .before in
     let l = y .before in
     let s = l .before .before in
     let g = s .args in
     let f = l .loop .inv .3 in
     let n = number y in
-    let room : g .room ≡ capacity (length (g .t .now)) = s .pre .3 in
+    let room : g .jump .room ≡ capacity (length (g .t .now)) = s .pre .3 in
     simp (n .1, same32 _ (instant (c .before))) (
       record {
         fit = f .most;
@@ -109,13 +110,13 @@ entry-rows-requires c κs =
       behind l,
     )
 
-whole : (c : tie.Start Inv-loop μ-loop) → let g = c .args in let o = g .jump .instant in leftRows (g .t1) o (eventsAt o (g .p) (g .codes .now)) 0 (g .rows) (g .t .now) ≡ drop (g .rows) (closeRows o (eventsAt o (g .p) (g .codes .now)) (operatorsOf (g .t1)) (rowsIn (g .rows) (g .t .now)))
-whole c = let g = c .args in left-first (g .t1) (g .jump .instant) (eventsAt (g .jump .instant) (g .p) (g .codes .now)) (g .rows) (g .t .now)
+whole : (c : tie.Start Inv-loop μ-loop) → let g = c .args in let o = g .jump .instant in leftRows (g .t1) (g .since .now) o (eventsAt o (g .p) (g .codes .now)) 0 (g .rows) (g .t .now) ≡ drop (g .rows) (closeRows o (eventsAt o (g .p) (g .codes .now)) (operatorsOf (g .t1)) (g .since .now) (rowsIn (g .rows) (g .t .now)))
+whole c = let g = c .args in left-first (g .t1) (g .since .now) (g .jump .instant) (eventsAt (g .jump .instant) (g .p) (g .codes .now)) (g .rows) (g .t .now)
 
 -- what is known once the entry's rows were appended
 module _ (d : tie.After-entry-rows Inv-loop μ-loop) where
   abbrev at : tie.At-loop Inv-loop μ-loop
-  at = d .before .before .before .before .before
+  at = d .before .before .before .before .before .before
 
   abbrev start : tie.Start Inv-loop μ-loop
   start = at .before .before
@@ -126,33 +127,37 @@ module _ (d : tie.After-entry-rows Inv-loop μ-loop) where
   abbrev i : ℕ
   i = at .loop .i
 
-  room : start .args .room * 5 ≤ length (at .loop .t)
+  room : start .args .jump .room * 5 ≤ length (at .loop .t)
   room = omega (arith, held start, same-size (at .loop .inv .3))
 
-  told : let l = at in let g = start .args in let op = entryOperator (entryAt (g .t1) i) in
-      FilledBy (g .room) (l .loop .n) (addedRows op i o (g .p) (g .codes .now) (g .rows) (l .loop .n) (l .loop .t)) (l .loop .t) (d .entry-rows .result .rows) (d .entry-rows .last .0)
-  told = simp (number (d .before .before .before .before) .1, same32 _ (instant (d .before .before))) at (d .entry-rows .ensures .0)
+  -- the instant from which the entry counts
+  counts : SFits w32 (sinceOf (start .args .since .now) i)
+  counts = record { sfits = d .before .before .before .t26 .given }
 
-  next-told : let l = at in NextDue (delayedEnds (rowsIn (l .loop .n) (l .loop .t)) (entryOperator (entryAt (start .args .t1) i))) (o +ℤ pos 1) (toZ w32 (l .loop .next)) (d .entry-rows .result .next)
-  next-told = simp (same32 _ (instant (d .before .before))) at (d .entry-rows .ensures .1)
+  told : let l = at in let g = start .args in let op = entryOperator (entryAt (g .t1) i) in
+      FilledBy (g .jump .room) (l .loop .n) (counted (sinceOf (g .since .now) i) (addedRows op i o (g .p) (g .codes .now) (g .rows) (l .loop .n) (l .loop .t))) (l .loop .t) (d .entry-rows .result .rows) (d .entry-rows .last .0)
+  told = simp (number (d .before .before .before .before .before) .1, same32 _ (instant (d .before .before)), same32 _ counts) at (d .entry-rows .ensures .0)
+
+  next-told : let l = at in NextDue (delayedEnds (sinceOf (start .args .since .now) i) (rowsIn (l .loop .n) (l .loop .t)) (entryOperator (entryAt (start .args .t1) i))) (o +ℤ pos 1) (toZ w32 (l .loop .next)) (d .entry-rows .result .next)
+  next-told = simp (same32 _ (instant (d .before .before)), same32 _ counts) at (d .entry-rows .ensures .1)
 
   known : let l = at in let g = start .args in
-      Entered (g .t1) o (g .p .first) (g .p .count) (g .codes .now) (start .pre .5) (g .rows) i (l .loop .n) (l .loop .t) (l .loop .inv .2) (below (d .before .before .before .before)) (l .loop .inv .3) room told
-  known = entered _ _ _ _ _ _ _ _ _ _ _ _ _ _ _
+      Entered (g .t1) (g .since .now) o (g .p .first) (g .p .count) (g .codes .now) (start .pre .5) (g .rows) i (l .loop .n) (l .loop .t) (l .loop .inv .2) (below (d .before .before .before .before .before)) (l .loop .inv .3) room told
+  known = entered _ _ _ _ _ _ _ _ _ _ _ _ _ _ _ _
 
 -- a turn, once the entry's rows stand in order in the table v: the limit is the next due end of one entry more
 module _ (c : tie.After-struct-told3 Inv-loop μ-loop) where
   abbrev d : tie.After-entry-rows Inv-loop μ-loop
   d = c .before .before
 
-  turned : (l : d .entry-rows .result .rows ≤ start d .args .room) (v : List ℤ) → v ≡ ordered (at d .loop .n) (d .entry-rows .result .rows - at d .loop .n) (d .entry-rows .last .0) → NextDue (entryEnds (start d .args .t1) (rowsIn (d .entry-rows .result .rows) v) (i d + 1)) (o d +ℤ pos 1) (start d .args .jump .mark) (toZ w32 (ofZ w32 (d .entry-rows .result .next)))
+  turned : (l : d .entry-rows .result .rows ≤ start d .args .jump .room) (v : List ℤ) → v ≡ ordered (at d .loop .n) (d .entry-rows .result .rows - at d .loop .n) (d .entry-rows .last .0) → NextDue (entryEnds (start d .args .t1) (start d .args .since .now) (rowsIn (d .entry-rows .result .rows) v) (i d + 1)) (o d +ℤ pos 1) (start d .args .jump .mark) (toZ w32 (ofZ w32 (d .entry-rows .result .next)))
   turned l v z =
       let g = start d .args in
       let x = at d .loop in
       let next : SFits w32 (d .entry-rows .result .next) = record { sfits = c .struct-told3 .given .1 .0 .1 } in
       let m = known d .more l v z in
       let due = next-more _ _ (o d +ℤ pos 1) (g .jump .mark) (toZ w32 (x .next)) (d .entry-rows .result .next) (x .inv .4) (next-told d) in
-      rw (same32 _ next, m .0, ends-more (g .t1) (start d .pre .0) (rowsIn (x .n) (x .t)) _ (i d) (below (d .before .before .before .before)) (m .1)) due
+      rw (same32 _ next, m .0, ends-more (g .t1) (g .since .now) (start d .pre .0) (rowsIn (x .n) (x .t)) _ (i d) (below (d .before .before .before .before .before)) (m .1)) due
 
 returns : tie.Need-returns Inv-loop μ-loop
 returns c = let e = d (c .before .before) in (simp (whole (start e)) at (known e .full (c .if2 .taken)), λ h. absurd (omega (arith, c .if2 .taken)))
@@ -174,17 +179,17 @@ loop-again c =
     let f = y .if2 .left in
     let s = y .before .before in
     let w = known (d s) .next f (v .later-start-first .last .0) (v .later-start-first .ensures) in
-    (omega (arith, below (d s .before .before .before .before)), refl, w .1, w .0, turned s f (v .later-start-first .last .0) (v .later-start-first .ensures))
+    (omega (arith, below (d s .before .before .before .before .before)), refl, w .1, w .0, turned s f (v .later-start-first .last .0) (v .later-start-first .ensures))
 
 -- nothing was appended, and nothing is in order
 loop-again-2 : tie.Need-loop-again-2 Inv-loop μ-loop
 loop-again-2 c =
     let s = c .before in
     let e = d s in
-    let f : e .entry-rows .result .rows ≤ start e .args .room = omega (arith, at e .loop .inv .3 .most) in
+    let f : e .entry-rows .result .rows ≤ start e .args .jump .room = omega (arith, at e .loop .inv .3 .most) in
     let z = sym (ordered-few (at e .loop .n) (e .entry-rows .result .rows - at e .loop .n) (e .entry-rows .last .0) (omega arith) (λ j p q. absurd (omega arith))) in
     let w = known e .next f (e .entry-rows .last .0) z in
-    (omega (arith, below (e .before .before .before .before)), refl, w .1, w .0, turned s f (e .entry-rows .last .0) z)
+    (omega (arith, below (e .before .before .before .before .before)), refl, w .1, w .0, turned s f (e .entry-rows .last .0) z)
 
 returns-2 : tie.Need-returns-2 Inv-loop μ-loop
 returns-2 c =
@@ -193,8 +198,8 @@ returns-2 c =
     let g = s .args in
     let o = g .jump .instant in
     let z : l .loop .i ≡ g .t1 .count = omega (arith, l .loop .inv .0, l .loop .inv .1, c .loop-test .left) in (
-      simp (whole s) at (closing-ended (l .loop .inv .3) (left-last (g .t1) o (eventsAt o (g .p) (g .codes .now)) (l .loop .i) (l .loop .n) (l .loop .t) (omega arith))),
-      λ h. (grown-settled o (g .rows) (l .loop .n) (l .loop .t) (l .loop .inv .2), subst (λ x. NextDue x (o +ℤ pos 1) (g .jump .mark) (toZ w32 (l .loop .next))) (ap (entryEnds (g .t1) (rowsIn (l .loop .n) (l .loop .t))) z ∙ ends-all (g .t1) (rowsIn (l .loop .n) (l .loop .t))) (l .loop .inv .4)),
+      simp (whole s) at (closing-ended (l .loop .inv .3) (left-last (g .t1) (g .since .now) o (eventsAt o (g .p) (g .codes .now)) (l .loop .i) (l .loop .n) (l .loop .t) (omega arith))),
+      λ h. (grown-settled o (g .rows) (l .loop .n) (l .loop .t) (l .loop .inv .2), subst (λ x. NextDue x (o +ℤ pos 1) (g .jump .mark) (toZ w32 (l .loop .next))) (ap (entryEnds (g .t1) (g .since .now) (rowsIn (l .loop .n) (l .loop .t))) z ∙ ends-all (g .t1) (g .since .now) (rowsIn (l .loop .n) (l .loop .t))) (l .loop .inv .4)),
     )
 
 pub all-rows-spec : {M : Type 1} → statement M
@@ -207,6 +212,8 @@ all-rows-spec =
     (λ c. omega (arith, number c .0))
     (λ c. number c .0)
     (λ c. record { sfits = omega (arith, number (c .before) .0) })
+    (λ c. omega (arith, number (c .before) .0))
+    (λ c. number (c .before) .0)
     entry-rows-requires
     (λ c. omega arith)
     same-length

@@ -20,6 +20,9 @@ module _ (c : tie.After-earlier-by) where
   entry : SFits w32 (c .before .before .args .f .entry)
   entry = record { sfits = c .before .struct-told .given .1 .1 .1 .0 .1 }
 
+  since : SFits w32 (c .before .before .args .f .since)
+  since = record { sfits = c .before .struct-told .given .1 .1 .1 .1 .1 .0 .1 }
+
   from : let g = c .before .before .args in c .earlier-by .result ≡ g .f .instant -ℤ pos (g .d)
   from = simp (same32 _ instant) at (c .earlier-by .ensures)
 
@@ -60,7 +63,7 @@ returns c =
     let d = c .before in
     let y = d .before .before .before in
     let e = y .before .before .before .before in
-    simp (first (y .before .before), past y, same32 _ (entry e), same32 _ (instant e), same32 _ (e .before .before .fits .a)) at (d .taken-rows .ensures)
+    simp (first (y .before .before), past y, same32 _ (entry e), same32 _ (instant e), same32 _ (since e), same32 _ (e .before .before .fits .a)) at (d .taken-rows .ensures)
 
 pub delayed-rows-spec : {M : Type 1} → statement M
 delayed-rows-spec =

@@ -3,7 +3,7 @@ use Prim.Native.Nat.{ℕ, _+_, _*_, _-_, _≤_}
 use native.Mathlib.Omega.{arith}
 use native.Mathlib.Numerals.{add-one}
 use borrow.Author.Needs.{needs}
-use mathlib.Core.Path.{_≡_, sym, ap, _∙_}
+use mathlib.Core.Path.{_≡_, sym, ap, _∙_, subst}
 use mathlib.Core.List.{List, []}
 use lib.IntN.{ℤ, pos, _+ℤ_}
 use lib.ListN.{length, take, drop}
@@ -19,7 +19,7 @@ use Rattle.model.specs.Capacity.{capacity}
 use Rattle.model.proofs.Capacity.{capacity-fits}
 use Rattle.table.specs.Table.{rowsIn}
 use Rattle.table.specs.Operators.{operatorsOf}
-use Rattle.closing.specs.Added.{Settled, pendingFrom, eventsAt}
+use Rattle.closing.specs.Added.{Settled, Tried, pendingFrom, eventsAt}
 use Rattle.closing.specs.Closed.{closedRows}
 use Rattle.closing.proofs.Growth.{settled-later}
 use Rattle.closing.proofs.Entries.{Closing, closing-none, same-size, closing-ended}
@@ -28,20 +28,20 @@ use Rattle.closing.proofs.due_rows.Statement.{statement}
 use Rattle.closing.proofs.due_rows.Tie as tie
 
 -- what is left to append from the instant o on, to which k events belong
-abbrev left : Chart → ℤ → ℤ → ℕ → ℕ → List ℕ → ℕ → List ℤ → List Row
-left chart o x first k codes n t = leftInstants chart o x (eventsAt o (pendingFrom first k) codes) n t
+abbrev left : Chart → List ℤ → ℤ → ℤ → ℕ → ℕ → List ℕ → ℕ → List ℤ → List Row
+left chart since o x first k codes n t = leftInstants chart since o x (eventsAt o (pendingFrom first k) codes) n t
 
 abbrev Inv-loop : tie.InvT-loop
-Inv-loop chart mark t₀ room codes first pending₀ instant₀ n₀ t pending instant n =
+Inv-loop chart mark t₀ room codes since first pending₀ instant₀ n₀ t pending instant n =
     let o : ℤ = toZ w32 instant in
     let x : ℤ = toZ w32 mark in
     (o ≤ᶻ x) ×
     (pending ≤ pending₀) ×
     Settled o n t ×
-    Closing room n₀ (left chart (toZ w32 instant₀) x first pending₀ codes n₀ t₀) t₀ n (left chart o x first pending codes n t) t
+    Closing room n₀ (left chart since (toZ w32 instant₀) x first pending₀ codes n₀ t₀) t₀ n (left chart since o x first pending codes n t) t
 
 abbrev μ-loop : tie.MeasureT-loop
-μ-loop chart mark t₀ room codes first pending₀ instant₀ n₀ t pending instant n = instantsTo (toZ w32 instant) (toZ w32 mark)
+μ-loop chart mark t₀ room codes since first pending₀ instant₀ n₀ t pending instant n = instantsTo (toZ w32 instant) (toZ w32 mark)
 
 -- the open instant
 opened : (c : tie.After-struct-told Inv-loop μ-loop) → SFits w32 (c .before .before .args .state .instant)
@@ -55,7 +55,7 @@ loop-holds c =
     let o = g .state .instant in
     let settled : Settled o (g .state .rows) (g .t .now) = record { above = p .ready .entryAbove; proper = p .ready .proper; ordered = p .ready .ordered; ended = p .ended } in
     let early : o <ᶻ g .mark = lt-true o (g .mark) (p .later) in
-    simp (same32 _ (opened c), same32 _ (s .fits .mark)) (omega arith, omega arith, settled, closing-none _ _ _ _ (rw (s .pre .2) (p .ready .fit)))
+    simp (same32 _ (opened c), same32 _ (s .fits .mark)) (omega arith, omega arith, settled, closing-none _ _ _ _ (rw (s .pre .3) (p .ready .fit)))
 
 module _ (c : tie.At-loop Inv-loop μ-loop) where
   abbrev start : tie.Start Inv-loop μ-loop
@@ -75,15 +75,15 @@ module _ (c : tie.At-loop Inv-loop μ-loop) where
   size = same-size (c .loop .inv .3)
 
   held : start .args .room * 5 ≤ length (c .loop .t)
-  held = let r : start .args .room ≡ capacity (length (start .args .t .now)) = start .pre .2 in omega (arith, size, capacity-fits (length (start .args .t .now)))
+  held = let r : start .args .room ≡ capacity (length (start .args .t .now)) = start .pre .3 in omega (arith, size, capacity-fits (length (start .args .t .now)))
 
 -- what was to be appended
 whole : (c : tie.After-struct-told Inv-loop μ-loop) → let s = c .before .before in let g = s .args in let w = g .state in
-    left (g .chart) (toZ w32 (ofZ w32 (w .instant))) (toZ w32 (ofZ w32 (g .mark))) (w .events - w .pending + 1) (w .pending) (g .t3) (w .rows) (g .t .now) ≡ drop (w .rows) (closedRows (g .chart) w (g .mark) (g .t .now))
+    left (g .chart) (g .t4) (toZ w32 (ofZ w32 (w .instant))) (toZ w32 (ofZ w32 (g .mark))) (w .events - w .pending + 1) (w .pending) (g .t3) (w .rows) (g .t .now) ≡ drop (w .rows) (closedRows (g .chart) w (g .mark) (g .t .now))
 whole c =
     let s = c .before .before in
     let g = s .args in
-    simp (same32 _ (opened c), same32 _ (s .fits .mark), add-one, s .pre .1) (instants-first (g .chart) (g .state) (g .mark) (g .t .now))
+    simp (same32 _ (opened c), same32 _ (s .fits .mark), add-one, s .pre .1, s .pre .2) (instants-first (g .chart) (g .state) (g .mark) (g .t .now))
 
 -- the instant is before the mark
 in-time : (c : tie.Then1 Inv-loop μ-loop) → instant (c .before .before) <ᶻ mark (c .before .before)
@@ -91,35 +91,35 @@ in-time c = let l = c .before .before in lt-true (instant l) (mark l) (sym (c .b
 
 all-rows-requires : tie.Need-all-rows-requires Inv-loop μ-loop
 all-rows-requires c κs =
-    let l = c .before .before .before .before in
+    let l = c .before .before .before .before .before in
     let s = start l in
     let p = s .pre .0 in
     let i = l .loop .inv in (
       p .ready .usable,
       i .2,
       i .3 .most,
-      s .pre .2 ∙ ap capacity (sym (size l)),
+      s .pre .3 ∙ ap capacity (sym (size l)),
       record { few = omega (arith, p .few); most = omega (arith, p .counted, p .most) },
       omega (arith, p .few),
-      is-lt (instant l) (mark l) (in-time (c .before .before)),
+      is-lt (instant l) (mark l) (in-time (c .before .before .before)),
     )
 
 -- the rows of the instant were appended, or found no room
 module _ (d : tie.After-all-rows Inv-loop μ-loop) where
   abbrev at : tie.At-loop Inv-loop μ-loop
-  at = d .before .before .before .before .before
+  at = d .before .before .before .before .before .before
 
   abbrev early : instant at <ᶻ mark at
-  early = in-time (d .before .before .before)
+  early = in-time (d .before .before .before .before)
 
 same-length : tie.Need-same-length Inv-loop μ-loop
-same-length c = let d = c .before .before in d .all-rows .kept .1 .0 ∙ size (at d)
+same-length c = let d = c .before .before in d .all-rows .kept .1 .1 .0 ∙ size (at d)
 
 returns : tie.Need-returns Inv-loop μ-loop
 returns c =
     let d = c .before .before in
     let l = at d in
-    simp (whole (l .before)) at (turn-full (start l .args .chart) (instant l) (mark l) (early d) (first l) (take (l .loop .pending) (start l .args .t3)) (l .loop .n) (l .loop .t) (l .loop .inv .3) (held l) (d .all-rows .ensures .0) (c .if2 .taken))
+    subst (λ z. Tried (start l .args .room) (start l .args .state .rows) z (start l .args .t .now) (d .all-rows .result .rows) (d .all-rows .last .1 .1 .0)) (whole (l .before)) (turn-full (start l .args .chart) (start l .args .t4) (instant l) (mark l) (early d) (first l) (take (l .loop .pending) (start l .args .t3)) (l .loop .n) (l .loop .t) (l .loop .inv .3) (held l) (d .all-rows .ensures .0) (c .if2 .taken))
 
 -- the next due instant
 module _ (c : tie.After-struct-told2 Inv-loop μ-loop) where
@@ -135,10 +135,10 @@ module _ (c : tie.After-struct-told2 Inv-loop μ-loop) where
   fit : SFits w32 next
   fit = record { sfits = c .struct-told2 .given .1 .0 .1 }
 
-  settled : Settled (instant l +ℤ pos 1) (d .all-rows .result .rows) (d .all-rows .last .1 .0)
+  settled : Settled (instant l +ℤ pos 1) (d .all-rows .result .rows) (d .all-rows .last .1 .1 .0)
   settled = d .all-rows .ensures .1 (c .before .if2 .left) .0
 
-  due : NextDue (dueEnds [] (operatorsOf (start l .args .chart)) (rowsIn (d .all-rows .result .rows) (d .all-rows .last .1 .0))) (instant l +ℤ pos 1) (mark l) next
+  due : NextDue (dueEnds [] (operatorsOf (start l .args .chart)) (start l .args .t4) (rowsIn (d .all-rows .result .rows) (d .all-rows .last .1 .1 .0))) (instant l +ℤ pos 1) (mark l) next
   due = d .all-rows .ensures .1 (c .before .if2 .left) .1
 
   from : (instant l +ℤ pos 1) ≤ᶻ next
@@ -157,15 +157,15 @@ loop-again c =
     rw (same32 _ (fit c)) (
       most c,
       omega arith,
-      settled-later (instant k +ℤ pos 1) (next c) (v .all-rows .result .rows) (v .all-rows .last .1 .0) (settled c) (from c),
-      turn-next (start k .args .chart) (instant k) (mark k) (early v) (first k) (take (k .loop .pending) (start k .args .t3)) (k .loop .n) (k .loop .t) (k .loop .inv .3) (held k) (v .all-rows .ensures .0) (c .before .if2 .left) (settled c) (next c) (due c),
+      settled-later (instant k +ℤ pos 1) (next c) (v .all-rows .result .rows) (v .all-rows .last .1 .1 .0) (settled c) (from c),
+      turn-next (start k .args .chart) (start k .args .t4) (instant k) (mark k) (early v) (first k) (take (k .loop .pending) (start k .args .t3)) (k .loop .n) (k .loop .t) (k .loop .inv .3) (held k) (v .all-rows .ensures .0) (c .before .if2 .left) (settled c) (next c) (due c),
     )
 
 returns-2 : tie.Need-returns-2 Inv-loop μ-loop
 returns-2 c =
     let k = c .before .before in
     let late = lt-false (instant k) (mark k) (sym (c .before .is-before .ensures) ∙ c .if1 .left) in
-    simp (whole (k .before)) at (closing-ended (k .loop .inv .3) (instants-ended (start k .args .chart) (instant k) (mark k) _ (k .loop .n) (k .loop .t) (k .loop .inv .0) late))
+    subst (λ z. Tried (start k .args .room) (start k .args .state .rows) z (start k .args .t .now) (k .loop .n) (k .loop .t)) (whole (k .before)) (closing-ended (k .loop .inv .3) (instants-ended (start k .args .chart) (start k .args .t4) (instant k) (mark k) _ (k .loop .n) (k .loop .t) (k .loop .inv .0) late))
 
 pub due-rows-spec : {M : Type 1} → statement M
 due-rows-spec =

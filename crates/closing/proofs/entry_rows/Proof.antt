@@ -64,9 +64,6 @@ after-fits c = fits (c .before .before .before) _ (lower (c .before .before) _ (
 nearest-fits : (c : tie.After-kind4) → let e = c .before .before .before .args .e in SFits w32 (pos (e .a)) × SFits w32 (pos (e .b))
 nearest-fits c = both-fit (c .before .before .before) (lower (c .before .before) _ (c .kind4 .given .1))
 
-instant : (c : tie.After-struct-told) → SFits w32 (c .before .before .before .before .before .args .f .instant)
-instant c = record { sfits = c .struct-told .given .1 .1 .1 .1 .0 .1 }
-
 -- the rows appended by each
 event-added : tie.Need-returns
 unfolding addedRows
@@ -106,26 +103,21 @@ length-added c =
     let k = y .before .before in
     simp (operator k _ (y .kind3 .given .1), same32 _ (limit k)) (simp (same32, length-fits y) at (c .before .taken-rows .ensures), none k)
 
--- what the search for the next end of a delay asks and tells
-next-end-requires : tie.Need-next-end-requires
-next-end-requires c κs =
-    let y = c .before .before in
+-- what the rows of a delay ask and tell
+after-rows-requires : tie.Need-after-rows-requires
+after-rows-requires c κs =
+    let y = c .before in
     let s = y .before .before .before in
     let p = s .pre in
-    simp (same32 _ (instant c), same32 _ (s .fits .next), same32 _ (after-fits y)) (p .3, omega (arith, p .0 .held, p .0 .fit, p .0 .inside), p .4, is-le (pos 0) (pos (s .args .e .a)) (omega arith))
+    simp (same32 _ (s .fits .next), same32 _ (after-fits y)) (p .0, p .3, p .4, is-le (pos 0) (pos (s .args .e .a)) (omega arith))
 
 delay-added : tie.Need-returns-6
 unfolding addedRows
 delay-added c =
     let d = c .before in
-    let m = d .before .before in
-    let y = m .before .before .before in
-    let s = y .before .before .before in
-    let f : SFits w32 (m .next-end .result) = record { sfits = m .next-end .ok } in
-    simp (operator (y .before .before) _ (y .enum-told3 .given .1), same32 _ f) (
-      simp (same32, after-fits y) at (d .delayed-rows .ensures),
-      simp (same32 _ (instant (m .before)), same32 _ (s .fits .next), same32 _ (after-fits y)) at (m .next-end .ensures),
-    )
+    let y = d .before .before in
+    let k = y .before .before in
+    simp (operator k _ (y .enum-told3 .given .1)) (simp (same32, after-fits y, limit k) at (d .after-rows .ensures))
 
 nearest-added : tie.Need-returns-7
 unfolding addedRows
@@ -145,8 +137,7 @@ entry-rows-spec =
     (λ c. search needs) (λ c. pair-fits (c .before .before) .0) (λ c. pair-fits (c .before .before) .1) (λ c κs. search needs)
     (λ c. search needs) (λ c. absence-fits (c .before .before) .0) (λ c. absence-fits (c .before .before) .1) (λ c κs. search needs)
     (λ c. search needs) (λ c. length-fits (c .before .before)) (λ c κs. search needs)
-    (λ c. search needs) (λ c. after-fits (c .before)) next-end-requires
-    (λ c. after-fits (c .before .before .before .before)) (λ c κs. search needs)
+    (λ c. search needs) (λ c. after-fits (c .before)) after-rows-requires
     (λ c. search needs) (λ c. nearest-fits (c .before .before) .0) (λ c. nearest-fits (c .before .before) .1) (λ c κs. search needs)
     (λ c. search needs)
     (λ c. search needs) event-added

@@ -15,14 +15,14 @@ use Rattle.closing.proofs.event_rows.Tie as tie
 abbrev Inv-loop : tie.InvT-loop
 Inv-loop t₀ n f k p codes room pending count₀ j₀ t count j =
     (j ≤ p .count) ×
-    Filling (f .room) n (eventRows (natAbs (f .entry)) (f .instant) k p codes) t₀ count (each (λ i. eventRow (natAbs (f .entry)) k (f .instant) (getD codes i 0) (p .first + i)) (span j (p .count))) t
+    Filling (f .room) (f .since) n (eventRows (natAbs (f .entry)) (f .instant) k p codes) t₀ count (each (λ i. eventRow (natAbs (f .entry)) k (f .instant) (getD codes i 0) (p .first + i)) (span j (p .count))) t
 
 abbrev μ-loop : tie.MeasureT-loop
 μ-loop t₀ n f k p codes room pending count₀ j₀ t count j = p .count - j
 
 loop-holds : tie.Need-loop-holds Inv-loop μ-loop
 unfolding eventRows
-loop-holds c = (omega arith, rw sub-zero (begin _ _ _ _ (c .pre .0 .fit)))
+loop-holds c = (omega arith, rw sub-zero (begin _ _ _ _ _ (c .pre .0 .fit)))
 
 push-event-requires : tie.Need-push-event-requires Inv-loop μ-loop
 push-event-requires c κs =

@@ -23,7 +23,7 @@ use Rattle.closing.proofs.nearest_pairs.Tie as tie
 abbrev Inv-loop : tie.InvT-loop
 Inv-loop t₀ n f w limit end room count₀ s₀ t count s =
     let rows = nearestRow (natAbs (f .entry)) w (toZ w32 limit) t₀ in
-    Filling (f .room) n (each rows (span (f .first) (f .end))) t₀ count (each rows (span s (f .end))) t
+    Filling (f .room) (f .since) n (each rows (span (f .first) (f .end))) t₀ count (each rows (span s (f .end))) t
 
 abbrev μ-loop : tie.MeasureT-loop
 μ-loop t₀ n f w limit end room count₀ s₀ t count s = f .end - s
@@ -132,7 +132,7 @@ nearest-pairs-spec =
     (tie.spec
     Inv-loop
     μ-loop
-    (λ c. begin _ _ _ _ (c .pre .0 .fit))
+    (λ c. begin _ _ _ _ _ (c .pre .0 .fit))
     (λ c. omega arith)
     (λ c κs. let y = c .before in let l = y .before in let a = l .before .pre .0 in omega (arith, y .loop-test .taken, l .loop .inv .size, a .held, a .inside, a .fit))
     (λ c κs. search needs)

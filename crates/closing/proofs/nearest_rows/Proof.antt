@@ -22,7 +22,7 @@ use Rattle.closing.proofs.nearest_rows.Tie as tie
 abbrev Inv-loop : tie.InvT-loop
 Inv-loop t₀ n f a b end s to k room count₀ r₀ t count r =
     let rows = nearestWith k (natAbs (f .entry)) (f .instant) (f .first) (f .end) t₀ in
-    Visiting (k .a) (f .room) n (each rows (span (nearFrom (k .b) (f .first) t₀) (k .to))) t₀ rows (k .to) count t r
+    Visiting (k .a) (f .room) (f .since) n (each rows (span (nearFrom (k .b) (f .first) t₀) (k .to))) t₀ rows (k .to) count t r
 
 abbrev μ-loop : tie.MeasureT-loop
 μ-loop t₀ n f a b end s to k room count₀ r₀ t count r = k .to - r
@@ -35,7 +35,7 @@ returns : tie.Need-returns Inv-loop μ-loop
 returns c =
     let s = c .before .before .before in
     let g = s .args in
-    nothing _ _ _ (g .t .now) (nearest-old (g .c) _ _ (g .a) (g .b) _ _ (g .t .now) (omega (arith, c .if1 .taken, simp (same32 _ (s .fits .b)) at (c .before .first-of .ensures))))
+    nothing _ (g .f .since) _ _ (g .t .now) (nearest-old (g .c) _ _ (g .a) (g .b) _ _ (g .t .now) (omega (arith, c .if1 .taken, simp (same32 _ (s .fits .b)) at (c .before .first-of .ensures))))
 
 between-requires : tie.Need-between-requires Inv-loop μ-loop
 between-requires c κs =
@@ -99,7 +99,7 @@ module _ (c : tie.After-between Inv-loop μ-loop) where
 returns-2 : tie.Need-returns-2 Inv-loop μ-loop
 returns-2 c =
     let d = c .before .before in
-    simp (whole d) at (over (rows d) (from d) (to d) (begin _ _ _ (t₀ d) (start d .pre .0 .fit)) (omega (arith, c .if2 .taken, d .between .ensures .0)))
+    simp (whole d) at (over (rows d) (from d) (to d) (begin _ (start d .args .f .since) _ _ (t₀ d) (start d .pre .0 .fit)) (omega (arith, c .if2 .taken, d .between .ensures .0)))
 
 first-of-requires-2 : tie.Need-first-of-requires-2 Inv-loop μ-loop
 first-of-requires-2 c κs =
@@ -112,7 +112,7 @@ loop-holds : tie.Need-loop-holds Inv-loop μ-loop
 loop-holds c =
     let y = c .before .before in
     let d = y .before .before in
-    visit (A d) (rows d) (from d) (to d) (begin _ _ _ (t₀ d) (start d .pre .0 .fit)) (nearest-none (sought d) (entry d) (O d) (first d) (end d) (t₀ d)) (omega (arith, y .if2 .left, d .between .ensures .0)) (inside d) (c .first-of2 .result) (c .first-of2 .ensures ∙ ap (λ i. nextRow (A d) i (to d) (t₀ d)) (d .between .ensures .0))
+    visit (A d) (rows d) (from d) (to d) (begin _ (start d .args .f .since) _ _ (t₀ d) (start d .pre .0 .fit)) (nearest-none (sought d) (entry d) (O d) (first d) (end d) (t₀ d)) (omega (arith, y .if2 .left, d .between .ensures .0)) (inside d) (c .first-of2 .result) (c .first-of2 .ensures ∙ ap (λ i. nextRow (A d) i (to d) (t₀ d)) (d .between .ensures .0))
 
 -- row r of the table t, while the one before this loop was t₀
 module _ (c : tie.In-loop Inv-loop μ-loop) where
@@ -145,7 +145,7 @@ returns-3 c =
     simp (whole (d i)) at (stop (rows (d i)) (l i .loop .r) (to (d i)) (l i .loop .inv .1) (omega (arith, i .loop-test .taken)) (same i) (w .nearest-with .ensures) (c .if3 .taken))
 
 -- a turn
-turned : (c : tie.Else3 Inv-loop μ-loop) → let w = c .before .before in let i = w .before .before in Filling (start (d i) .args .f .room) (start (d i) .args .n) (each (rows (d i)) (span (from (d i)) (to (d i)))) (t₀ (d i)) (w .nearest-with .result) (each (rows (d i)) (span (l i .loop .r + 1) (to (d i)))) (w .nearest-with .last .0)
+turned : (c : tie.Else3 Inv-loop μ-loop) → let w = c .before .before in let i = w .before .before in Filling (start (d i) .args .f .room) (start (d i) .args .f .since) (start (d i) .args .n) (each (rows (d i)) (span (from (d i)) (to (d i)))) (t₀ (d i)) (w .nearest-with .result) (each (rows (d i)) (span (l i .loop .r + 1) (to (d i)))) (w .nearest-with .last .0)
 turned c =
     let w = c .before .before in
     let i = w .before .before in

@@ -12,13 +12,13 @@ use Rattle.closing.proofs.or_rows.Statement.{statement}
 use Rattle.closing.proofs.or_rows.Tie as tie
 
 -- the left arm is done, and there was room
-halfway : (c : tie.Else1) → let d = c .before .before .before in let g = d .before .before .args in Filling (g .f .room) (g .n) (orRows (natAbs (g .f .entry)) (g .f .instant) (g .a) (g .b) (g .f .first) (g .f .end) (g .t .now)) (g .t .now) (d .taken-rows .result) (takenRows right (natAbs (g .f .entry)) (g .f .instant) (g .b) All (g .f .first) (g .f .end) (g .t .now)) (d .taken-rows .last .0)
+halfway : (c : tie.Else1) → let d = c .before .before .before in let g = d .before .before .args in Filling (g .f .room) (g .f .since) (g .n) (orRows (natAbs (g .f .entry)) (g .f .instant) (g .a) (g .b) (g .f .first) (g .f .end) (g .t .now)) (g .t .now) (d .taken-rows .result) (takenRows right (natAbs (g .f .entry)) (g .f .instant) (g .b) All (g .f .first) (g .f .end) (g .t .now)) (d .taken-rows .last .0)
 unfolding orRows
 halfway c =
     let d = c .before .before .before in
     let s = d .before .before in
     let g = s .args in
-    next (begin (g .f .room) (g .n) _ (g .t .now) (s .pre .fit)) (takenRows left (natAbs (g .f .entry)) (g .f .instant) (g .a) All (g .f .first) (g .f .end) (g .t .now)) _ _ _ refl (simp (same32, s .fits .a) at (d .taken-rows .ensures)) (c .if1 .left)
+    next (begin (g .f .room) (g .f .since) (g .n) _ (g .t .now) (s .pre .fit)) (takenRows left (natAbs (g .f .entry)) (g .f .instant) (g .a) All (g .f .first) (g .f .end) (g .t .now)) _ _ _ refl (simp (same32, s .fits .a) at (d .taken-rows .ensures)) (c .if1 .left)
 
 returns : tie.Need-returns
 unfolding orRows
@@ -26,7 +26,7 @@ returns c =
     let d = c .before .before .before in
     let s = d .before .before in
     let g = s .args in
-    full (begin (g .f .room) (g .n) _ (g .t .now) (s .pre .fit)) (takenRows left (natAbs (g .f .entry)) (g .f .instant) (g .a) All (g .f .first) (g .f .end) (g .t .now)) (takenRows right (natAbs (g .f .entry)) (g .f .instant) (g .b) All (g .f .first) (g .f .end) (g .t .now)) _ _ refl (simp (same32, s .fits .a) at (d .taken-rows .ensures)) (c .if1 .taken)
+    full (begin (g .f .room) (g .f .since) (g .n) _ (g .t .now) (s .pre .fit)) (takenRows left (natAbs (g .f .entry)) (g .f .instant) (g .a) All (g .f .first) (g .f .end) (g .t .now)) (takenRows right (natAbs (g .f .entry)) (g .f .instant) (g .b) All (g .f .first) (g .f .end) (g .t .now)) _ _ refl (simp (same32, s .fits .a) at (d .taken-rows .ensures)) (c .if1 .taken)
 
 returns-2 : tie.Need-returns-2
 returns-2 c =

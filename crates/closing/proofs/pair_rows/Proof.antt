@@ -20,7 +20,7 @@ use Rattle.closing.proofs.pair_rows.Tie as tie
 abbrev Inv-loop : tie.InvT-loop
 Inv-loop t₀ n f c a b end room count₀ first r₀ t count r =
     let rows = pairsWith c (natAbs (f .entry)) (toZ w32 a) (toZ w32 b) (f .first) (f .end) t₀ in
-    Visiting (toZ w32 a) (f .room) n (each rows (span first (f .end))) t₀ rows (f .end) count t r
+    Visiting (toZ w32 a) (f .room) (f .since) n (each rows (span first (f .end))) t₀ rows (f .end) count t r
 
 abbrev μ-loop : tie.MeasureT-loop
 μ-loop t₀ n f c a b end room count₀ first r₀ t count r = f .end - r
@@ -37,7 +37,7 @@ loop-holds c =
     let h = c .before .before in
     let s = h .before .before in
     let g = s .args in
-    visit _ _ _ (g .f .end) (begin _ _ _ _ (s .pre .fit)) (pairs-none (g .c) _ _ _ _ _ (g .t .now)) (from-least h) (s .pre .inside) _ (c .next-of .ensures)
+    visit _ _ _ (g .f .end) (begin _ _ _ _ _ (s .pre .fit)) (pairs-none (g .c) _ _ _ _ _ (g .t .now)) (from-least h) (s .pre .inside) _ (c .next-of .ensures)
 
 pairs-with-requires : tie.Need-pairs-with-requires Inv-loop μ-loop
 pairs-with-requires c κs =
@@ -74,7 +74,7 @@ returns c =
     simp (whole h) at (stop _ (l .loop .r) (h .before .before .args .f .end) (l .loop .inv .1) (omega arith) (same i) (d .pairs-with .ensures) (c .if1 .taken))
 
 -- a turn
-turned : (c : tie.Else1 Inv-loop μ-loop) → let d = c .before .before in let l = d .before .before .before in let h = l .before .before .before in let g = h .before .before .args in let rows = pairsWith (g .c) (natAbs (g .f .entry)) (toZ w32 (ofZ w32 (g .a))) (toZ w32 (ofZ w32 (g .b))) (g .f .first) (g .f .end) (g .t .now) in Filling (g .f .room) (g .n) (each rows (span (h .left-from .result) (g .f .end))) (g .t .now) (d .pairs-with .result) (each rows (span (l .loop .r + 1) (g .f .end))) (d .pairs-with .last .0)
+turned : (c : tie.Else1 Inv-loop μ-loop) → let d = c .before .before in let l = d .before .before .before in let h = l .before .before .before in let g = h .before .before .args in let rows = pairsWith (g .c) (natAbs (g .f .entry)) (toZ w32 (ofZ w32 (g .a))) (toZ w32 (ofZ w32 (g .b))) (g .f .first) (g .f .end) (g .t .now) in Filling (g .f .room) (g .f .since) (g .n) (each rows (span (h .left-from .result) (g .f .end))) (g .t .now) (d .pairs-with .result) (each rows (span (l .loop .r + 1) (g .f .end))) (d .pairs-with .last .0)
 turned c =
     let d = c .before .before in
     let i = d .before .before in

@@ -17,7 +17,7 @@ use Rattle.closing.proofs.pairs_with.Tie as tie
 abbrev Inv-loop : tie.InvT-loop
 Inv-loop t₀ n f b r w end room count₀ s₀ t count s =
     let rows = pairRow (w .relation) (natAbs (f .entry)) (w .operand) (w .left) (w .start) (w .end) t₀ in
-    Filling (f .room) n (each rows (span s₀ (f .end))) t₀ count (each rows (span s (f .end))) t
+    Filling (f .room) (f .since) n (each rows (span s₀ (f .end))) t₀ count (each rows (span s (f .end))) t
 
 abbrev μ-loop : tie.MeasureT-loop
 μ-loop t₀ n f b r w end room count₀ s₀ t count s = f .end - s
@@ -71,7 +71,7 @@ loop-again-2 c =
     let g = s .args in
     let q = c .before in
     let no = sym (simp (q .before .row-at2 .ensures) at (q .is-wanted .ensures)) ∙ c .if1 .left in
-    turn _ (l .loop .s) (g .f .end) (l .loop .inv) (omega arith) (pair-same (g .n) (l .loop .t) (g .t .now) (l .loop .inv .kept) _ _ _ _ _ _ (l .loop .s) (omega (arith, s .pre .0 .inside))) (nothing _ _ _ _ (pair-other _ _ (l .loop .t) (l .loop .s) no)) (l .loop .inv .most)
+    turn _ (l .loop .s) (g .f .end) (l .loop .inv) (omega arith) (pair-same (g .n) (l .loop .t) (g .t .now) (l .loop .inv .kept) _ _ _ _ _ _ (l .loop .s) (omega (arith, s .pre .0 .inside))) (nothing _ (g .f .since) _ _ _ (pair-other _ _ (l .loop .t) (l .loop .s) no)) (l .loop .inv .most)
 
 returns-2 : tie.Need-returns-2 Inv-loop μ-loop
 returns-2 c =
@@ -87,7 +87,7 @@ pairs-with-spec =
     μ-loop
     (λ c κs. omega (arith, c .before .pre .0 .held, c .before .pre .0 .inside, c .before .pre .0 .fit))
     (λ c κs. search needs)
-    (λ c. begin _ _ _ _ (c .before .before .before .before .pre .0 .fit))
+    (λ c. begin _ _ _ _ _ (c .before .before .before .before .pre .0 .fit))
     (λ c. omega arith)
     (λ c κs. let k = c .before in let l = k .before in let a = l .before .before .before .before .before .pre .0 in omega (arith, k .loop-test .taken, l .loop .inv .size, a .held, a .inside, a .fit))
     (λ c κs. search needs)

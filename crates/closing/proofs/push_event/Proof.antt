@@ -15,7 +15,7 @@ returns c =
     let s = y .before in
     let f : SFits w32 (s .args .f .entry) = record { sfits = y .struct-told .given .1 .1 .1 .0 .1 } in
     let o : SFits w32 (s .args .f .instant) = record { sfits = y .struct-told .given .1 .1 .1 .1 .0 .1 } in
-    simp (same32, f, o, toZ-pos w32 (s .args .serial) (omega arith)) at (p .push-row .ensures)
+    simp (same32, f, o, toZ-pos w32 (s .args .serial) (omega arith)) at (p .push-counted .ensures)
 
 pub push-event-spec : {M : Type 1} → statement M
 push-event-spec =

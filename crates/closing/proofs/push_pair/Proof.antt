@@ -10,17 +10,17 @@ use Rattle.closing.proofs.push_pair.Tie as tie
 row : (c : tie.After-pair-of) → let g = c .before .before .before .args in c .pair-of .result ≡ pairOf (g .f) (g .w) (storedRow (g .t .now) (g .i)) (g .i)
 row c = let r = c .before in let g = r .before .before .args in c .pair-of .ensures ∙ ap (λ x. pairOf (g .f) (g .w) x (g .i)) (r .row-at .ensures)
 
-push-row-requires : tie.Need-push-row-requires
-push-row-requires c κs =
+push-counted-requires : tie.Need-push-counted-requires
+push-counted-requires c κs =
     let s = c .before .before .before .before in
-    (omega (arith, s .pre .0 .fit), omega (arith, s .pre .0 .held), simp (row (c .before)) (s .pre .0 .above))
+    (s .pre .0, simp (row (c .before)) (s .pre .0 .above))
 
 returns : tie.Need-returns
 unfolding pairRow
 returns c =
     let p = c .before in
     let q = p .before .before in
-    simp (q .before .before .before .pre .3) (simp (row q) at (p .push-row .ensures))
+    simp (q .before .before .before .pre .3) (simp (row q) at (p .push-counted .ensures))
 
 pub push-pair-spec : {M : Type 1} → statement M
 push-pair-spec =
@@ -28,6 +28,6 @@ push-pair-spec =
     (tie.spec
     (λ c κs. search needs)
     (λ c κs. search needs)
-    push-row-requires
+    push-counted-requires
     (λ c. search needs)
     returns)

@@ -2,9 +2,10 @@
 use borrow.Author.Needs.{needs}
 use mathlib.Core.Path.{_≡_, sym, ap, _∙_}
 use mathlib.Core.Bool.{Bool}
+use lib.IntN.{natAbs}
 use Rattle.interval.proofs.Machine.{same32}
 use Rattle.table.specs.Table.{storedRow}
-use Rattle.closing.specs.Added.{isTaken, takenRow}
+use Rattle.closing.specs.Added.{armOf, isTaken, takenRow}
 use Rattle.closing.proofs.Filling.{nothing}
 use Rattle.closing.proofs.push_taken.Statement.{statement}
 use Rattle.closing.proofs.push_taken.Tie as tie
@@ -24,7 +25,9 @@ returns c =
 
 returns-2 : tie.Need-returns-2
 unfolding takenRow
-returns-2 c = nothing _ _ _ _ (simp (tested (c .before) _ (c .if1 .left)))
+returns-2 c =
+    let g = c .before .before .before .before .args in
+    nothing _ (g .f .since) _ (takenRow (armOf (g .second)) (natAbs (g .f .entry)) (g .f .instant) (g .a) (g .taken) (g .t .now) (g .i)) _ (simp (tested (c .before) _ (c .if1 .left)))
 
 pub push-taken-spec : {M : Type 1} → statement M
 push-taken-spec =

@@ -16,7 +16,7 @@ use Rattle.closing.proofs.taken_rows.Tie as tie
 abbrev Inv-loop : tie.InvT-loop
 Inv-loop t₀ n f a taken second end room count₀ i₀ t count i =
     let rows = takenRow (armOf second) (natAbs (f .entry)) (f .instant) (toZ w32 a) taken t₀ in
-    Filling (f .room) n (each rows (span (f .first) (f .end))) t₀ count (each rows (span i (f .end))) t
+    Filling (f .room) (f .since) n (each rows (span (f .first) (f .end))) t₀ count (each rows (span i (f .end))) t
 
 abbrev μ-loop : tie.MeasureT-loop
 μ-loop t₀ n f a taken second end room count₀ i₀ t count i = f .end - i
@@ -62,7 +62,7 @@ taken-rows-spec =
     (tie.spec
     Inv-loop
     μ-loop
-    (λ c. begin _ _ _ _ (c .pre .fit))
+    (λ c. begin _ _ _ _ _ (c .pre .fit))
     push-taken-requires
     same-length
     returns

@@ -9,8 +9,9 @@ use lib.ListN.{length}
 use Rattle.interval.specs.Instants.{isInstant}
 use Rattle.interval.proofs.Machine.{same32}
 use Rattle.chart.specs.Charts.{isUsable}
+use Rattle.chart.proofs.Usable.{usable-few}
 use Rattle.model.proofs.Capacity.{capacity-fits}
-use Rattle.state.specs.State.{emptyState}
+use Rattle.state.specs.State.{openState}
 use Rattle.table.specs.Table.{zeroed}
 use Rattle.watch.specs.Steps.{answered}
 use Rattle.watch.proofs.Calls.{opening-14, opening-8, opening-taken, parts}
@@ -38,6 +39,9 @@ returns-2 c =
     let p = parts (opening-8 (g .chart) (g .table .now) (g .instant) (usable d) (instant i ∙ not-true _ (c .before .if2 .taken))) in
     (ap (λ w. record { refusal = 8; watch = w }) (c .empty2 .ensures) ∙ p .0, p .1)
 
+opened-requires : tie.Need-opened-requires
+opened-requires c κs = let d = c .before .before .before .before .before .before in usable-few (d .before .before .args .chart) (usable d)
+
 returns-3 : tie.Need-returns-3
 returns-3 c =
     let e = c .before in
@@ -48,7 +52,7 @@ returns-3 c =
     let s = d .before .before in
     let g = s .args in
     let p = parts (opening-taken (g .chart) (g .table .now) (g .instant) (usable d) (instant i ∙ not-false _ (r .before .if2 .left))) in
-    let w = e .empty3 .ensures ∙ ap emptyState (same32 _ (s .fits .instant)) in
+    let w = e .opened .ensures ∙ ap (openState (g .chart .count)) (same32 _ (s .fits .instant)) in
     (c .taken .ensures ∙ ap (answered 0) w ∙ p .0, z .zero-part .ensures ∙ ap (λ n. zeroed 0 (n * 5) (g .table .now)) (r .rows-that-fit .ensures) ∙ p .1)
 
 pub opening-spec : {M : Type 1} → statement M
@@ -64,7 +68,7 @@ opening-spec =
     (λ c κs. search needs)
     (λ c. let z = c .before .before .before .before .before .before in omega (arith, c .before .rows-that-fit .ensures, capacity-fits (length (z .args .table .now)), z .good .1 .0 .0))
     (λ c κs. let z = c .before .before .before .before .before .before in (omega arith, omega (arith, c .before .rows-that-fit .ensures, capacity-fits (length (z .args .table .now)))))
-    (λ c κs. search needs)
+    opened-requires
     (λ c κs. search needs)
     (λ c. search needs)
     returns-3)

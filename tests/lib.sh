@@ -33,18 +33,25 @@ is_first() {
 }
 
 # make_archive CRATE: the proved crate as target/staticlib/libCRATE.a, for C and Rust to link. `rt ci` writes no
-# archive, so `rt staticlib CRATE` proves the crate and builds it here.
-make_archive() { make_proved "archive of $1" staticlib "$1"; }
+# archive, so `rt staticlib CRATE` proves the crate and builds it here. It proves one crate after another, `rt check` as
+# many at once as there are processors: so that one proves the crates below first.
+make_archive() {
+    local below
+    read -ra below < <(sed -n "s/^$1://p" crates.txt)
+    make_proved "crates below $1" check "${below[@]}"
+    make_proved "archive of $1" staticlib "$1"
+}
 
 # make_program CRATE: the proved program as target/bin/CRATE.
 make_program() { make_proved "program $1" check "$1"; }
 
-# make_proved WHAT COMMAND CRATE: what `rt COMMAND CRATE` writes; its last line is shown, or all of them where it fails.
+# make_proved WHAT COMMAND CRATE...: what `rt COMMAND CRATE...` writes; its last line is shown, or all of them where it
+# fails.
 make_proved() {
     is_first "$1" || return 0
     heading "proved $1"
     mkdir -p target
-    rt "$2" "$3" >"target/$2.log" 2>&1 || { cat "target/$2.log" >&2; fail "rt $2 $3 failed"; }
+    rt "${@:2}" >"target/$2.log" 2>&1 || { cat "target/$2.log" >&2; fail "rt ${*:2} failed"; }
     tail -n 1 "target/$2.log"
 }
 

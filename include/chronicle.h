@@ -469,6 +469,7 @@ size_t chronicle_list(const uint8_t *input, size_t input_length, int32_t *table,
                       size_t out_length);
 
 #undef CHRONICLE_CALL
+#undef CHRONICLE_NUMBER_CALL
 
 #ifdef __cplusplus
 }

@@ -1,40 +1,30 @@
 -- Instants one after another: what is left to append before an instant is that instant's rows and then what is left from the next due one on.
-use Prim.Native.Nat.{ℕ, suc, _+_, _*_, _-_, _≤_, _<_}
+use Prim.Native.Nat.{ℕ, _+_, _*_, _≤_, _<_}
 use native.Mathlib.Omega.{arith}
-use native.Mathlib.Numerals.{add-one}
-use borrow.Author.Tests.{eqb-true, not-true}
-use mathlib.Core.Path.{_≡_, refl, sym, ap, _∙_, subst}
-use mathlib.Core.Bool.{Bool, true, false, cond, _&&_}
+use mathlib.Core.Path.{_≡_, sym, ap, _∙_, subst}
 use mathlib.Core.Logic.{inl, inr}
 use mathlib.Core.List.{List, [], _++_, append-assoc}
-use lib.Dec.{eqb}
 use lib.IntN.{ℤ, pos, _+ℤ_}
-use lib.ListN.{length, take, drop, length-append, drop-of-length-le}
+use lib.ListN.{length, drop, length-append, drop-of-length-le}
 use lib.Seq.{drop-at}
-use Rattle.interval.proofs.Signed.{_≤ᶻ_, _<ᶻ_, never, eq-fact, lt-true, antisym, add-fact}
-use Rattle.chart.specs.Operators.{kindOf}
-use Rattle.chart.specs.Charts.{entryAt}
+use Rattle.interval.proofs.Signed.{_≤ᶻ_, _<ᶻ_, eq-fact, lt-true, antisym, add-fact}
 use Rattle.chart.specs.declared.Chart.{Chart}
-use Rattle.chart.specs.declared.operator.Kind.{Kind}
-use Rattle.chart.proofs.Below.{at-place}
 use Rattle.model.specs.Recognitions.{Event}
 use Rattle.model.specs.Order.{Row}
-use Rattle.model.specs.RowSteps.{closeRows, closeInstants, instantsTo, delayedEnds, dueEnds, numbered}
+use Rattle.model.specs.RowSteps.{closeRows, closeInstants, instantsTo, dueEnds, numbered}
 use Rattle.model.specs.Statements.{NextDue}
 use Rattle.model.proofs.Steps.{close-more}
 use Rattle.model.proofs.Listing.{numbered-mem}
 use Rattle.model.proofs.History.{instants-to}
 use Rattle.model.proofs.Jump.{EndBefore}
-use Rattle.model.proofs.Due.{next-none, instants-none, instants-on, instants-more, instants-without, instants-skip}
+use Rattle.model.proofs.Due.{instants-none, instants-on, instants-more, instants-without, instants-skip}
 use Rattle.state.specs.declared.WatchState.{WatchState}
 use Rattle.table.specs.Table.{cell, rowsIn}
-use Rattle.table.specs.Operators.{operatorBy, operatorsOf}
+use Rattle.table.specs.Operators.{operatorsOf}
 use Rattle.table.proofs.Rows.{length-rows, rows-mem, rows-puts}
-use Rattle.closing.specs.Added.{Settled, Tried, isDelay, hasNoDelay, firstInstant}
+use Rattle.closing.specs.Added.{Settled, Tried}
 use Rattle.closing.specs.Closed.{closedRows}
-use Rattle.closing.proofs.Spans.{each-nothing}
 use Rattle.closing.proofs.Entries.{Closing, closing-next, closing-full, eventsIn, closed-is}
-use Rattle.closing.proofs.Waits.{ends-all}
 
 -- the rows left to append from the instant o on to before x, to the n rows of t
 unfoldable pub leftInstants : Chart → List ℤ → ℤ → ℤ → List Event → ℕ → List ℤ → List Row
@@ -63,56 +53,6 @@ rows-end : (o : ℤ) (n : ℕ) (t : List ℤ) → Settled o n t → EndBefore o 
 rows-end o n t s r m =
     let p = rows-mem n t r m in
     subst (λ z. z .end <ᶻ o) (sym (p .2)) (lt-true (cell t (p .0) 4) o (s .ended (p .0) (p .1)))
-
--- what is no delay makes no end behind an instant
-no-ends : (k : Kind) (a b : ℕ) → isDelay k ≡ false → (y : ℤ) (rs : List Row) → delayedEnds y rs (operatorBy k a b) ≡ []
-unfolding operatorBy
-no-ends Kind.Event a b h y rs = refl
-no-ends Kind.Or a b h y rs = refl
-no-ends (Kind.Pair c) a b h y rs = refl
-no-ends (Kind.Absence e) a b h y rs = refl
-no-ends (Kind.Length t) a b h y rs = refl
-no-ends Kind.After a b h y rs = never (sym h)
-no-ends (Kind.Nearest c) a b h y rs = refl
-no-ends Kind.Unknown a b h y rs = never (sym h)
-
-none-due : (chart : Chart) (since : List ℤ) (rs : List Row) → hasNoDelay chart ≡ true → dueEnds [] (operatorsOf chart) since rs ≡ []
-unfolding hasNoDelay
-none-due chart since rs h = sym (ends-all chart since rs) ∙ each-nothing _ (chart .count) (λ j l. no-ends (kindOf ((entryAt chart j) .op)) _ _ (not-true _ (at-place _ _ h j l)) _ rs)
-
--- Where closing begins: nothing is left out.
-module _ (chart : Chart) (w : WatchState) (x : ℤ) (t : List ℤ) (s : Settled (w .instant) (w .rows) t) (h : w .instant ≤ᶻ x) where
-  -- the pending events, at an instant
-  abbrev eventsFrom : ℤ → List Event
-  eventsFrom o = numbered o (w .events - w .pending + 1) (take (w .pending) (w .codes))
-
-  first-by : (P : ℤ → Type 0) → P (w .instant) → (w .pending ≡ 0 → hasNoDelay chart ≡ true → P x) → P (firstInstant chart w x)
-  unfolding firstInstant
-  first-by P p q = go (eqb (w .pending) 0) refl (hasNoDelay chart) refl
-    where
-      go : (a : Bool) → eqb (w .pending) 0 ≡ a → (b : Bool) → hasNoDelay chart ≡ b → P (cond (a && b) x (w .instant))
-      go false e b f = p
-      go true e false f = p
-      go true e true f = q (eqb-true _ _ e) f
-
-  pub first-from : w .instant ≤ᶻ firstInstant chart w x
-  first-from = first-by (λ z. w .instant ≤ᶻ z) (omega arith) (λ p q. h)
-
-  pub first-most : firstInstant chart w x ≤ᶻ x
-  first-most = first-by (λ z. z ≤ᶻ x) h (λ p q. omega arith)
-
-  idle : w .pending ≡ 0 → hasNoDelay chart ≡ true → leftInstants chart (w .since) (w .instant) x (eventsIn w) (w .rows) t ≡ []
-  unfolding leftInstants
-  idle p q =
-      ap (λ k. drop (w .rows) (closeInstants (instantsTo (w .instant) x) (w .instant) (numbered (w .instant) (suc (w .events - w .pending)) (take k (w .codes))) (operatorsOf chart) (w .since) (rowsIn (w .rows) t))) p
-      ∙ ap (drop (w .rows)) (instants-skip (operatorsOf chart) (w .since) [] (w .instant) x x (rowsIn (w .rows) t) (rows-end (w .instant) (w .rows) t s) (subst (λ ds. NextDue ds (w .instant) x x) (sym (none-due chart (w .since) (rowsIn (w .rows) t) q)) (next-none (w .instant) x h)))
-      ∙ instants-ended chart (w .since) x x [] (w .rows) t (omega arith) (omega arith)
-
-  pub first-left : leftInstants chart (w .since) (firstInstant chart w x) x (eventsFrom (firstInstant chart w x)) (w .rows) t ≡ drop (w .rows) (closedRows chart w x t)
-  first-left =
-      first-by (λ z. leftInstants chart (w .since) z x (eventsFrom z) (w .rows) t ≡ drop (w .rows) (closedRows chart w x t))
-      (ap (λ k. leftInstants chart (w .since) (w .instant) x (numbered (w .instant) k (take (w .pending) (w .codes))) (w .rows) t) (add-one (w .events - w .pending)) ∙ instants-first chart w x t)
-      (λ p q. instants-ended chart (w .since) x x (eventsFrom x) (w .rows) t (omega arith) (omega arith) ∙ sym (idle p q) ∙ instants-first chart w x t)
 
 module _ (chart : Chart) (since : List ℤ) (o x : ℤ) (h : o <ᶻ x) (first : ℕ) (codes : List ℕ) (n : ℕ) (t : List ℤ) where
   abbrev es : List Event

@@ -19,11 +19,6 @@ use Rattle.interval.specs.declared.Ending.the-variants.{Before, Within, Togethe
 use Rattle.interval.specs.declared.Edges.{Edges}
 use Rattle.interval.specs.declared.Nearest.{Nearest}
 use Rattle.interval.specs.declared.Nearest.the-variants.{Cut, Change}
-use Rattle.chart.specs.Operators.{kindOf}
-use Rattle.chart.specs.Charts.{allBelow, entryAt}
-use Rattle.chart.specs.declared.Chart.{Chart}
-use Rattle.chart.specs.declared.operator.Kind.{Kind}
-use Rattle.state.specs.declared.WatchState.{WatchState}
 use Rattle.model.specs.Lists.{keep, each, numbers}
 use Rattle.model.specs.Recognitions.{Event, Operator, event, related, or, absence, lasting, after, nearest, Arm, left, right}
 use Rattle.model.specs.Order.{Row, row, none, leftOf, rightOf}
@@ -315,21 +310,3 @@ addedRows (absence e a b) entry o p codes m n t = absenceRows e entry o (pos a) 
 addedRows (lasting c a d) entry o p codes m n t = takenRows left entry o (pos a) (Lasting c d) m n t
 addedRows (after a d) entry o p codes m n t = delayedRows entry o (pos a) d n t
 addedRows (nearest c a b) entry o p codes m n t = nearestRows c entry o (pos a) (pos b) m n t
-
--- where closing up to x begins: at x itself where nothing can end before it, since no event is pending and no operator is a delay. An unknown code stands in no
--- chart that a watch may use, and is read as one.
-abbrev pub isDelay : Kind → Bool
-isDelay Kind.Event = false
-isDelay Kind.Or = false
-isDelay (Kind.Pair c) = false
-isDelay (Kind.Absence e) = false
-isDelay (Kind.Length t) = false
-isDelay Kind.After = true
-isDelay (Kind.Nearest c) = false
-isDelay Kind.Unknown = true
-
-unfoldable pub hasNoDelay : Chart → Bool
-hasNoDelay chart = allBelow (chart .count) (λ n. not (isDelay (kindOf ((entryAt chart n) .op))))
-
-unfoldable pub firstInstant : Chart → WatchState → ℤ → ℤ
-firstInstant chart w x = cond (eqb (w .pending) 0 && hasNoDelay chart) x (w .instant)

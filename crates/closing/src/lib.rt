@@ -13,7 +13,6 @@ ghost use mathlib.Core.Bool.{true};
 ghost use Rattle.interval.specs.Instants.{eqZ, least};
 ghost use Rattle.interval.specs.Conditions.{endingOf};
 ghost use Rattle.chart.specs.Charts.{isUsable, entryFits};
-ghost use Rattle.chart.specs.Operators.{kindOf};
 ghost use Rattle.model.specs.Capacity.{capacity};
 ghost use Rattle.model.specs.Recognitions.{after};
 ghost use Rattle.model.specs.RowSteps.{closeRows, delayedEnds, dueEnds};
@@ -21,7 +20,7 @@ ghost use Rattle.model.specs.Statements.{NextDue};
 ghost use Rattle.table.specs.Table.{cell, storedRow, modelRow, rowsIn};
 ghost use Rattle.table.specs.Ends.{Ordered, endingBefore};
 ghost use Rattle.table.specs.Operators.{operatorsOf, entryOperator};
-ghost use Rattle.closing.specs.Added.{Appendable, Proper, Settled, Appended, Tried, isWaited, FirstWaited, SerialsFit, serialRow, eventsAt, eventRows, armOf, partOf, partRow, isTaken, takenRow, takenRows, orRows, delayedRows, forbids, isWithin, absenceRows, topOf, SameTop, nextRow, Passed, leastStart, isWanted, pairOf, pairRow, rightFrom, pairsOf, leftFrom, pairRows, latestStart, nearFrom, nearTo, isLaterRow, rivalEnd, limitBy, nearestPairs, nearestOf, nearestRows, addedRows, isDelay, hasNoDelay, firstInstant};
+ghost use Rattle.closing.specs.Added.{Appendable, Proper, Settled, Appended, Tried, isWaited, FirstWaited, SerialsFit, serialRow, eventsAt, eventRows, armOf, partOf, partRow, isTaken, takenRow, takenRows, orRows, delayedRows, forbids, isWithin, absenceRows, topOf, SameTop, nextRow, Passed, leastStart, isWanted, pairOf, pairRow, rightFrom, pairsOf, leftFrom, pairRows, latestStart, nearFrom, nearTo, isLaterRow, rivalEnd, limitBy, nearestPairs, nearestOf, nearestRows, addedRows};
 ghost use Rattle.closing.specs.Closed.{Closable, closedRows, closedNumber, closedTable};
 use chart::Chart;
 use chart::Entry;
@@ -888,58 +887,9 @@ fn all_rows(
     Made { rows: n, next }
 }
 
-// Whether an entry's operator is a delay. An unknown code stands in no chart that a watch may use, and is read as one.
-fn is_delay(e: Entry) -> bool
-    ensures { λ r. ⌜ r ≡ isDelay (kindOf (e .op)) ⌝ }
-{
-    let kind = chart::operator::kind_of(e.op);
-    match kind {
-        Kind::Event => false,
-        Kind::Or => false,
-        Kind::Pair(_) => false,
-        Kind::Absence(_) => false,
-        Kind::Length(_) => false,
-        Kind::After => true,
-        Kind::Nearest(_) => false,
-        Kind::Unknown => true,
-    }
-}
-
-// Whether the chart has no delay. One look at each entry up to the first.
-fn has_no_delay(chart: Chart) -> bool
-    requires { ⌜ isUsable chart ≡ true ⌝ }
-    ensures { λ r. ⌜ r ≡ hasNoDelay chart ⌝ }
-{
-    let count = chart.count;
-    let mut i: usize = 0;
-    while i < count {
-        let e = chart.entries[i];
-        if is_delay(e) {
-            return false;
-        }
-        i += 1;
-    }
-    true
-}
-
-// The instant to begin with: the open one, or the mark where nothing can end before it, since no event is pending and the chart has no delay. One look
-// at each entry at most.
-fn first_instant(chart: Chart, state: WatchState, mark: i32) -> i32
-    requires { ⌜ isUsable chart ≡ true ⌝ }
-    ensures { λ r. ⌜ r ≡ firstInstant chart state mark ⌝ }
-{
-    if state.pending != 0 {
-        return state.instant;
-    }
-    if has_no_delay(chart) {
-        return mark;
-    }
-    state.instant
-}
-
 // The rows that end before the mark: those of the open instant, to which the pending events belong, and then those of each later instant at which
 // one is due; `codes` and `since` are the state's, taken out of it to be lent. Each costs what `all_rows` costs, and each later one brings a row at least; the
-// instants between cost nothing, and a mark before which nothing can end costs what `first_instant` costs.
+// instants between cost nothing.
 fn due_rows(
     chart: Chart,
     state: WatchState,
@@ -954,7 +904,7 @@ fn due_rows(
 {
     let first = state.events - state.pending + 1;
     let mut pending = state.pending;
-    let mut instant = first_instant(chart, state, mark);
+    let mut instant = state.instant;
     let mut n = state.rows;
     while interval::is_before(instant, mark) {
         let p = Pending {

@@ -1,6 +1,7 @@
 -- `due_rows` meets its contract: what the instants left append is what all were to append; the next due one is later, and no later than the mark.
 use Prim.Native.Nat.{ℕ, _+_, _*_, _-_, _≤_}
 use native.Mathlib.Omega.{arith}
+use native.Mathlib.Numerals.{add-one}
 use borrow.Author.Needs.{needs}
 use mathlib.Core.Path.{_≡_, sym, ap, _∙_, subst}
 use mathlib.Core.List.{List, []}
@@ -18,11 +19,11 @@ use Rattle.model.specs.Capacity.{capacity}
 use Rattle.model.proofs.Capacity.{capacity-fits}
 use Rattle.table.specs.Table.{rowsIn}
 use Rattle.table.specs.Operators.{operatorsOf}
-use Rattle.closing.specs.Added.{Settled, Tried, pendingFrom, eventsAt, firstInstant}
+use Rattle.closing.specs.Added.{Settled, Tried, pendingFrom, eventsAt}
 use Rattle.closing.specs.Closed.{closedRows}
 use Rattle.closing.proofs.Growth.{settled-later}
 use Rattle.closing.proofs.Entries.{Closing, closing-none, same-size, closing-ended}
-use Rattle.closing.proofs.Instants.{leftInstants, instants-ended, instants-fewer, first-from, first-most, first-left, turn-full, turn-next}
+use Rattle.closing.proofs.Instants.{leftInstants, instants-first, instants-ended, instants-fewer, turn-full, turn-next}
 use Rattle.closing.proofs.due_rows.Statement.{statement}
 use Rattle.closing.proofs.due_rows.Tie as tie
 
@@ -42,31 +43,19 @@ Inv-loop chart mark t₀ room codes since first pending₀ instant₀ n₀ t pen
 abbrev μ-loop : tie.MeasureT-loop
 μ-loop chart mark t₀ room codes since first pending₀ instant₀ n₀ t pending instant n = instantsTo (toZ w32 instant) (toZ w32 mark)
 
--- the first instant
-module _ (c : tie.After-first-instant Inv-loop μ-loop) where
-  abbrev begun : tie.Start Inv-loop μ-loop
-  begun = c .before .before
-
-  before-mark : begun .args .state .instant ≤ᶻ begun .args .mark
-  before-mark = omega (arith, lt-true (begun .args .state .instant) (begun .args .mark) (begun .pre .0 .later))
-
-  settled-open : Settled (begun .args .state .instant) (begun .args .state .rows) (begun .args .t .now)
-  settled-open = let p = begun .pre .0 in record { above = p .ready .entryAbove; proper = p .ready .proper; ordered = p .ready .ordered; ended = p .ended }
-
-  first-is : toZ w32 (ofZ w32 (c .first-instant .result)) ≡ firstInstant (begun .args .chart) (begun .args .state) (begun .args .mark)
-  first-is = same32 _ (record { sfits = c .first-instant .ok }) ∙ (simp (same32 _ (begun .fits .mark)) at (c .first-instant .ensures))
+-- the open instant
+opened : (c : tie.After-struct-told Inv-loop μ-loop) → SFits w32 (c .before .before .args .state .instant)
+opened c = record { sfits = c .struct-told .given .0 .1 }
 
 loop-holds : tie.Need-loop-holds Inv-loop μ-loop
 loop-holds c =
-    let s = begun c in
+    let s = c .before .before in
     let g = s .args in
-    let z = before-mark c in
-    simp (first-is c, same32 _ (s .fits .mark)) (
-      first-most (g .chart) (g .state) (g .mark) (g .t .now) (settled-open c) z,
-      omega arith,
-      settled-later (g .state .instant) _ (g .state .rows) (g .t .now) (settled-open c) (first-from (g .chart) (g .state) (g .mark) (g .t .now) (settled-open c) z),
-      closing-none _ _ _ _ (rw (s .pre .3) (s .pre .0 .ready .fit)),
-    )
+    let p = s .pre .0 in
+    let o = g .state .instant in
+    let settled : Settled o (g .state .rows) (g .t .now) = record { above = p .ready .entryAbove; proper = p .ready .proper; ordered = p .ready .ordered; ended = p .ended } in
+    let early : o <ᶻ g .mark = lt-true o (g .mark) (p .later) in
+    simp (same32 _ (opened c), same32 _ (s .fits .mark)) (omega arith, omega arith, settled, closing-none _ _ _ _ (rw (s .pre .3) (p .ready .fit)))
 
 module _ (c : tie.At-loop Inv-loop μ-loop) where
   abbrev start : tie.Start Inv-loop μ-loop
@@ -89,12 +78,12 @@ module _ (c : tie.At-loop Inv-loop μ-loop) where
   held = let r : start .args .room ≡ capacity (length (start .args .t .now)) = start .pre .3 in omega (arith, size, capacity-fits (length (start .args .t .now)))
 
 -- what was to be appended
-whole : (c : tie.After-first-instant Inv-loop μ-loop) → let g = begun c .args in let w = g .state in
-    left (g .chart) (g .t4) (toZ w32 (ofZ w32 (c .first-instant .result))) (toZ w32 (ofZ w32 (g .mark))) (w .events - w .pending + 1) (w .pending) (g .t3) (w .rows) (g .t .now) ≡ drop (w .rows) (closedRows (g .chart) w (g .mark) (g .t .now))
+whole : (c : tie.After-struct-told Inv-loop μ-loop) → let s = c .before .before in let g = s .args in let w = g .state in
+    left (g .chart) (g .t4) (toZ w32 (ofZ w32 (w .instant))) (toZ w32 (ofZ w32 (g .mark))) (w .events - w .pending + 1) (w .pending) (g .t3) (w .rows) (g .t .now) ≡ drop (w .rows) (closedRows (g .chart) w (g .mark) (g .t .now))
 whole c =
-    let s = begun c in
+    let s = c .before .before in
     let g = s .args in
-    simp (first-is c, same32 _ (s .fits .mark), s .pre .1, s .pre .2) (first-left (g .chart) (g .state) (g .mark) (g .t .now) (settled-open c) (before-mark c))
+    simp (same32 _ (opened c), same32 _ (s .fits .mark), add-one, s .pre .1, s .pre .2) (instants-first (g .chart) (g .state) (g .mark) (g .t .now))
 
 -- the instant is before the mark
 in-time : (c : tie.Then1 Inv-loop μ-loop) → instant (c .before .before) <ᶻ mark (c .before .before)
@@ -133,7 +122,7 @@ returns c =
     subst (λ z. Tried (start l .args .room) (start l .args .state .rows) z (start l .args .t .now) (d .all-rows .result .rows) (d .all-rows .last .1 .1 .0)) (whole (l .before)) (turn-full (start l .args .chart) (start l .args .t4) (instant l) (mark l) (early d) (first l) (take (l .loop .pending) (start l .args .t3)) (l .loop .n) (l .loop .t) (l .loop .inv .3) (held l) (d .all-rows .ensures .0) (c .if2 .taken))
 
 -- the next due instant
-module _ (c : tie.After-struct-told Inv-loop μ-loop) where
+module _ (c : tie.After-struct-told2 Inv-loop μ-loop) where
   abbrev d : tie.After-all-rows Inv-loop μ-loop
   d = c .before .before .before
 
@@ -144,7 +133,7 @@ module _ (c : tie.After-struct-told Inv-loop μ-loop) where
   next = d .all-rows .result .next
 
   fit : SFits w32 next
-  fit = record { sfits = c .struct-told .given .1 .0 .1 }
+  fit = record { sfits = c .struct-told2 .given .1 .0 .1 }
 
   settled : Settled (instant l +ℤ pos 1) (d .all-rows .result .rows) (d .all-rows .last .1 .1 .0)
   settled = d .all-rows .ensures .1 (c .before .if2 .left) .0
@@ -186,7 +175,6 @@ due-rows-spec =
     μ-loop
     (λ c. omega (arith, c .before .pre .0 .counted))
     (λ c. omega (arith, c .before .pre .0 .most))
-    (λ c κs. c .before .pre .0 .ready .usable)
     loop-holds
     (λ c κs. search needs)
     all-rows-requires

@@ -1,13 +1,15 @@
-// The C interface: each call of the watch, the chart reader, and the listing of a whole input, under the name and the layout that include/chronicle.h declares.
+// The C interface: each call of the watch, the chart reader, and the listing of and the report on a whole input, under the name and the layout that include/chronicle.h declares.
 // A call has the contract of the call that it makes. Costs are those of that call.
 ghost use mathlib.Core.Path.{_≡_};
 ghost use Rattle.chart.specs.Charts.{readChart, verdictOf};
 ghost use Rattle.model.specs.Capacity.{capacity};
-ghost use Rattle.program.specs.Statements.{listedLength, listedTable, listedOutput};
-ghost use Rattle.watch.specs.Steps.{openingStep, checkNumber, eventStep, clockStep, forgetStep, addStep, endRows, treeStep};
+ghost use Rattle.program.specs.Statements.{wholeLength, wholeTable, wholeOutput};
+ghost use Rattle.watch.specs.Steps.{openingStep, checkNumber, eventStep, clockStep, forgetStep, addStep, endRows, treeStep, reportStep};
 use chart::Chart;
 use chart::ChartAnswer;
 use chart::Verdict;
+use program::Format;
+use tally::Report;
 use watch::Addition;
 use watch::Answer;
 use watch::Part;
@@ -123,11 +125,27 @@ pub extern "C" fn chronicle_tree(
     watch.tree(chart, table, row, out)
 }
 
+// How many rows each entry has, how many are in use and how many were read to count them: 14, 13. A check, then one walk of the rows.
+#[no_mangle]
+pub extern "C" fn chronicle_report(watch: Watch, chart: Chart, table: &[i32]) -> Report
+    ensures { λ r. ⌜ r ≡ reportStep chart (watch .state) (now (table .entry)) ⌝ }
+{
+    watch.report(chart, table)
+}
+
 // Plays a whole input of the listing program, chart, empty line and log, and writes what the program prints for it: the number of bytes, or 0 and
 // nothing done where the output is too short. Costs what the lines' calls cost.
 #[no_mangle]
 pub extern "C" fn chronicle_list(input: &[u8], table: &mut [i32], out: &mut [u8]) -> usize
-    ensures { λ r. ⌜ (r ≡ listedLength (now (input .entry)) (now (table .entry)) (now (out .entry))) × (now (table .exit) ≡ listedTable (now (input .entry)) (now (table .entry)) (now (out .entry))) × (now (out .exit) ≡ listedOutput (now (input .entry)) (now (table .entry)) (now (out .entry))) ⌝ }
+    ensures { λ r. ⌜ (r ≡ wholeLength Format.Listing (now (input .entry)) (now (table .entry)) (now (out .entry))) × (now (table .exit) ≡ wholeTable Format.Listing (now (input .entry)) (now (table .entry)) (now (out .entry))) × (now (out .exit) ≡ wholeOutput Format.Listing (now (input .entry)) (now (table .entry)) (now (out .entry))) ⌝ }
 {
-    program::list(input, table, out)
+    program::print_whole(Format::Listing, input, table, out)
+}
+
+// The same of the report program.
+#[no_mangle]
+pub extern "C" fn chronicle_print_report(input: &[u8], table: &mut [i32], out: &mut [u8]) -> usize
+    ensures { λ r. ⌜ (r ≡ wholeLength Format.Report (now (input .entry)) (now (table .entry)) (now (out .entry))) × (now (table .exit) ≡ wholeTable Format.Report (now (input .entry)) (now (table .entry)) (now (out .entry))) × (now (out .exit) ≡ wholeOutput Format.Report (now (input .entry)) (now (table .entry)) (now (out .entry))) ⌝ }
+{
+    program::print_whole(Format::Report, input, table, out)
 }

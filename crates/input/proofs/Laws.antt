@@ -12,19 +12,21 @@ use lib.ListN.{length, take, drop, length-take, length-drop, length-append}
 use lib.Seq.{length-take-le, take-add, take-at, drop-at, take-all, take-length}
 use Rattle.interval.proofs.Signed.{never}
 use Rattle.io.specs.Counts.{clamped}
+use Rattle.model.proofs.Capacity.{capacity-fits, capacity-all}
 use Rattle.table.specs.Table.{roomIn}
 use Rattle.program.specs.Runs.{Progress, startRun, Between, fed, finished, finishedRun, printedLength, printedOutput, afterBytes, keptOf, isRefused, Reached, restLength, restMoved}
-use Rattle.program.specs.Statements.{joined, fedRun, wholeRun, listedLength, listedOutput}
+use Rattle.program.specs.Statements.{joined, fedRun, wholeRun, bytesFor, wholeLength, wholeOutput}
+use Rattle.program.specs.declared.Format.{Format}
 use Rattle.program.specs.declared.Run.{Run}
 use Rattle.program.proofs.Pieces.{between, fed-nothing, fed-one, fed-more}
 use Rattle.program.proofs.Reading.{finished-run}
 use Rattle.program.proofs.Lines.{movedTo, rest-moved}
 use Rattle.program.proofs.Reaching.{bytes-on, bytes-counted}
-use Rattle.program.proofs.Listing.{one-run, has-room, list-none, list-all, list-front}
-use Rattle.input.specs.Inputs.{held, isCame, isFailed, pieceOf, Turned, endOf, playedTo, OfInput, ListsInput, Listing}
+use Rattle.program.proofs.Whole.{one-run, has-room, whole-none, whole-all, whole-front}
+use Rattle.input.specs.Inputs.{held, isCame, isFailed, pieceOf, Turned, endOf, playedTo, OfInput, PrintsInput, Printout}
 use Rattle.input.specs.declared.Turn.{Turn}
 use Rattle.input.specs.declared.Played.{Played}
-use Rattle.input.specs.declared.Listed.{Listed}
+use Rattle.input.specs.declared.Printed.{Printed}
 
 -- what the loop has after some pieces
 abbrev pub Fed : List ℤ → Between → Type 0
@@ -150,31 +152,37 @@ fed-lines b c kept n m buf k h e z =
     omega (arith, counted, ap (λ x. x .progress .run .line) d, h, ap length k, length-append (b .kept) (take n (drop kept buf)), length-take kept buf, length-take n (drop kept buf))
 
 -- what is printed for an input
-module _ (t : List ℤ) (out : List ℕ) where
-  pub no-room : length out < 40 + roomIn t * 81 → ListsInput t out (record { length = 0; failed = false }) t out
-  no-room h = let g = list-none (joined []) t out h in record { pieces = []; room = λ z. never z; length = g .0; table = g .1; output = g .2 }
+module _ (f : Format) (t : List ℤ) (out : List ℕ) where
+  pub no-room : length out < bytesFor f (roomIn t) → PrintsInput f t out (record { length = 0; failed = false }) t out
+  no-room h = let g = whole-none (joined []) t f out h in record { pieces = []; room = λ z. never z; length = g .0; table = g .1; output = g .2 }
 
-  module _ (h : 40 + roomIn t * 81 ≤ length out) (u : List ℤ) (p : Played) (q : OfInput t p u) where
-    pub not-listed : p .failed ≡ true → ListsInput t out (record { length = 0; failed = true }) u out
+  module _ (h : bytesFor f (roomIn t) ≤ length out) (u : List ℤ) (p : Played) (q : OfInput t p u) where
+    pub not-printed : p .failed ≡ true → PrintsInput f t out (record { length = 0; failed = true }) u out
     unfolding playedTo
-    not-listed z = record {
+    not-printed z = record {
       pieces = q .pieces;
-      room = λ y. has-room t out h;
+      room = λ y. has-room f t out h;
       length = refl;
       table = ap (λ x. x .table) (rw z at (q .same));
       output = refl;
     }
 
-    pub is-listed : (n : ℕ) (written : List ℕ) → p .failed ≡ false → n ≡ printedLength (p .run) u out → written ≡ printedOutput (p .run) u out → ListsInput t out (record { length = n; failed = false }) u written
+    pub is-printed : (n : ℕ) (written : List ℕ) → p .failed ≡ false → n ≡ printedLength f (p .run) u out → written ≡ printedOutput f (p .run) u out → PrintsInput f t out (record { length = n; failed = false }) u written
     unfolding playedTo
-    is-listed n written z e o =
+    is-printed n written z e o =
         let same : record { run = p .run; table = u } ≡ wholeRun t (q .pieces) = rw z at (q .same) in
-        let g = list-all (joined (q .pieces)) t out h _ (one-run t (q .pieces) ∙ sym same) in
+        let g = whole-all (joined (q .pieces)) t f out h _ (one-run t (q .pieces) ∙ sym same) in
         record { pieces = q .pieces; room = λ y. never y; length = e ∙ g .0; table = g .1; output = o ∙ g .2 }
 
-  pub shown : (r : Listed) (u : List ℤ) (written : List ℕ) → ListsInput t out r u written → r .failed ≡ false → 40 + roomIn t * 81 ≤ length out → (r .length ≤ length written) × Listing (roomIn t) (take (r .length) written)
+  shown : (r : Printed) (u : List ℤ) (written : List ℕ) → PrintsInput f t out r u written → r .failed ≡ false → bytesFor f (roomIn t) ≤ length out → (r .length ≤ length written) × Printout f (roomIn t) (take (r .length) written)
   shown r u written q z h =
-      let n : r .length ≡ listedLength (joined (q .pieces)) t out = rw z at (q .length) in
-      let w : written ≡ listedOutput (joined (q .pieces)) t out = rw z at (q .output) in
-      let f = list-front (joined (q .pieces)) t out h in
-      (rw (n, w) (f .0), record { pieces = q .pieces; same = rw (n, w) (f .1) })
+      let n : r .length ≡ wholeLength f (joined (q .pieces)) t out = rw z at (q .length) in
+      let w : written ≡ wholeOutput f (joined (q .pieces)) t out = rw z at (q .output) in
+      let front = whole-front (joined (q .pieces)) t f out h in
+      (rw (n, w) (front .0), record { pieces = q .pieces; same = rw (n, w) (front .1) })
+
+  -- the same with the 3,000 rows that the programs have
+  pub shown-3000 : (r : Printed) (u : List ℤ) (written : List ℕ) → PrintsInput f t out r u written → r .failed ≡ false → length t ≡ 15000 → bytesFor f 3000 ≤ length out → (r .length ≤ length written) × Printout f 3000 (take (r .length) written)
+  shown-3000 r u written q z e h =
+      let rows : roomIn t ≡ 3000 = omega (arith, e, capacity-fits (length t), capacity-all (length t) 3000 (omega (arith, e)) (omega arith)) in
+      subst (λ n. (r .length ≤ length written) × Printout f n (take (r .length) written)) rows (shown r u written q z (rw rows h))

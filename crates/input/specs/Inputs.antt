@@ -1,6 +1,6 @@
 -- An input as it is read, in pieces. What the system hands over is any list of bytes, so each piece is some list: the statements say that there is
 -- one. The statements of crate `program` then hold of the pieces put together.
--- `playedTo`, `OfInput`, `ListsInput` and `Listing` have to be believed; the others serve the proofs.
+-- `playedTo`, `OfInput`, `PrintsInput` and `Printout` have to be believed; the others serve the proofs.
 use Prim.Native.Nat.{ℕ}
 use mathlib.Core.Path.{_≡_}
 use mathlib.Core.Bool.{Bool, true, false, cond}
@@ -10,11 +10,12 @@ use lib.IntN.{ℤ, pos, negsuc}
 use lib.ListN.{take}
 use Rattle.program.specs.Outcomes.{printedFor}
 use Rattle.program.specs.Runs.{Progress, Between, fed, isRefused, finishedRun}
-use Rattle.program.specs.Statements.{joined, fedRun, wholeRun, hasRoom, listedLength, listedOutput, listedTable}
+use Rattle.program.specs.Statements.{joined, fedRun, wholeRun, hasRoom, wholeLength, wholeOutput, wholeTable}
+use Rattle.program.specs.declared.Format.{Format}
 use Rattle.program.specs.declared.Run.{Run}
 use Rattle.input.specs.declared.Turn.{Turn}
 use Rattle.input.specs.declared.Played.{Played}
-use Rattle.input.specs.declared.Listed.{Listed}
+use Rattle.input.specs.declared.Printed.{Printed}
 
 -- a run, its table, and the bytes that are kept at the front of a buffer
 abbrev pub held : Run → List ℤ → ℕ → List ℕ → Between
@@ -53,16 +54,16 @@ pub record OfInput (t : List ℤ) (r : Played) (u : List ℤ) : Type 0 where
   pub pieces : List (List ℕ)
   pub same : record { run = r .run; table = u } ≡ playedTo (r .failed) t pieces
 
--- Where reading did not fail, length, table and output are those that `program::list` leaves for the pieces put together. Otherwise the output stays,
+-- Where reading did not fail, length, table and output are those that `program::print_whole` leaves for the pieces put together. Otherwise the output stays,
 -- and the output had room, since nothing is read before that is known.
-pub record ListsInput (t : List ℤ) (out : List ℕ) (r : Listed) (u : List ℤ) (written : List ℕ) : Type 0 where
+pub record PrintsInput (f : Format) (t : List ℤ) (out : List ℕ) (r : Printed) (u : List ℤ) (written : List ℕ) : Type 0 where
   pub pieces : List (List ℕ)
-  pub room : r .failed ≡ true → hasRoom t out ≡ true
-  pub length : r .length ≡ cond (r .failed) 0 (listedLength (joined pieces) t out)
-  pub table : u ≡ cond (r .failed) (fedRun t pieces .progress .table) (listedTable (joined pieces) t out)
-  pub output : written ≡ cond (r .failed) out (listedOutput (joined pieces) t out)
+  pub room : r .failed ≡ true → hasRoom f t out ≡ true
+  pub length : r .length ≡ cond (r .failed) 0 (wholeLength f (joined pieces) t out)
+  pub table : u ≡ cond (r .failed) (fedRun t pieces .progress .table) (wholeTable f (joined pieces) t out)
+  pub output : written ≡ cond (r .failed) out (wholeOutput f (joined pieces) t out)
 
--- the text that the listing program prints for a whole input, with a table of so many rows
-pub record Listing (room : ℕ) (text : List ℕ) : Type 0 where
+-- the text that the program of a format prints for a whole input, with a table of so many rows
+pub record Printout (f : Format) (room : ℕ) (text : List ℕ) : Type 0 where
   pub pieces : List (List ℕ)
-  pub same : text ≡ printedFor room (joined pieces)
+  pub same : text ≡ printedFor f room (joined pieces)

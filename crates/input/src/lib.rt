@@ -7,10 +7,11 @@ ghost use Prim.Native.Nat.{ℕ, _+_, _≤_, _<_};
 ghost use lib.IntN.{ℤ};
 ghost use lib.ListN.{length, take, drop};
 ghost use Rattle.program.specs.Runs.{Reached, HasLines, HasFew, isRefused, fed};
-ghost use Rattle.input.specs.Inputs.{held, isFailed, pieceOf, Turned, endOf, OfInput, ListsInput};
+ghost use Rattle.input.specs.Inputs.{held, isFailed, pieceOf, Turned, endOf, OfInput, PrintsInput};
 use libc::EINTR;
 use libc::STDERR_FILENO;
 use libc::STDIN_FILENO;
+use program::Format;
 use program::Run;
 
 // A run and whether reading the input failed; then the run is not finished.
@@ -19,8 +20,8 @@ pub struct Played {
     pub failed: bool,
 }
 
-// How many bytes a listing has at the front of the output, and whether reading the input failed; then they are none.
-pub struct Listed {
+// How many bytes were printed at the front of the output, and whether reading the input failed; then they are none.
+pub struct Printed {
     pub length: usize,
     pub failed: bool,
 }
@@ -33,28 +34,28 @@ struct Turn {
     failed: bool,
 }
 
-// Plays the standard input to its end and writes what the listing program prints for it at the front of the output. Nothing is read, and the length
-// is 0, where the output has less than 40 bytes and 81 for each row the table can hold.
-pub fn list_input(table: &mut [i32], out: &mut [u8]) -> Listed
-    ensures { λ r. ⌜ ListsInput (now (table .entry)) (now (out .entry)) r (now (table .exit)) (now (out .exit)) ⌝ }
+// Plays the standard input to its end and writes what the program of this format prints for it at the front of the output. Nothing is read, and the length
+// is 0, where the output has less than `bytes_for` says.
+pub fn print_input(format: Format, table: &mut [i32], out: &mut [u8]) -> Printed
+    ensures { λ r. ⌜ PrintsInput format (now (table .entry)) (now (out .entry)) r (now (table .exit)) (now (out .exit)) ⌝ }
 {
-    let room = table::rows_that_fit(table.len());
-    if out.len() < 40 + room * 81 {
-        return Listed {
+    let needed = program::bytes_for(format, table.len());
+    if out.len() < needed {
+        return Printed {
             length: 0,
             failed: false,
         };
     }
     let played = play_input(table);
     if played.failed {
-        return Listed {
+        return Printed {
             length: 0,
             failed: true,
         };
     }
     let run = played.run;
-    let length = run.print(table, out);
-    Listed {
+    let length = run.print(format, table, out);
+    Printed {
         length,
         failed: false,
     }

@@ -1,4 +1,4 @@
--- What is printed, computed: the listing of rows and the line of a refusal. That the listing of a table is that of its rows is a law (Laws.antt);
+-- What is printed, computed: the listing of rows, the lines of a report and the line of a refusal. That the listing of a table is that of its rows is a law (Laws.antt);
 -- document 01's own listing is computed from its input in crate `program`.
 use Prim.Native.Nat.{ℕ}
 use mathlib.Core.Path.{_≡_, refl}
@@ -7,7 +7,9 @@ use lib.IntN.{pos, negsuc}
 use Rattle.text.specs.Quoted.{bytes, tabbed, unended, text}
 use Rattle.decimal.specs.Spelling.{digitsWithin, spelledNumber, spelled}
 use Rattle.model.specs.Order.{Row, row, none}
-use Rattle.printing.specs.Listing.{numbersText, rowTexts, listingText, refusalText}
+use Rattle.text.specs.Text.{split, lines}
+use Rattle.printing.specs.Listing.{numbersText, rowTexts, listingText, rowsListed, refusalText}
+use Rattle.printing.specs.Report.{tallyTexts, reportText}
 
 -- an event, the first and the last instant, and an `or` with its right arm
 abbrev rows : List Row
@@ -32,3 +34,14 @@ listing = refl
 refusal : refusalText 12 13 ∷ refusalText 1 1 ∷ [] ≡ text ("refused 12 13" ∷ []) ∷ text ("refused 1 1" ∷ []) ∷ []
 unfolding bytes tabbed unended text digitsWithin spelledNumber
 refusal = refl
+
+-- "one line per entry, entry and number of rows parted by a tab, and then likewise `total` and the number of rows in use" (request N3): three entries, of which
+-- one has no row; and the most that there can be of one
+report : reportText (2 ∷ 0 ∷ 65535 ∷ []) 65537 ∷ reportText (0 ∷ []) 0 ∷ [] ≡ text ("0 2" ∷ "1 0" ∷ "2 65535" ∷ "total 65537" ∷ []) ∷ text ("0 0" ∷ "total 0" ∷ []) ∷ []
+unfolding bytes tabbed unended text digitsWithin spelledNumber tallyTexts
+report = refl
+
+-- "the rows that a listing prints": the first line is none of them
+listed : rowsListed printed ∷ rowsListed (text ("row entry left right start end" ∷ [])) ∷ [] ≡ 3 ∷ 0 ∷ []
+unfolding bytes tabbed unended text split lines
+listed = refl

@@ -1,6 +1,6 @@
--- Laws of specs/Listing.antt: the listing of a table is the listing of its rows, what the printed text is at the front of the output, and
+-- Laws of specs/Listing.antt and specs/Report.antt: the listing of a table is the listing of its rows, what the printed text is at the front of the output, and
 -- what is left of a text after its first piece.
-use Prim.Native.Nat.{ℕ, suc, _+_, _*_, _-_, _≤_, _<_}
+use Prim.Native.Nat.{ℕ, suc, _+_, _*_, _-_, _^_, _≤_, _<_}
 use native.Mathlib.Omega.{arith}
 use native.Mathlib.Numerals.{add-one}
 use mathlib.Core.Path.{_≡_, refl, sym, ap, _∙_}
@@ -10,12 +10,14 @@ use lib.IntN.{ℤ, pos}
 use lib.ListN.{length, getD, take, drop, length-append, drop-of-length-le}
 use lib.Seq.{sets, drop-cons, drop-drop, take-append-seam}
 use borrow.Author.Tests.{le-leb, lt-leb}
-use Rattle.decimal.specs.Spelling.{spelled}
+use Rattle.decimal.specs.Spelling.{spelledNumber, spelled}
+use Rattle.decimal.proofs.Laws.{wide-digits-most}
 use Rattle.decimal.proofs.Written.{front-written}
 use Rattle.model.specs.Order.{Row}
 use Rattle.table.specs.Table.{cellsOf, flat}
 use Rattle.table.proofs.Rows.{flat-on}
-use Rattle.printing.specs.Listing.{title, numbersText, rowText, rowTexts, listingText, tableRows, tableText, lengthWhere, outputWhere, listingFits, refusalFits}
+use Rattle.printing.specs.Listing.{title, numbersText, rowText, rowTexts, listingText, tableRows, tableText, lastField, lengthWhere, outputWhere, listingFits, refusalFits}
+use Rattle.printing.specs.Report.{tallyTexts, reportFits}
 
 -- For callers. The rows of a table, and numbers behind them that are not printed.
 table-rows : (n : ℕ) (rs : List Row) (u : List ℤ) → tableRows n (length rs) (flat rs ++ u) ≡ rowTexts n rs
@@ -81,6 +83,27 @@ refusal-fits out h = le-leb 40 (length out) h
 pub refusal-short : (out : List ℕ) → length out < 40 → refusalFits out ≡ false
 unfolding refusalFits
 refusal-short out h = lt-leb 40 (length out) h
+
+pub report-fits : (tallies out : List ℕ) → 27 + length tallies * 42 ≤ length out → reportFits tallies out ≡ true
+unfolding reportFits
+report-fits tallies out h = le-leb (27 + length tallies * 42) (length out) h
+
+pub report-short : (tallies out : List ℕ) → length out < 27 + length tallies * 42 → reportFits tallies out ≡ false
+unfolding reportFits
+report-short tallies out h = lt-leb (27 + length tallies * 42) (length out) h
+
+-- a number of 64 bits that ends its line
+pub last-field-most : (n : ℕ) → n < 2 ^ 64 → length (lastField n) ≤ 22
+last-field-most n h = omega (arith, wide-digits-most n h, length-append (9 ∷ spelledNumber n) (10 ∷ []))
+
+-- What is left of the entries of a report from entry e on
+pub tallies-more : (ns : List ℕ) (e : ℕ) → e < length ns → tallyTexts e (drop e ns) ≡ (spelledNumber e ++ lastField (getD ns e 0)) ++ tallyTexts (e + 1) (drop (e + 1) ns)
+unfolding tallyTexts
+tallies-more ns e h = rw (add-one e, drop-cons ns e 0 h)
+
+pub tallies-done : (ns : List ℕ) (e : ℕ) → length ns ≤ e → tallyTexts e (drop e ns) ≡ []
+unfolding tallyTexts
+tallies-done ns e h = rw (drop-of-length-le ns h)
 
 -- What is left of the numbers of a line, and of the rows of a table, from place i on.
 pub numbers-more : (xs : List ℤ) (i : ℕ) → i < length xs → numbersText (drop i xs) ≡ (9 ∷ spelled (getD xs i (pos 0))) ++ numbersText (drop (i + 1) xs)

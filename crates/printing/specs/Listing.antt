@@ -6,6 +6,7 @@ use mathlib.Core.List.{List, [], _∷_, _++_}
 use lib.Dec.{leb}
 use lib.IntN.{ℤ}
 use lib.ListN.{length, take, drop}
+use Rattle.text.specs.Text.{lines}
 use Rattle.decimal.specs.Spelling.{spelledNumber, spelled}
 use Rattle.model.specs.Order.{Row}
 use Rattle.table.specs.Table.{cellsOf}
@@ -46,13 +47,21 @@ tableRows n (suc k) t = rowText n (take 5 t) ++ tableRows (suc n) k (drop 5 t)
 abbrev pub tableText : ℕ → List ℤ → List ℕ
 tableText rows t = title ++ tableRows 0 rows t
 
+-- how many rows a text lists: the lines behind its first
+abbrev pub rowsListed : List ℕ → ℕ
+rowsListed s = length (drop 1 (lines s))
+
 -- `refused`
 abbrev pub refusedWord : List ℕ
 refusedWord = 114 ∷ 101 ∷ 102 ∷ 117 ∷ 115 ∷ 101 ∷ 100 ∷ []
 
+-- a number that ends its line, with its tab before it
+abbrev pub lastField : ℕ → List ℕ
+lastField n = (9 ∷ spelledNumber n) ++ (10 ∷ [])
+
 -- "`refused`, number, line of the whole input ..., parted by tabs"
 abbrev pub refusalText : ℕ → ℕ → List ℕ
-refusalText number line = refusedWord ++ ((9 ∷ spelledNumber number) ++ ((9 ∷ spelledNumber line) ++ (10 ∷ [])))
+refusalText number line = refusedWord ++ ((9 ∷ spelledNumber number) ++ lastField line)
 
 -- How many bytes are answered for a text that is written where there is room, and the output then: the text at its front and the rest as
 -- before, or all as before.

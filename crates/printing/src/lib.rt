@@ -1,15 +1,19 @@
-// What the listing program prints: the listing of a table, or the line of a refusal. Both public functions accept every input. The
-// others ask for room at a place of the output, write a text there, and return the place behind it.
+// What the listing program and the report program print: the listing of a table, the numbers of rows by entry, or the line of a refusal. Each public function
+// accepts every input. The others ask for room at a place of the output, write a text there, and return the place behind it.
 ghost use mathlib.Core.Path.{_≡_};
-ghost use mathlib.Core.List.{_∷_};
+ghost use mathlib.Core.List.{_∷_, _++_};
 ghost use Prim.Native.Nat.{_+_, _*_, _≤_};
 ghost use lib.ListN.{length, take, drop};
 ghost use lib.Seq.{sets};
 ghost use Rattle.decimal.specs.Spelling.{spelledNumber, spelled};
-ghost use Rattle.printing.specs.Listing.{numbersText, rowText, tableRows, listingLength, listingOutput, refusalLength, refusalOutput};
+ghost use Rattle.printing.specs.Listing.{numbersText, rowText, tableRows, lastField, listingLength, listingOutput, refusalLength, refusalOutput};
+ghost use Rattle.printing.specs.Report.{tallyTexts, reportLength, reportOutput};
 
 // The first line of a listing.
 const TITLE: [u8; 31] = *b"row\tentry\tleft\tright\tstart\tend\n";
+
+// The word before the number of all rows in a report.
+const TOTAL: [u8; 5] = *b"total";
 
 // The first word of a refusal.
 const REFUSED: [u8; 7] = *b"refused";
@@ -45,9 +49,49 @@ pub fn write_refusal(number: u32, line: u64, out: &mut [u8]) -> usize
     let word = REFUSED;
     let a = write_bytes(&word, out, 0);
     let b = write_number_field(number as u64, out, a);
-    let c = write_number_field(line, out, b);
-    out[c] = b'\n';
-    c + 1
+    write_last_field(line, out, b)
+}
+
+// Writes the lines of a report at the front of the output and returns the number of bytes: of each entry, which has so many rows, and of the total. Where the
+// output has less than 27 bytes and 42 for each entry, it writes nothing and returns 0. Each byte is written once, with one division by 10 for each digit but
+// the first of a number.
+pub fn write_report(tallies: &[usize], total: usize, out: &mut [u8]) -> usize
+    ensures { λ r. ⌜ (r ≡ reportLength (now (tallies .entry)) total (now (out .entry))) × (now (out .exit) ≡ reportOutput (now (tallies .entry)) total (now (out .entry))) ⌝ }
+{
+    if out.len() < 27 {
+        return 0;
+    }
+    if (out.len() - 27) / 42 < tallies.len() {
+        return 0;
+    }
+    let a = write_tallies(tallies, out);
+    let word = TOTAL;
+    let b = write_bytes(&word, out, a);
+    write_last_field(total as u64, out, b)
+}
+
+// Writes the lines of the entries at the front of the output. Each byte is written once.
+fn write_tallies(tallies: &[usize], out: &mut [u8]) -> usize
+    requires { ⌜ length (now tallies) * 42 ≤ length (now out) ⌝ }
+    ensures { λ r. ⌜ (r ≡ length (tallyTexts 0 (now (tallies .entry)))) × (now (out .exit) ≡ sets (now (out .entry)) 0 (tallyTexts 0 (now (tallies .entry)))) × (r ≤ length (now (tallies .entry)) * 42) ⌝ }
+{
+    let mut place: usize = 0;
+    let mut e: usize = 0;
+    while e < tallies.len() {
+        let n = tallies[e];
+        place = write_tally(e, n, out, place);
+        e += 1;
+    }
+    place
+}
+
+// Writes the line of entry e, which has n rows. Each byte is written once.
+fn write_tally(e: usize, n: usize, out: &mut [u8], at: usize) -> usize
+    requires { ⌜ at + 42 ≤ length (now out) ⌝ }
+    ensures { λ r. ⌜ (r ≡ at + length (spelledNumber e ++ lastField n)) × (now (out .exit) ≡ sets (now (out .entry)) at (spelledNumber e ++ lastField n)) × (r ≤ at + 42) ⌝ }
+{
+    let behind = write_number(e as u64, out, at);
+    write_last_field(n as u64, out, behind)
 }
 
 // Writes the lines of the first rows. Each byte is written once.
@@ -109,6 +153,16 @@ fn write_number_field(m: u64, out: &mut [u8], at: usize) -> usize
 {
     out[at] = b'\t';
     write_number(m, out, at + 1)
+}
+
+// Writes a tab, m and the end of the line. Each byte is written once.
+fn write_last_field(m: u64, out: &mut [u8], at: usize) -> usize
+    requires { ⌜ at + length (lastField m) ≤ length (now out) ⌝ }
+    ensures { λ r. ⌜ (r ≡ at + length (lastField m)) × (now (out .exit) ≡ sets (now (out .entry)) at (lastField m)) ⌝ }
+{
+    let end = write_number_field(m, out, at);
+    out[end] = b'\n';
+    end + 1
 }
 
 // Writes m. Each byte is written once.

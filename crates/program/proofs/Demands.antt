@@ -1,7 +1,7 @@
--- The demand of specs/Demands.antt.
+-- What specs/Demands.antt states.
 use Prim.Native.Nat.{ℕ, suc, _-_, _≤_}
 use native.Mathlib.Omega.{arith}
-use mathlib.Core.Path.{_≡_, refl}
+use mathlib.Core.Path.{_≡_, refl, sym, _∙_, subst}
 use mathlib.Core.Logic.{_⊎_, inl, inr}
 use mathlib.Core.Bool.{Bool, true, false, cond}
 use mathlib.Core.List.{List, [], _∷_, List·Memᴰ·head, List·Memᴰ·tail, List·Memᴰ·not-nil}
@@ -16,6 +16,9 @@ use Rattle.model.specs.Reference.{Model, Answer}
 use Rattle.model.specs.Statements.{_∈_}
 use Rattle.model.proofs.ReferenceLaws.{opening-number, event-number, clock-number, forget-number}
 use Rattle.table.specs.Operators.{operatorsOf}
+use Rattle.table.specs.Table.{roomIn}
+use Rattle.tally.specs.Tally.{tallies}
+use Rattle.printing.proofs.Lines.{table-lists, listing-lists}
 use Rattle.watch.specs.Demands.{chartNumbers}
 use Rattle.watch.proofs.Numbers.{some-answered}
 use Rattle.watch.proofs.Demands as watch
@@ -23,11 +26,18 @@ use Rattle.log.specs.declared.Call.{Call}
 use Rattle.log.specs.declared.Call.the-variants as log
 use Rattle.log.proofs.Demands as line
 use Rattle.program.specs.Outcomes.{Outcome, listed, refused, callIn, openingAnswer, callAnswer, playCalls, playLog, chartLines, logLines, playLines, outcomeText, printedFor}
-use Rattle.program.specs.Demands.{Lists, Refuses, Demand1}
+use Rattle.program.specs.Runs.{Progress, startRun}
+use Rattle.program.specs.Demands.{Shows, Refuses, Demand1, ReportTotals, Agree, ReportAgrees}
+use Rattle.program.specs.declared.Format.{Format}
+use Rattle.program.specs.declared.Format.the-variants.{Listing, Report}
+use Rattle.program.proofs.Pieces.{afterLines}
+use Rattle.program.proofs.Playing.{lines-play}
+use Rattle.program.proofs.Reaching.{start-reached}
+use Rattle.program.proofs.Printing.{lines-on, Added, end-added}
 
 -- a listing, or a refusal by one of 1 to 12
 Numbered : Outcome → Type 0
-Numbered (listed rs) = Unit {0}
+Numbered (listed n rs) = Unit {0}
 Numbered (refused n line) = (1 ≤ n) × (n ≤ 12)
 
 module _ (ops : List Operator) (room : ℕ) where
@@ -98,15 +108,33 @@ lines-numbered room ls = go (eqb (a .refusal) 0) refl
         let h = chart-number (some-answered (chartLines ls) .number) in
         (omega (arith, d), omega arith)
 
-outcome-printed : (o : Outcome) → Numbered o → Lists (outcomeText o) ⊎ Refuses (outcomeText o)
+outcome-printed : (f : Format) (o : Outcome) → Numbered o → Shows f (outcomeText f o) ⊎ Refuses (outcomeText f o)
 unfolding outcomeText Numbered
-outcome-printed (listed rs) h = inl (record { rows = rs; text = refl })
-outcome-printed (refused n line) h = inr (record { number = n; line = line; least = h .0; greatest = h .1; text = refl })
+outcome-printed Listing (listed n rs) h = inl (record { rows = rs; text = refl })
+outcome-printed Report (listed n rs) h = inl (record { entries = n; rows = rs; text = refl })
+outcome-printed Listing (refused n line) h = inr (record { number = n; line = line; least = h .0; greatest = h .1; text = refl })
+outcome-printed Report (refused n line) h = inr (record { number = n; line = line; least = h .0; greatest = h .1; text = refl })
 
 pub demand-1 : Demand1
 unfolding printedFor
 demand-1 = record {
   watch = watch.demand-1;
   log = line.demand-1;
-  printed = λ room input. outcome-printed (playLines room (lines input)) (lines-numbered room (lines input));
+  printed = λ f room input. outcome-printed f (playLines room (lines input)) (lines-numbered room (lines input));
 }
+
+-- the number of rows that a listing prints is the total
+pub report-totals : ReportTotals
+report-totals chart w t z = table-lists (w .rows) t ∙ sym ((watch.report-holds chart w t z) .total)
+
+outcome-agrees : (o : Outcome) → Numbered o → Added o → (Refuses (outcomeText Listing o) × (outcomeText Report o ≡ outcomeText Listing o)) ⊎ Agree (outcomeText Listing o) (outcomeText Report o)
+unfolding outcomeText Numbered Added
+outcome-agrees (listed n rs) h a = inr (record { tallies = tallies n rs; total = length rs; text = refl; sum = a; rows = listing-lists rs })
+outcome-agrees (refused n line) h a = inl (record { number = n; line = line; least = h .0; greatest = h .1; text = refl }, refl)
+
+pub report-agrees : ReportAgrees
+unfolding printedFor
+report-agrees t input =
+    let ls = lines input in
+    let p : Progress = record { run = startRun; table = t } in
+    outcome-agrees (playLines (roomIn t) ls) (lines-numbered (roomIn t) ls) (subst Added (lines-play t ls) (end-added (afterLines p ls) (lines-on p ls (start-reached t))))

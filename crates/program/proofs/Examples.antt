@@ -1,4 +1,4 @@
--- What the listing program prints, from text to text: P1 to P8, the four absences, the tightest match first, delays, first after and last before, the ends of the
+-- What the listing program and the report program print, from text to text: P1 to P8, the four absences, the tightest match first, delays, first after and last before, the ends of the
 -- range of instants, and refusals. One list of cases, one theorem that the checker computes by the definition alone. What must be printed stands in document
 -- 01 or request N2 or was found by hand from them and requests N7, N1 and N5. P1 to P8 stand here only; behind the list is the tree of P1's row 7.
 use Prim.Native.Nat.{ℕ}
@@ -21,18 +21,23 @@ use Rattle.table.specs.Table.{flat}
 use Rattle.table.specs.Operators.{operatorBy, operatorsOf, arityOf}
 use Rattle.tree.specs.Tree.{rowBytes, referenceBytes, treeWithin, treeBytes}
 use Rattle.log.specs.Log.{callWords, eventCall, instantCall, wordCall, fieldsCall, callOf}
+use Rattle.tally.specs.Tally.{tally, tallies}
 use Rattle.printing.specs.Listing.{numbersText, rowTexts}
+use Rattle.printing.specs.Report.{tallyTexts}
+use Rattle.program.specs.declared.Format.{Format}
+use Rattle.program.specs.declared.Format.the-variants.{Listing, Report}
 use Rattle.program.specs.Outcomes.{Outcome, listed, refused, callIn, openingAnswer, callAnswer, playCalls, playLog, chartLines, logLines, playLines, outcomeText, printedFor}
 
--- how many rows the table can hold, the input, and what must be printed
+-- which program, how many rows the table can hold, the input, and what must be printed
 pub record Case : Type 0 where
+  pub format : Format
   pub room : ℕ
   pub input : List ℕ
   pub printed : List ℕ
 
 -- A chart, an empty line and a log, and the lines that must be printed. "tabs shown as spaces"
 abbrev prints : ℕ → List String → List String → List String → Case
-prints room chart log printed = record { room = room; input = text (chart ++ "" ∷ log); printed = text printed }
+prints room chart log printed = record { format = Listing; room = room; input = text (chart ++ "" ∷ log); printed = text printed }
 
 -- the listing has these rows
 abbrev lists : ℕ → List String → List String → List String → Case
@@ -224,21 +229,34 @@ refusals =
     prints 0 ("0 event 1" ∷ []) ("open 0" ∷ "event 1" ∷ "clock 0" ∷ []) ("refused 8 5" ∷ []) ∷ []
   where
     input : List ℕ → String → Case
-    input s line = record { room = 3000; input = s; printed = text (line ∷ []) }
+    input s line = record { format = Listing; room = 3000; input = s; printed = text (line ∷ []) }
 
     log : List String → String → Case
     log calls line = prints 3000 ("0 event 1" ∷ []) calls (line ∷ [])
 
-pub cases : List Case
-cases = P1-P8 ++ absences ++ tightest ++ delays ++ nearests ++ ends ++ refusals
+-- "prints one line per entry, entry and number of rows parted by a tab, and then likewise `total` and the number of rows in use" (request N3): P1, P2 and P3, where
+-- entries have no row, no row at all, and the refusal of P8
+abbrev reports : List Case
+reports =
+    report 3000 (chart1 "4 -[[ 3 2") log1 ("0 1" ∷ "1 2" ∷ "2 1" ∷ "3 2" ∷ "4 2" ∷ "total 8" ∷ []) ∷
+    report 3000 (chart1 "4 -[] 3 2") log1 ("0 1" ∷ "1 2" ∷ "2 1" ∷ "3 2" ∷ "4 1" ∷ "total 7" ∷ []) ∷
+    report 3000 (chart1 "4 -[[ 3 2") (log1 ++ "forget 0" ∷ []) ("0 0" ∷ "1 2" ∷ "2 1" ∷ "3 0" ∷ "4 0" ∷ "total 3" ∷ []) ∷
+    report 3000 ("0 event 1" ∷ "1 or 0 0" ∷ []) ("open 0" ∷ []) ("0 0" ∷ "1 0" ∷ "total 0" ∷ []) ∷
+    report 7 (chart1 "4 -[[ 3 2") log1 ("refused 12 14" ∷ []) ∷ []
+  where
+    report : ℕ → List String → List String → List String → Case
+    report room chart log printed = record { format = Report; room = room; input = text (chart ++ "" ∷ log); printed = text printed }
 
-pub examples : map (λ (c : Case). printedFor (c .room) (c .input)) cases ≡ map (λ (c : Case). c .printed) cases
-unfolding cases bytes tabbed unended text split lines isInstant isLength firstFloor isMarkRefused isForgetRefused isRelated isForbidding hasLength isRivalOfSecond isRivalOfFirst isDigit allDigits valueFrom hasLeadingZero isNumber numberOf withoutMinus withMinus instantOf digitsWithin spelledNumber spelled words sameBytes placeOf operatorOf edgesOf relationOf lengthTestOf kindOf inRange areLower withCode eventLine withOperands secondOperand operandsLine byOperator operatorLine numbered parsedLine checkedEntry checkedLine answerTo noEntries withEntry refusedChart readLines orNoLine recognitionsOf withEntries recognitions compare listing opening eventStep clockStep forgetStep operatorBy operatorsOf callWords eventCall instantCall wordCall fieldsCall callOf numbersText rowTexts callIn openingAnswer callAnswer playCalls playLog chartLines logLines playLines outcomeText printedFor
+pub cases : List Case
+cases = P1-P8 ++ absences ++ tightest ++ delays ++ nearests ++ ends ++ refusals ++ reports
+
+pub examples : map (λ (c : Case). printedFor (c .format) (c .room) (c .input)) cases ≡ map (λ (c : Case). c .printed) cases
+unfolding cases bytes tabbed unended text split lines isInstant isLength firstFloor isMarkRefused isForgetRefused isRelated isForbidding hasLength isRivalOfSecond isRivalOfFirst isDigit allDigits valueFrom hasLeadingZero isNumber numberOf withoutMinus withMinus instantOf digitsWithin spelledNumber spelled words sameBytes placeOf operatorOf edgesOf relationOf lengthTestOf kindOf inRange areLower withCode eventLine withOperands secondOperand operandsLine byOperator operatorLine numbered parsedLine checkedEntry checkedLine answerTo noEntries withEntry refusedChart readLines orNoLine recognitionsOf withEntries recognitions compare listing opening eventStep clockStep forgetStep operatorBy operatorsOf callWords eventCall instantCall wordCall fieldsCall callOf tally tallies numbersText rowTexts tallyTexts callIn openingAnswer callAnswer playCalls playLog chartLines logLines playLines outcomeText printedFor
 examples = refl
 
 -- the tree of row i of those that an input comes to, its references followed down
 abbrev rowTree : List Operator → Outcome → ℕ → List ℕ
-rowTree ops (listed rs) i = treeBytes ops (flat rs) i
+rowTree ops (listed n rs) i = treeBytes ops (flat rs) i
 rowTree ops (refused n line) i = []
 
 abbrev treeFor : ℕ → List ℕ → ℕ → List ℕ

@@ -8,5 +8,5 @@ pub mod LogLines
 pub mod Printing
 pub mod Theorems
 pub mod Demands
-pub mod Listing
+pub mod Whole
 pub mod Examples

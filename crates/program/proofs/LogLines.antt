@@ -22,13 +22,13 @@ use Rattle.watch.specs.Steps.{Step, holding, answered, refusedStep, checkNumber
 use Rattle.watch.specs.Histories.{State}
 use Rattle.watch.specs.declared.Answer.{Answer}
 use Rattle.watch.specs.declared.Watch.{Watch}
-use Rattle.watch.proofs.History.{history-consistent}
 use Rattle.log.specs.Log.{callOf}
 use Rattle.log.specs.declared.Call.{Call}
 use Rattle.log.specs.declared.Call.the-variants as log
 use Rattle.program.specs.Outcomes.{callIn}
 use Rattle.program.specs.Runs.{Progress, refusedRun, nextRun, stepped, callStep, lineStep, afterLine, isRefused, Holds, Reached, Read, callsRun}
 use Rattle.program.specs.declared.Run.{Run}
+use Rattle.program.proofs.Reaching.{history-checked}
 use Rattle.program.specs.declared.Stage.the-variants.{Calls}
 use Rattle.program.proofs.Pieces.{Stopped, bytes-stopped}
 
@@ -49,7 +49,7 @@ playing-goes c w line = refl
 -- watch and table are consistent
 pub playing-consistent : (c : Chart) (w : Watch) (line : ℕ) (t : List ℤ) → Reached (playing c w line t) → checkNumber c (w .state) t ≡ 0
 unfolding Holds callsRun
-playing-consistent c w line t (z, usable, h) = ap (λ s. checkNumber (s .chart) (s .watch) (s .table)) (h .same) ∙ history-consistent c usable (h .before) (h .opened) (h .inRange) (h .calls)
+playing-consistent c w line t (z, usable, h) = history-checked c usable (record { watch = w .state; table = t; chart = c }) h
 
 -- a watch after a line, with the entries that it had before
 abbrev pub withOldEntries : WatchState → WatchState → WatchState

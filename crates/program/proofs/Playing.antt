@@ -33,6 +33,7 @@ use Rattle.watch.specs.declared.Watch.{Watch}
 use Rattle.watch.proofs.Calls.{opening-8, opening-taken}
 use Rattle.watch.proofs.Demands.{demand-3}
 use Rattle.watch.proofs.Steps.{event-call, clock-call, forget-call}
+use Rattle.table.proofs.Operators.{length-operators}
 use Rattle.table.proofs.Tables as tables
 use Rattle.log.specs.declared.Call.{Call}
 use Rattle.log.specs.declared.Call.the-variants as log
@@ -105,7 +106,9 @@ module _ (chart : Chart) (usable : isUsable chart ≡ true) (t : List ℤ) (o : 
   -- no line of a log adds entries
   pub calls-play : (n line : ℕ) (cs : List watch.Call) → (history chart t o cs) .chart ≡ chart → (ls : List Line) → comesTo (playing n line cs) ls ≡ playCalls (roomIn t) (modelAfter chart t o cs) (suc line) ls
   unfolding afterLines endRun outcomeOf playCalls lineStep callStep callAnswer stepped
-  calls-play n line cs same [] = ap listed (same-rows cs)
+  calls-play n line cs same [] =
+      let count = sym (length-operators chart) ∙ ap (λ c. length (operatorsOf c)) (sym same) ∙ ap length (demand-3 chart usable t o inRange cs .follows .chart) in
+      ap₂ listed count (same-rows cs)
   calls-play n line cs same (l ∷ ls) = go (callIn l) (λ c x e. one-call n line cs c x e ls (calls-play 0 (line + 1) (cs ++ c ∷ []) (ap (λ s. s .chart) (run-more call (opened chart t o) cs c ∙ ap (λ y. y .state) e)) ls))
     where
       s : State

@@ -18,11 +18,12 @@ use Rattle.chart.specs.declared.ChartAnswer.{ChartAnswer}
 use Rattle.chart.proofs.Lines.{read-none, read-taken, lines-good, lines-more}
 use Rattle.chart.proofs.Usable.{Good, good-none, good-usable, usable-few}
 use Rattle.model.specs.Reference as ref
-use Rattle.watch.specs.Steps.{Step, openingStep, refusedStep, eventStep, clockStep, forgetStep}
+use Rattle.watch.specs.Steps.{Step, openingStep, checkNumber, refusedStep, eventStep, clockStep, forgetStep}
 use Rattle.watch.specs.Histories as watch
 use Rattle.watch.specs.Histories.{State, call, opened}
 use Rattle.watch.specs.declared.Watch.{Watch}
 use Rattle.watch.proofs.Calls.{opening-8}
+use Rattle.watch.proofs.History.{history-consistent}
 use Rattle.model.proofs.ReferenceLaws.{run-none, run-more}
 use Rattle.watch.proofs.Steps.{event-call, clock-call, forget-call}
 use Rattle.log.specs.declared.Call.{Call}
@@ -99,6 +100,10 @@ history-on chart s c x e h = record {
   calls = h .calls ++ c ∷ [];
   same = sym (ap (λ y. y .state) e) ∙ ap (λ y. (call y c) .state) (h .same) ∙ sym (run-more call (opened chart (h .before) (h .opened)) (h .calls) c);
 }
+
+-- no call on it is refused by the check
+pub history-checked : (chart : Chart) → isUsable chart ≡ true → (s : State) → OfHistory chart s → checkNumber (s .chart) (s .watch) (s .table) ≡ 0
+history-checked chart usable s h = ap (λ x. checkNumber (x .chart) (x .watch) (x .table)) (h .same) ∙ history-consistent chart usable (h .before) (h .opened) (h .inRange) (h .calls)
 
 pub history-before : (chart : Chart) (s : State) (c : watch.Call) (x : Step) (e : call s c ≡ watch.stepped chart x) (h : OfHistory chart s) → history-on chart s c x e h .before ≡ h .before
 unfolding history-on

@@ -1,5 +1,5 @@
 -- The statement of specs/Statements.antt.
-use Prim.Native.Nat.{ℕ, _+_, _*_, _≤_}
+use Prim.Native.Nat.{ℕ, _≤_}
 use mathlib.Core.Path.{_≡_, sym, ap, _∙_, subst}
 use mathlib.Core.List.{List}
 use lib.IntN.{ℤ}
@@ -9,7 +9,8 @@ use Rattle.model.specs.Capacity.{capacity}
 use Rattle.table.specs.Table.{roomIn}
 use Rattle.program.specs.Outcomes.{outcomeText, printedFor}
 use Rattle.program.specs.Runs.{Progress, startRun, finished, resultOf}
-use Rattle.program.specs.Statements.{joined, wholeRun, ProgramHolds}
+use Rattle.program.specs.Statements.{joined, wholeRun, bytesFor, ProgramHolds}
+use Rattle.program.specs.declared.Format.{Format}
 use Rattle.program.proofs.Pieces.{atEnd, afterLines, pieces-joined, finished-lines}
 use Rattle.program.proofs.Playing.{lines-play}
 use Rattle.program.proofs.Reaching.{start-reached}
@@ -26,16 +27,16 @@ module _ (t : List ℤ) (pieces : List (List ℕ)) where
   run-is : wholeRun t pieces ≡ atEnd q
   run-is = ap (λ b. finished (b .progress) (b .kept)) (pieces-joined p pieces) ∙ finished-lines p (joined pieces)
 
-  text-is : outcomeText (resultOf (atEnd q)) ≡ printedFor (roomIn t) (joined pieces)
+  text-is : (f : Format) → outcomeText f (resultOf (atEnd q)) ≡ printedFor f (roomIn t) (joined pieces)
   unfolding printedFor
-  text-is = ap outcomeText (lines-play t (lines (joined pieces)))
+  text-is f = ap (outcomeText f) (lines-play t (lines (joined pieces)))
 
-  prints : (out : List ℕ) → 40 + roomIn t * 81 ≤ length out → Prints (wholeRun t pieces) out (printedFor (roomIn t) (joined pieces))
-  prints out h =
+  prints : (f : Format) (out : List ℕ) → bytesFor f (roomIn t) ≤ length out → Prints f (wholeRun t pieces) out (printedFor f (roomIn t) (joined pieces))
+  prints f out h =
       let size : length (q .table) ≡ length t = lines-length p (lines (joined pieces)) (start-reached t) in
-      let room : 40 + roomIn (q .table) * 81 ≤ length out = subst (λ n. 40 + capacity n * 81 ≤ length out) (sym size) h in
-      let e : Prints (atEnd q) out (outcomeText (resultOf (atEnd q))) = end-prints q out (lines-on p (lines (joined pieces)) (start-reached t)) room in
-      subst (λ x. Prints x out (printedFor (roomIn t) (joined pieces))) (sym run-is) (subst (Prints (atEnd q) out) text-is e)
+      let room : bytesFor f (roomIn (q .table)) ≤ length out = subst (λ n. bytesFor f (capacity n) ≤ length out) (sym size) h in
+      let e : Prints f (atEnd q) out (outcomeText f (resultOf (atEnd q))) = end-prints f q out (lines-on p (lines (joined pieces)) (start-reached t)) room in
+      subst (λ x. Prints f x out (printedFor f (roomIn t) (joined pieces))) (sym run-is) (subst (Prints f (atEnd q) out) (text-is f) e)
 
 pub program-holds : ProgramHolds
-program-holds t pieces out h = let e = prints t pieces out h in record { bytes = e .0; output = e .1 }
+program-holds f t pieces out h = let e = prints t pieces f out h in record { bytes = e .0; output = e .1 }

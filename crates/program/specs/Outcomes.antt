@@ -1,6 +1,7 @@
--- What the listing program prints, by the reference model alone: no watch and no table appears here. Document 01, "The listing program": "It reads a
+-- What the listing program and the report program print, by the reference model alone: no watch and no table appears here. Document 01, "The listing program": "It reads a
 -- chart, an empty line and a log from standard input, uses a table of 3,000 rows, and prints the table at the end. A refusal prints only one line:
 -- `refused`, number, line of the whole input (one past the last if a line is missing), parted by tabs. The first empty line ends the chart."
+-- "A report program, with the listing program's input, table and refusals" (request N3): the two differ in what they print of a run that is not refused.
 use Prim.Native.Nat.{ℕ, suc, _-_}
 use mathlib.Core.Bool.{Bool, cond, _&&_}
 use mathlib.Core.List.{List, [], _∷_}
@@ -18,11 +19,15 @@ use Rattle.table.specs.Operators.{operatorsOf}
 use Rattle.log.specs.Log.{callOf, answerOf}
 use Rattle.log.specs.declared.Call.{Call}
 use Rattle.log.specs.declared.Call.the-variants as log
+use Rattle.tally.specs.Tally.{tallies}
 use Rattle.printing.specs.Listing.{listingText, refusalText}
+use Rattle.printing.specs.Report.{reportText}
+use Rattle.program.specs.declared.Format.{Format}
+use Rattle.program.specs.declared.Format.the-variants.{Listing, Report}
 
--- what a run comes to: the rows of the table at the end, or a refusal's number and line
+-- what a run comes to: how many entries the chart has and the rows of the table at the end, or a refusal's number and line
 pub data Outcome : Type 0 where
-  listed : List Row → Outcome
+  listed : ℕ → List Row → Outcome
   refused : ℕ → ℕ → Outcome
 
 -- a log line, Malformed where it lacks its byte 10 or has over 64 bytes
@@ -51,7 +56,7 @@ callAnswer room m (log.Forget f) = model.forgetStep m f
 
 -- the log lines after the opening, from line n of the input on; the first refusal ends the run
 unfoldable pub playCalls : ℕ → Model → ℕ → List Line → Outcome
-playCalls room m n [] = listed (rowsOf m)
+playCalls room m n [] = listed (length (m .chart)) (rowsOf m)
 playCalls room m n (l ∷ ls) =
     let a = callAnswer room m (callIn l) in
     cond (eqb (a .number) 0) (playCalls room (a .state) (suc n) ls) (refused (a .number) n)
@@ -80,10 +85,11 @@ playLines room ls =
     let a = orNoLine (chartLines ls) in
     cond (eqb (a .refusal) 0) (playLog (operatorsOf (a .chart)) room (suc (length ls - length (logLines ls))) (logLines ls)) (refused (a .refusal) (a .line))
 
--- the bytes printed
-unfoldable pub outcomeText : Outcome → List ℕ
-outcomeText (listed rs) = listingText rs
-outcomeText (refused n line) = refusalText n line
+-- the bytes printed: the listing, "row" by row, or the report, "one line per entry" and the total; of a refusal the same line
+unfoldable pub outcomeText : Format → Outcome → List ℕ
+outcomeText Listing (listed n rs) = listingText rs
+outcomeText Report (listed n rs) = reportText (tallies n rs) (length rs)
+outcomeText f (refused n line) = refusalText n line
 
-unfoldable pub printedFor : ℕ → List ℕ → List ℕ
-printedFor room input = outcomeText (playLines room (lines input))
+unfoldable pub printedFor : Format → ℕ → List ℕ → List ℕ
+printedFor f room input = outcomeText f (playLines room (lines input))

@@ -14,15 +14,19 @@ use Rattle.chart.specs.Charts.{isUsable, readLines, noEntries, takenChart}
 use Rattle.chart.specs.declared.Chart.{Chart}
 use Rattle.chart.specs.declared.ChartAnswer.{ChartAnswer}
 use Rattle.table.specs.Table.{rowsIn}
-use Rattle.watch.specs.Steps.{Step, openingStep, eventStep, clockStep, forgetStep, refusedStep, emptyWatch}
+use Rattle.watch.specs.Steps.{Step, openingStep, eventStep, clockStep, forgetStep, reportStep, refusedStep, emptyWatch}
 use Rattle.watch.specs.Histories as watch
 use Rattle.watch.specs.Histories.{State}
 use Rattle.watch.specs.Demands.{history}
 use Rattle.watch.specs.declared.Watch.{Watch}
 use Rattle.log.specs.declared.Call.{Call}
 use Rattle.log.specs.declared.Call.the-variants as log
+use Rattle.tally.specs.declared.Report as tally
 use Rattle.printing.specs.Listing.{listingLength, listingOutput, refusalLength, refusalOutput}
+use Rattle.printing.specs.Report.{reportLength, reportOutput}
 use Rattle.program.specs.Outcomes.{Outcome, listed, refused, callIn, isEmpty}
+use Rattle.program.specs.declared.Format.{Format}
+use Rattle.program.specs.declared.Format.the-variants.{Listing, Report}
 use Rattle.program.specs.declared.Stage.{Stage}
 use Rattle.program.specs.declared.Stage.the-variants.{Entries, Opening, Calls, Refused}
 use Rattle.program.specs.declared.Run.{Run}
@@ -178,9 +182,9 @@ fedAll b (piece ∷ pieces) = fedAll (fed b piece) pieces
 -- what a finished run comes to
 unfoldable pub outcomeOf : Stage → Run → List ℤ → Outcome
 outcomeOf Refused r t = refused (r .refusal) (r .line)
-outcomeOf Entries r t = listed (rowsIn (r .watch .state .rows) t)
-outcomeOf Opening r t = listed (rowsIn (r .watch .state .rows) t)
-outcomeOf Calls r t = listed (rowsIn (r .watch .state .rows) t)
+outcomeOf Entries r t = listed (r .chart .count) (rowsIn (r .watch .state .rows) t)
+outcomeOf Opening r t = listed (r .chart .count) (rowsIn (r .watch .state .rows) t)
+outcomeOf Calls r t = listed (r .chart .count) (rowsIn (r .watch .state .rows) t)
 
 abbrev pub resultOf : Progress → Outcome
 resultOf p = outcomeOf (p .run .stage) (p .run) (p .table)
@@ -238,21 +242,37 @@ restMoved from to s = cond (leb to (length s)) (take (to - from) (drop from s) +
 unfoldable pub finishedRun : Run → ℕ → Run
 finishedRun r kept = cond (eqb kept 0) (endRun (r .stage) r) (unformedRun (r .stage) r)
 
+-- what is printed of a report: its tallies, as many as there are entries, and the rows in use
+abbrev pub reportedLength : tally.Report → List ℕ → ℕ
+reportedLength p out = reportLength (take (p .entries) (p .tallies)) (p .rows) out
+
+abbrev pub reportedOutput : tally.Report → List ℕ → List ℕ
+reportedOutput p out = reportOutput (take (p .entries) (p .tallies)) (p .rows) out
+
+-- what is printed of watch and table: the listing of the rows in use, or the library's report on them
+unfoldable pub tableLength : Format → Run → List ℤ → List ℕ → ℕ
+tableLength Listing r t out = listingLength (r .watch .state .rows) t out
+tableLength Report r t out = reportedLength (reportStep (r .chart) (r .watch .state) t) out
+
+unfoldable pub tableOutput : Format → Run → List ℤ → List ℕ → List ℕ
+tableOutput Listing r t out = listingOutput (r .watch .state .rows) t out
+tableOutput Report r t out = reportedOutput (reportStep (r .chart) (r .watch .state) t) out
+
 -- what a run prints, and how many bytes
-unfoldable pub lengthAt : Stage → Run → List ℤ → List ℕ → ℕ
-lengthAt Refused r t out = refusalLength (r .refusal) (r .line) out
-lengthAt Entries r t out = listingLength (r .watch .state .rows) t out
-lengthAt Opening r t out = listingLength (r .watch .state .rows) t out
-lengthAt Calls r t out = listingLength (r .watch .state .rows) t out
+unfoldable pub lengthAt : Format → Stage → Run → List ℤ → List ℕ → ℕ
+lengthAt f Refused r t out = refusalLength (r .refusal) (r .line) out
+lengthAt f Entries r t out = tableLength f r t out
+lengthAt f Opening r t out = tableLength f r t out
+lengthAt f Calls r t out = tableLength f r t out
 
-unfoldable pub outputAt : Stage → Run → List ℤ → List ℕ → List ℕ
-outputAt Refused r t out = refusalOutput (r .refusal) (r .line) out
-outputAt Entries r t out = listingOutput (r .watch .state .rows) t out
-outputAt Opening r t out = listingOutput (r .watch .state .rows) t out
-outputAt Calls r t out = listingOutput (r .watch .state .rows) t out
+unfoldable pub outputAt : Format → Stage → Run → List ℤ → List ℕ → List ℕ
+outputAt f Refused r t out = refusalOutput (r .refusal) (r .line) out
+outputAt f Entries r t out = tableOutput f r t out
+outputAt f Opening r t out = tableOutput f r t out
+outputAt f Calls r t out = tableOutput f r t out
 
-abbrev pub printedLength : Run → List ℤ → List ℕ → ℕ
-printedLength r t out = lengthAt (r .stage) r t out
+abbrev pub printedLength : Format → Run → List ℤ → List ℕ → ℕ
+printedLength f r t out = lengthAt f (r .stage) r t out
 
-abbrev pub printedOutput : Run → List ℤ → List ℕ → List ℕ
-printedOutput r t out = outputAt (r .stage) r t out
+abbrev pub printedOutput : Format → Run → List ℤ → List ℕ → List ℕ
+printedOutput f r t out = outputAt f (r .stage) r t out

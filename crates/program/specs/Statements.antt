@@ -8,6 +8,8 @@ use lib.IntN.{ℤ}
 use lib.ListN.{length, drop}
 use Rattle.printing.specs.Listing.{lengthWhere, outputWhere}
 use Rattle.table.specs.Table.{roomIn}
+use Rattle.program.specs.declared.Format.{Format}
+use Rattle.program.specs.declared.Format.the-variants.{Listing, Report}
 use Rattle.program.specs.Outcomes.{printedFor}
 use Rattle.program.specs.Runs.{Progress, Between, startRun, fedAll, finished, printedLength, printedOutput}
 
@@ -23,25 +25,30 @@ fedRun t pieces = fedAll (record { progress = record { run = startRun; table = t
 abbrev pub wholeRun : List ℤ → List (List ℕ) → Progress
 wholeRun t pieces = finished (fedRun t pieces .progress) (fedRun t pieces .kept)
 
--- an output with room for the listing of a full table and for every refusal
-unfoldable pub hasRoom : List ℤ → List ℕ → Bool
-hasRoom t out = leb (40 + roomIn t * 81) (length out)
+-- an output with room for what is printed of a table of so many rows, and for every refusal: 40 bytes, and 81 for each row of a listing or 42 for each of the 32
+-- entries that a report may have
+abbrev pub bytesFor : Format → ℕ → ℕ
+bytesFor Listing rows = 40 + rows * 81
+bytesFor Report rows = 1384
+
+unfoldable pub hasRoom : Format → List ℤ → List ℕ → Bool
+hasRoom f t out = leb (bytesFor f (roomIn t)) (length out)
 
 -- For every table and every input, however it is cut into pieces: what the run prints is what the reference model gives for the input's chart and
--- calls, the listing of its rows or its refusal.
-pub record PrintsModel (t : List ℤ) (pieces : List (List ℕ)) (out : List ℕ) : Type 0 where
-  pub bytes : printedLength (wholeRun t pieces .run) (wholeRun t pieces .table) out ≡ length (printedFor (roomIn t) (joined pieces))
-  pub output : printedOutput (wholeRun t pieces .run) (wholeRun t pieces .table) out ≡ printedFor (roomIn t) (joined pieces) ++ drop (length (printedFor (roomIn t) (joined pieces))) out
+-- calls, the listing of its rows, the report on them or its refusal.
+pub record PrintsModel (f : Format) (t : List ℤ) (pieces : List (List ℕ)) (out : List ℕ) : Type 0 where
+  pub bytes : printedLength f (wholeRun t pieces .run) (wholeRun t pieces .table) out ≡ length (printedFor f (roomIn t) (joined pieces))
+  pub output : printedOutput f (wholeRun t pieces .run) (wholeRun t pieces .table) out ≡ printedFor f (roomIn t) (joined pieces) ++ drop (length (printedFor f (roomIn t) (joined pieces))) out
 
 abbrev pub ProgramHolds : Type 0
-ProgramHolds = (t : List ℤ) (pieces : List (List ℕ)) (out : List ℕ) → 40 + roomIn t * 81 ≤ length out → PrintsModel t pieces out
+ProgramHolds = (f : Format) (t : List ℤ) (pieces : List (List ℕ)) (out : List ℕ) → bytesFor f (roomIn t) ≤ length out → PrintsModel f t pieces out
 
 -- a whole input in one piece: nothing is done where the output has not that room
-unfoldable pub listedLength : List ℕ → List ℤ → List ℕ → ℕ
-listedLength input t out = lengthWhere (hasRoom t out) (printedFor (roomIn t) input)
+unfoldable pub wholeLength : Format → List ℕ → List ℤ → List ℕ → ℕ
+wholeLength f input t out = lengthWhere (hasRoom f t out) (printedFor f (roomIn t) input)
 
-unfoldable pub listedOutput : List ℕ → List ℤ → List ℕ → List ℕ
-listedOutput input t out = outputWhere (hasRoom t out) (printedFor (roomIn t) input) out
+unfoldable pub wholeOutput : Format → List ℕ → List ℤ → List ℕ → List ℕ
+wholeOutput f input t out = outputWhere (hasRoom f t out) (printedFor f (roomIn t) input) out
 
-unfoldable pub listedTable : List ℕ → List ℤ → List ℕ → List ℤ
-listedTable input t out = cond (hasRoom t out) (wholeRun t (input ∷ []) .table) t
+unfoldable pub wholeTable : Format → List ℕ → List ℤ → List ℕ → List ℤ
+wholeTable f input t out = cond (hasRoom f t out) (wholeRun t (input ∷ []) .table) t

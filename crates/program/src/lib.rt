@@ -1,4 +1,4 @@
-// The listing program without its input and output: an input that comes in pieces is played on a watch, and what it comes to is printed.
+// The listing program and the report program without their input and output: an input that comes in pieces is played on a watch, and what it comes to is printed.
 ghost use mathlib.Core.Path.{_≡_};
 ghost use mathlib.Core.Bool.{true, false, cond};
 ghost use mathlib.Core.List.{_∷_, []};
@@ -7,11 +7,12 @@ ghost use lib.Dec.{leb};
 ghost use lib.ListN.{length, drop};
 ghost use Rattle.text.specs.Text.{whole, lineSize};
 ghost use Rattle.chart.specs.Charts.{isUsable, readLines};
+ghost use Rattle.model.specs.Capacity.{capacity};
 ghost use Rattle.log.specs.Log.{callOf};
-ghost use Rattle.watch.specs.Steps.{checkNumber, openingStep};
+ghost use Rattle.watch.specs.Steps.{checkNumber, openingStep, reportStep};
 ghost use Rattle.program.specs.Outcomes.{isEmpty};
-ghost use Rattle.program.specs.Statements.{listedLength, listedTable, listedOutput};
-ghost use Rattle.program.specs.Runs.{startRun, refusedRun, nextRun, entryRun, chartEnd, unformedRun, stepped, openingLine, callStep, narrowed, callsRun, afterLine, afterBytes, isEarly, isRefused, keptOf, endRun, finishedRun, Reached, Read, HasLines, HasFew, settledAt, settledGoing, restLength, restMoved, printedLength, printedOutput};
+ghost use Rattle.program.specs.Statements.{bytesFor, wholeLength, wholeTable, wholeOutput};
+ghost use Rattle.program.specs.Runs.{startRun, refusedRun, nextRun, entryRun, chartEnd, unformedRun, stepped, openingLine, callStep, narrowed, callsRun, afterLine, afterBytes, isEarly, isRefused, keptOf, endRun, finishedRun, Reached, Read, HasLines, HasFew, settledAt, settledGoing, restLength, restMoved, reportedLength, reportedOutput, tableLength, tableOutput, printedLength, printedOutput};
 use chart::Chart;
 use log::Call;
 use watch::Answer;
@@ -23,6 +24,12 @@ pub enum Stage {
     Opening,
     Calls,
     Refused,
+}
+
+// What is printed of a run that is not refused: the rows, or how many each entry has.
+pub enum Format {
+    Listing,
+    Report,
 }
 
 // A run of the program: its stage; the number of its refusal, 0 for none; how many lines it has taken, or the line refused; the chart so
@@ -54,20 +61,31 @@ pub fn start() -> Run
     }
 }
 
-// Plays a whole input on a lent table and writes what the program prints for it at the front of the output: the number of bytes, or 0 and nothing
-// done where the output has less than 40 bytes and 81 for each row the table can hold. The cost is that of `feed` and `print`.
-pub fn list(input: &[u8], table: &mut [i32], out: &mut [u8]) -> usize
-    ensures { λ r. ⌜ (r ≡ listedLength (now (input .entry)) (now (table .entry)) (now (out .entry))) × (now (table .exit) ≡ listedTable (now (input .entry)) (now (table .entry)) (now (out .entry))) × (now (out .exit) ≡ listedOutput (now (input .entry)) (now (table .entry)) (now (out .entry))) ⌝ }
+// How many bytes an output needs for what is printed in a format, with a table of so many numbers: 40, and 81 for each row that it can hold or 42 for each of 32
+// entries. Constant time, and that of finding how many rows fit.
+pub fn bytes_for(format: Format, numbers: usize) -> usize
+    ensures { λ r. ⌜ r ≡ bytesFor format (capacity numbers) ⌝ }
 {
-    let room = table::rows_that_fit(table.len());
-    if out.len() < 40 + room * 81 {
+    match format {
+        Format::Listing => 40 + table::rows_that_fit(numbers) * 81,
+        Format::Report => 1384,
+    }
+}
+
+// Plays a whole input on a lent table and writes what the program of this format prints for it at the front of the output: the number of bytes, or 0 and nothing
+// done where the output has less than `bytes_for` says. The cost is that of `feed` and `print`.
+pub fn print_whole(format: Format, input: &[u8], table: &mut [i32], out: &mut [u8]) -> usize
+    ensures { λ r. ⌜ (r ≡ wholeLength format (now (input .entry)) (now (table .entry)) (now (out .entry))) × (now (table .exit) ≡ wholeTable format (now (input .entry)) (now (table .entry)) (now (out .entry))) × (now (out .exit) ≡ wholeOutput format (now (input .entry)) (now (table .entry)) (now (out .entry))) ⌝ }
+{
+    let needed = bytes_for(format, table.len());
+    if out.len() < needed {
         return 0;
     }
     let first = start();
     let fed = first.feed(table, input);
     let run = fed.run;
     let last = run.finish(input.len() - fed.used);
-    last.print(table, out)
+    last.print(format, table, out)
 }
 
 // Moves the bytes from one place of the buffer up to another to its front and returns how many they are; 0, and nothing is moved, where they are not
@@ -139,21 +157,41 @@ impl Run {
     }
 
     // Writes what a finished run prints at the front of the output and returns the number of bytes; 0 where the output is too short. Each byte
-    // is written once.
-    pub fn print(self, table: &[i32], out: &mut [u8]) -> usize
-        ensures { λ r. ⌜ (r ≡ printedLength self (now (table .entry)) (now (out .entry))) × (now (out .exit) ≡ printedOutput self (now (table .entry)) (now (out .entry))) ⌝ }
+    // is written once; for a report watch and table are checked and the rows walked before.
+    pub fn print(self, format: Format, table: &[i32], out: &mut [u8]) -> usize
+        ensures { λ r. ⌜ (r ≡ printedLength format self (now (table .entry)) (now (out .entry))) × (now (out .exit) ≡ printedOutput format self (now (table .entry)) (now (out .entry))) ⌝ }
     {
         let stage = self.stage;
-        let watch = self.watch;
-        let state = watch.state;
-        let rows = state.rows;
         match stage {
             Stage::Refused => printing::write_refusal(self.refusal, self.line, out),
-            Stage::Entries => printing::write_listing(table, rows, out),
-            Stage::Opening => printing::write_listing(table, rows, out),
-            Stage::Calls => printing::write_listing(table, rows, out),
+            Stage::Entries => print_table(self, format, table, out),
+            Stage::Opening => print_table(self, format, table, out),
+            Stage::Calls => print_table(self, format, table, out),
         }
     }
+}
+
+// Writes what a run that is not refused prints.
+fn print_table(run: Run, format: Format, table: &[i32], out: &mut [u8]) -> usize
+    ensures { λ r. ⌜ (r ≡ tableLength format run (now (table .entry)) (now (out .entry))) × (now (out .exit) ≡ tableOutput format run (now (table .entry)) (now (out .entry))) ⌝ }
+{
+    let watch = run.watch;
+    let state = watch.state;
+    let chart = run.chart;
+    match format {
+        Format::Listing => printing::write_listing(table, state.rows, out),
+        Format::Report => print_report(watch, chart, table, out),
+    }
+}
+
+// Writes the library's report on the rows in use. A check, one walk of the rows, and each byte is written once.
+fn print_report(watch: Watch, chart: Chart, table: &[i32], out: &mut [u8]) -> usize
+    ensures { λ r. ⌜ (r ≡ reportedLength (reportStep chart (watch .state) (now (table .entry))) (now (out .entry))) × (now (out .exit) ≡ reportedOutput (reportStep chart (watch .state) (now (table .entry))) (now (out .entry))) ⌝ }
+{
+    let report = watch.report(chart, table);
+    let tallies = report.tallies;
+    let entries = report.entries;
+    printing::write_report(&tallies[..entries], report.rows, out)
 }
 
 // The run, refused with a number at a line.

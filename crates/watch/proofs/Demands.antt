@@ -21,32 +21,35 @@ use Rattle.model.specs.Recognitions.{Operator, Recognition, startOf, endOf}
 use Rattle.model.specs.Reference as ref
 use Rattle.model.specs.Reference.{rowsOf, isAt}
 use Rattle.model.specs.RowSteps.{watch}
-use Rattle.model.specs.Statements.{Reads, IsRecognition, Played, Entries}
+use Rattle.model.specs.Statements.{_∈_, Reads, IsRecognition, Played, Entries}
 use Rattle.model.proofs.Theorems as model
 use Rattle.model.proofs.RowStepLaws.{shown-is}
 use Rattle.model.proofs.ReferenceLaws.{run-none, run-on}
 use Rattle.model.proofs.Range.{starts-in-range}
 use Rattle.table.specs.Operators.{operatorsOf}
 use Rattle.table.specs.Table.{rowsIn, flat, putRows, zeroed, roomIn}
-use Rattle.table.proofs.Rows.{length-flat}
+use Rattle.table.proofs.Rows.{length-rows, rows-mem, length-flat}
+use Rattle.table.proofs.Operators.{length-operators}
 use Rattle.tree.specs.Tree.{recognitionBytes, treeBytes}
 use Rattle.tree.proofs.Meaning.{tree-holds}
+use Rattle.tally.specs.Tally.{sum, reportOf, refusedReport}
+use Rattle.tally.proofs.Laws.{report-rows, report-read, report-sum}
 use Rattle.state.specs.State.{emptyState, openState, extended, withEvent, marked, raised}
 use Rattle.consistency.specs.Consistency.{areConsistent}
 use Rattle.closing.specs.Closed.{closedRows}
 use Rattle.forgetting.specs.Forgetting.{keptRows, forgottenTable}
-use Rattle.watch.specs.Steps.{Step, emptyWatch, openingStep, refusedStep, takenStep, checked, answered, eventOwn, eventStep, clockOwn, clockStep, forgetOwn, forgetStep, addition, addOwn, addStep, checkNumber, TreeStep, refusedTree, takenTree, treeOwn, treeStep}
+use Rattle.watch.specs.Steps.{Step, emptyWatch, openingStep, refusedStep, takenStep, checked, answered, eventOwn, eventStep, clockOwn, clockStep, forgetOwn, forgetStep, addition, addOwn, addStep, checkNumber, TreeStep, refusedTree, takenTree, treeOwn, treeStep, reportStep}
 use Rattle.watch.specs.Histories.{Call, State, Called, stepped, added, call, after, opened}
 use Rattle.state.specs.declared.WatchState.{WatchState}
 use Rattle.watch.specs.declared.Addition.{Addition}
-use Rattle.watch.specs.Demands.{history, modelAfter, listed, FollowsModel, isForget, nothingForgotten, HoldsRecognitions, EndPartHolds, Demand1, Demand2, Demand3}
+use Rattle.watch.specs.Demands.{history, modelAfter, listed, FollowsModel, checkNumbers, isForget, nothingForgotten, HoldsRecognitions, EndPartHolds, ReportAdds, ReportHolds, Demand1, Demand2, Demand3}
 use Rattle.table.proofs.Tables.{rows-flat}
 use Rattle.watch.proofs.Shown.{Shows}
 use Rattle.watch.proofs.History.{played, history-shown, history-consistent}
 use Rattle.watch.proofs.Calls.{told, opening-taken}
 use Rattle.table.proofs.EndParts.{end-part}
 use Rattle.watch.proofs.Numbers.{calls-numbered, openings-numbered, checks-numbered, trees-numbered, charts-answered, lines-answered, added-lines, addition-lines}
-use Rattle.watch.proofs.Reading.{rows-fit, part-read, part-refused, rows-refused, tree-taken, tree-passed}
+use Rattle.watch.proofs.Reading.{rows-fit, part-read, part-refused, rows-refused, tree-taken, tree-passed, report-passed, report-refused, report-number}
 
 -- a call that is refused leaves what it got, or it is taken with number 0
 Given : State → Called → Type 0
@@ -160,6 +163,10 @@ kept-tree chart w t i out =
     (cond-holds (OutputKept out) (leb (w .rows) i) (refusedTree 15 out) own (kept-refused 15 out) (cond-holds (OutputKept out) long (refusedTree 16 out) (takenTree s out) (kept-refused 16 out) (kept-taken s out)))
     (kept-refused n out)
 
+-- a refused report is that of the check's number
+refused-report : (chart : Chart) (w : WatchState) (t : List ℤ) → ((reportStep chart w t) .refusal ≡ 0 → ⊥) → reportStep chart w t ≡ refusedReport (checkNumber chart w t)
+refused-report chart w t d = report-refused chart w t (λ z. d (report-number chart w t ∙ z))
+
 pub demand-1 : Demand1
 unfolding OutputKept
 demand-1 = record {
@@ -167,6 +174,7 @@ demand-1 = record {
   openingsNumbered = openings-numbered;
   checksNumbered = checks-numbered;
   treesNumbered = trees-numbered;
+  reportsNumbered = λ chart w t. subst (λ n. n ∈ (0 ∷ checkNumbers)) (sym (report-number chart w t)) (checks-numbered chart w t);
   charts = charts-answered;
   chartLines = lines-answered;
   addedLines = added-lines;
@@ -175,12 +183,26 @@ demand-1 = record {
   openings = refused-opening;
   reads = λ chart w t e d. (part-refused chart w t e d, rows-refused chart w t e d);
   trees = kept-tree;
+  reports = refused-report;
 }
 
 pub end-part-holds : EndPartHolds
 end-part-holds chart w t e z =
     let r = (told chart w t z) .ready in
     part-read chart w t e z ∙ end-part e (w .rows) t (rows-fit chart w t z) (r .ordered) (r .entryAbove)
+
+pub report-holds : ReportHolds
+report-holds chart w t z =
+    let rs = rowsIn (w .rows) t in
+    let ready = (told chart w t z) .ready in
+    let entries : (r : Row) → List·Memᴰ r rs → r .entry < chart .count = λ r m. let q = rows-mem (w .rows) t r m in subst (λ x. x .entry < chart .count) (sym (q .2)) (ready .entryBelow (q .0) (q .1)) in
+    let passed = report-passed chart w t z in
+    let rows = ap (λ r. r .rows) passed ∙ report-rows (chart .count) rs in
+    record {
+      sum = ap (λ r. sum (r .tallies)) passed ∙ report-sum (chart .count) rs entries ∙ sym rows;
+      total = rows ∙ length-rows (w .rows) t;
+      read = ap (λ r. r .read) passed ∙ report-read (chart .count) rs ∙ length-rows (w .rows) t;
+    }
 
 -- the floor is kept by all calls but an accepted forget
 floor-checked : (chart : Chart) (w : WatchState) (t : List ℤ) (own : Step) → own .answer .watch .state .floor ≡ w .floor → (checked chart w t own) .answer .watch .state .floor ≡ w .floor
@@ -293,6 +315,11 @@ module _ (chart : Chart) (usable : isUsable chart ≡ true) (t : List ℤ) (o : 
         ∙ tree-taken (s .chart) (s .watch) (s .table) (length us) out in-use (rw q h)
         ∙ ap (λ l. takenTree l out) q
 
+  report-shown : reportStep (s .chart) (s .watch) (s .table) ≡ reportOf (length (b .chart)) rs
+  report-shown =
+      report-passed (s .chart) (s .watch) (s .table) (history-consistent chart usable t o inRange calls)
+      ∙ ap₂ reportOf (sym (length-operators (s .chart)) ∙ ap length (is-shown .operators)) (ap₂ (λ w u. rowsIn (w .rows) u) (is-shown .watch) (is-shown .table) ∙ rows-flat rs _)
+
   follows : FollowsModel t s b
   follows = record {
     instant = ap (λ w. w .instant) (is-shown .watch);
@@ -307,6 +334,7 @@ module _ (chart : Chart) (usable : isUsable chart ≡ true) (t : List ℤ) (o : 
     table = is-shown .table;
     trees = reads-it;
     bytes = λ us vs u out e h. tree-written us vs u e out h;
+    report = report-shown;
   }
     where
       codes : List ℕ

@@ -27,9 +27,11 @@ use Rattle.consistency.specs.Consistency.{isWatchInRange, isTableRowConsistent,
 use Rattle.consistency.proofs.Examples as consistency
 use Rattle.consistency.proofs.Examples.{chartOf, table, minus}
 use Rattle.tree.specs.Tree.{rowBytes, referenceBytes, treeWithin, treeBytes}
+use Rattle.tally.specs.Tally.{tally, tallies, counts, reportOf, refusedReport}
+use Rattle.tally.specs.declared.Report.{Report}
 use Rattle.closing.specs.Closed.{closedRows}
 use Rattle.forgetting.specs.Forgetting.{keptRows, forgottenTable}
-use Rattle.watch.specs.Steps.{Step, TreeStep, openingStep, checkNumber, checked, eventOwn, eventStep, clockOwn, clockStep, forgetOwn, forgetStep, addOwn, addStep, endPart, endRows, treeOwn, treeStep}
+use Rattle.watch.specs.Steps.{Step, TreeStep, openingStep, checkNumber, checked, eventOwn, eventStep, clockOwn, clockStep, forgetOwn, forgetStep, addOwn, addStep, endPart, endRows, treeOwn, treeStep, reportStep}
 use Rattle.watch.specs.Histories as histories
 use Rattle.watch.specs.Histories.{Call, call}
 use Rattle.state.specs.declared.WatchState.{WatchState}
@@ -420,3 +422,32 @@ readCases =
 pub parts : map (λ (c : Read). record { rows = endRows (c .chart) (c .watch) (table fiveRows) (c .end); part = endPart (c .chart) (c .watch) (table fiveRows) (c .end) }) readCases ≡ map (λ (c : Read). c .expected) readCases
 unfolding readCases isInstant firstFloor isRelated split lines bytes tabbed unended text isDigit allDigits valueFrom hasLeadingZero isNumber numberOf withoutMinus withMinus instantOf words sameBytes placeOf operatorOf kindOf inRange areLower withCode eventLine withOperands secondOperand operandsLine byOperator operatorLine numbered parsedLine checkedEntry checkedLine answerTo noEntries withEntry refusedChart readLines orNoLine readChart entryFits allBelow isUsable capacity rowsIn areZeros operatorBy operatorsOf isRising isWatchInRange isTableRowConsistent areConsistent checkNumber endPart endRows
 parts = refl
+
+-- Reports on the five rows (request N3): chart and watch; the report.
+pub record Reporting : Type 0 where
+  pub chart : Chart
+  pub watch : WatchState
+  pub expected : Report
+
+abbrev reports : Chart → WatchState → Report → Reporting
+reports chart w expected = record { chart = chart; watch = on chart w; expected = expected }
+
+abbrev report : ℕ → ℕ → ℕ → List ℕ → Report
+report entries rows read tallies = record { refusal = 0; entries = entries; rows = rows; read = read; tallies = tallies ++ replicate (32 - length tallies) 0 }
+
+abbrev onlyNumber : ℕ → Report
+onlyNumber n = record { refusal = n; entries = 0; rows = 0; read = 0; tallies = replicate 32 0 }
+
+pub reportCases : List Reporting
+reportCases =
+    -- each entry's number of rows, the rows in use, and the rows read
+    reports inSequence (five (pos 0) 5) (report 3 5 5 (2 ∷ 1 ∷ 2 ∷ [])) ∷
+    -- an entry without rows; as many rows are read for four entries as for three
+    reports (chartOf ("0 event 1" ∷ "1 event 2" ∷ "2 seq 0 1" ∷ "3 event 9" ∷ [])) (five (pos 0) 5) (report 4 5 5 (2 ∷ 1 ∷ 2 ∷ 0 ∷ [])) ∷
+    -- "Refused (14, 13), the library's report gives only the number": the floor is above the open instant; the chart has no entry
+    reports inSequence (five (pos 7) 5) (onlyNumber 13) ∷
+    reports noEntry (five (pos 7) 5) (onlyNumber 14) ∷ []
+
+pub reported : map (λ (c : Reporting). reportStep (c .chart) (c .watch) (table fiveRows)) reportCases ≡ map (λ (c : Reporting). c .expected) reportCases
+unfolding reportCases isInstant firstFloor isRelated split lines bytes tabbed unended text isDigit allDigits valueFrom hasLeadingZero isNumber numberOf withoutMinus withMinus instantOf words sameBytes placeOf operatorOf kindOf inRange areLower withCode eventLine withOperands secondOperand operandsLine byOperator operatorLine numbered parsedLine checkedEntry checkedLine answerTo noEntries withEntry refusedChart readLines orNoLine readChart entryFits allBelow isUsable capacity rowsIn areZeros operatorBy operatorsOf isRising isWatchInRange isTableRowConsistent areConsistent checkNumber tally tallies counts reportOf refusedReport reportStep
+reported = refl

@@ -10,13 +10,16 @@ use lib.IntN.{ℤ}
 use lib.ListN.{length, take, drop}
 use lib.Seq.{slice}
 use Rattle.chart.specs.declared.Chart.{Chart}
+use Rattle.chart.proofs.Usable.{usable-few}
 use Rattle.model.proofs.Capacity.{capacity-fits}
-use Rattle.table.specs.Table.{part}
+use Rattle.table.specs.Table.{part, rowsIn}
 use Rattle.table.specs.Operators.{operatorsOf}
 use Rattle.table.specs.Ends.{endingBefore, endingBy}
 use Rattle.tree.specs.Tree.{treeBytes, lengthWithin}
 use Rattle.tree.proofs.Lengths.{tree-some, over-told, within-told}
-use Rattle.watch.specs.Steps.{checkNumber, endPart, endRows, rowPart, refusedTree, takenTree, treeOwn, treeStep}
+use Rattle.tally.specs.Tally.{reportOf, refusedReport}
+use Rattle.tally.proofs.Laws.{report-taken, report-entries, report-long, refused-number, refused-entries}
+use Rattle.watch.specs.Steps.{checkNumber, endPart, endRows, rowPart, refusedTree, takenTree, treeOwn, treeStep, reportStep}
 use Rattle.state.specs.declared.WatchState.{WatchState}
 use Rattle.watch.specs.declared.Part.{Part}
 use Rattle.watch.proofs.Calls.{told}
@@ -110,3 +113,31 @@ module _ (chart : Chart) (w : WatchState) (t : List ℤ) where
     pub tree-refused : (checkNumber chart w t ≡ 0 → ⊥) → treeStep chart w t i out ≡ refusedTree (checkNumber chart w t) out
     unfolding treeStep
     tree-refused d = rw (ne-eqb (checkNumber chart w t) 0 d)
+
+  -- a report
+  pub report-passed : checkNumber chart w t ≡ 0 → reportStep chart w t ≡ reportOf (chart .count) (rowsIn (w .rows) t)
+  unfolding reportStep
+  report-passed z = rw (eq-eqb (checkNumber chart w t) 0 z)
+
+  pub report-refused : (checkNumber chart w t ≡ 0 → ⊥) → reportStep chart w t ≡ refusedReport (checkNumber chart w t)
+  unfolding reportStep
+  report-refused d = rw (ne-eqb (checkNumber chart w t) 0 d)
+
+  -- its number is the check's
+  pub report-number : reportStep chart w t .refusal ≡ checkNumber chart w t
+  report-number = go (eqb (checkNumber chart w t) 0) refl
+    where
+      go : (b : Bool) → eqb (checkNumber chart w t) 0 ≡ b → reportStep chart w t .refusal ≡ checkNumber chart w t
+      go true p = let z = eqb-true (checkNumber chart w t) 0 p in ap (λ r. r .refusal) (report-passed z) ∙ report-taken (chart .count) (rowsIn (w .rows) t) ∙ sym z
+      go false p = ap (λ r. r .refusal) (report-refused (eqb-false (checkNumber chart w t) 0 p)) ∙ refused-number (checkNumber chart w t)
+
+  -- it has no more entries than tallies
+  pub report-within : reportStep chart w t .entries ≤ length (reportStep chart w t .tallies)
+  report-within = go (eqb (checkNumber chart w t) 0) refl
+    where
+      go : (b : Bool) → eqb (checkNumber chart w t) 0 ≡ b → reportStep chart w t .entries ≤ length (reportStep chart w t .tallies)
+      go true p =
+          let z = eqb-true (checkNumber chart w t) 0 p in
+          let few = usable-few chart ((told chart w t z) .ready .usable) in
+          rw (report-passed z, report-entries (chart .count) (rowsIn (w .rows) t), report-long (chart .count) (rowsIn (w .rows) t) few) few
+      go false p = rw (report-refused (eqb-false (checkNumber chart w t) 0 p), refused-entries (checkNumber chart w t)) (omega arith)

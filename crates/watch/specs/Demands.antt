@@ -22,7 +22,9 @@ use Rattle.model.specs.Reference as ref
 use Rattle.table.specs.Table.{rowsIn, flat, roomIn, tableOf}
 use Rattle.table.specs.Operators.{operatorsOf, readingOf}
 use Rattle.tree.specs.Tree.{recognitionBytes}
-use Rattle.watch.specs.Steps.{emptyWatch, openingStep, checkNumber, addStep, endPart, endRows, rowPart, takenTree, treeStep}
+use Rattle.tally.specs.Tally.{sum, reportOf, refusedReport}
+use Rattle.tally.specs.declared.Report.{Report}
+use Rattle.watch.specs.Steps.{emptyWatch, openingStep, checkNumber, addStep, endPart, endRows, rowPart, takenTree, treeStep, reportStep}
 use Rattle.watch.specs.Histories.{Call, State, call, after, answers, opened}
 use Rattle.state.specs.declared.WatchState.{WatchState}
 use Rattle.watch.specs.declared.Addition.{Addition}
@@ -44,7 +46,7 @@ listed m = listing (m .chart) (m .since) (m .events) (m .floor) (m .openInstant)
 -- hold are those from before the opening. A row's references, followed down, give its recognition's own tree." And a call for the tree of a row
 -- writes that recognition's bytes, where the output lent is long enough: "Its length is handed back and the output past it stays." "The one chart of a history
 -- is the opened one with its additions", and the book "keeps each entry's instant as the watch does" (request N13): behind the entries' the watch has
--- zeros.
+-- zeros. A report gives for each entry the number of the book's rows of that entry, and their number for the rows in use and the rows read (request N3).
 pub record FollowsModel (t : List ℤ) (s : State) (m : Model) : Type 0 where
   pub instant : s .watch .instant ≡ m .openInstant
   pub floor : s .watch .floor ≡ m .floor
@@ -58,6 +60,7 @@ pub record FollowsModel (t : List ℤ) (s : State) (m : Model) : Type 0 where
   pub table : s .table ≡ tableOf (roomIn t) (drop (roomIn t * 5) t) (rowsOf m)
   pub trees : (us vs : List Recognition) (u : Recognition) → listed m ≡ us ++ u ∷ vs → Reads (rowsIn (s .watch .rows) (s .table)) (length us) u
   pub bytes : (us vs : List Recognition) (u : Recognition) (out : List ℕ) → listed m ≡ us ++ u ∷ vs → length (recognitionBytes u) ≤ length out → treeStep (s .chart) (s .watch) (s .table) (length us) out ≡ takenTree (recognitionBytes u) out
+  pub report : reportStep (s .chart) (s .watch) (s .table) ≡ reportOf (length (m .chart)) (rowsOf m)
 
 -- of a history: its opening is accepted, its state follows the model; "Each call was accepted, or refused with a number, as in the book."
 pub record HistoryFollows (chart : Chart) (t : List ℤ) (o : ℤ) (calls : List Call) : Type 0 where
@@ -114,6 +117,7 @@ pub record Demand1 : Type 0 where
   pub openingsNumbered : (chart : Chart) (t : List ℤ) (o : ℤ) → (openingStep chart t o) .answer .refusal ∈ (0 ∷ openingNumbers)
   pub checksNumbered : (chart : Chart) (w : WatchState) (t : List ℤ) → checkNumber chart w t ∈ (0 ∷ checkNumbers)
   pub treesNumbered : (chart : Chart) (w : WatchState) (t : List ℤ) (i : ℕ) (out : List ℕ) → (treeStep chart w t i out) .answer .refusal ∈ (0 ∷ treeNumbers)
+  pub reportsNumbered : (chart : Chart) (w : WatchState) (t : List ℤ) → (reportStep chart w t) .refusal ∈ (0 ∷ checkNumbers)
   pub charts : (s : List ℕ) → ChartAnswered chartNumbers noEntries (readChart s)
   pub chartLines : (c : Chart) (s : List ℕ) → ChartAnswered lineNumbers noEntries (addLine c s)
   pub addedLines : (c : Chart) (s : List ℕ) → ChartAnswered chartNumbers c (readAdded c s)
@@ -127,6 +131,18 @@ pub record Demand1 : Type 0 where
   pub reads : (chart : Chart) (w : WatchState) (t : List ℤ) (e : ℤ) → (checkNumber chart w t ≡ 0 → ⊥) → (endPart chart w t e ≡ []) × (endRows chart w t e ≡ rowPart 0 0)
   -- "a refused tree returns the number and length 0"
   pub trees : (chart : Chart) (w : WatchState) (t : List ℤ) (i : ℕ) (out : List ℕ) → ((treeStep chart w t i out) .answer .refusal ≡ 0 → ⊥) → ((treeStep chart w t i out) .answer .length ≡ 0) × ((treeStep chart w t i out) .out ≡ out)
+  -- "Refused (14, 13), the library's report gives only the number" (request N3): that of the check
+  pub reports : (chart : Chart) (w : WatchState) (t : List ℤ) → ((reportStep chart w t) .refusal ≡ 0 → ⊥) → reportStep chart w t ≡ refusedReport (checkNumber chart w t)
+
+-- "The total equals ... the sum of the lines"; "how many rows it read, those read for 13 apart, which is the number in use, whatever the number of entries"
+-- (request N3): of every report that is not refused. Crate program has the rest of the sentence, "and the rows that a listing prints".
+pub record ReportAdds (w : WatchState) (r : Report) : Type 0 where
+  pub sum : sum (r .tallies) ≡ r .rows
+  pub total : r .rows ≡ w .rows
+  pub read : r .read ≡ w .rows
+
+abbrev pub ReportHolds : Type 0
+ReportHolds = (chart : Chart) (w : WatchState) (t : List ℤ) → checkNumber chart w t ≡ 0 → ReportAdds w (reportStep chart w t)
 
 -- "The rows with a given end are handed back as that part of the caller's table": where the read is not refused the part has each row with that
 -- end, none besides, in their order.

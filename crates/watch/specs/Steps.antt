@@ -11,13 +11,15 @@ use Rattle.chart.specs.Charts.{isUsable, readAdded}
 use Rattle.chart.specs.declared.Chart.{Chart}
 use Rattle.state.specs.State.{emptyState, openState, extended, withEvent, marked, raised}
 use Rattle.state.specs.declared.WatchState.{WatchState}
-use Rattle.table.specs.Table.{putRows, zeroed, part, roomIn}
+use Rattle.table.specs.Table.{rowsIn, putRows, zeroed, part, roomIn}
 use Rattle.table.specs.Operators.{operatorsOf}
 use Rattle.table.specs.Ends.{endingBefore, endingBy}
 use Rattle.consistency.specs.Consistency.{areConsistent}
 use Rattle.closing.specs.Closed.{closedRows}
 use Rattle.forgetting.specs.Forgetting.{keptRows, forgottenTable}
 use Rattle.tree.specs.Tree.{treeBytes}
+use Rattle.tally.specs.Tally.{reportOf, refusedReport}
+use Rattle.tally.specs.declared.Report.{Report}
 use Rattle.watch.specs.declared.Watch.{Watch}
 use Rattle.watch.specs.declared.Answer.{Answer}
 use Rattle.watch.specs.declared.Addition.{Addition}
@@ -136,3 +138,7 @@ treeOwn chart w t i out =
 
 unfoldable pub treeStep : Chart → WatchState → List ℤ → ℕ → List ℕ → TreeStep
 treeStep chart w t i out = cond (eqb (checkNumber chart w t) 0) (treeOwn chart w t i out) (refusedTree (checkNumber chart w t) out)
+
+-- "Refused (14, 13), the library's report gives only the number." (request N3) Otherwise it is that of the rows in use under the chart's entries.
+unfoldable pub reportStep : Chart → WatchState → List ℤ → Report
+reportStep chart w t = cond (eqb (checkNumber chart w t) 0) (reportOf (chart .count) (rowsIn (w .rows) t)) (refusedReport (checkNumber chart w t))

@@ -1,8 +1,9 @@
 // The chronicle watch: a watch by value, its calls, and the caller's table lent to each of them.
 ghost use mathlib.Core.Path.{_≡_};
-ghost use Rattle.watch.specs.Steps.{answered, emptyWatch, openingStep, checkNumber, eventOwn, eventStep, clockOwn, clockStep, forgetOwn, forgetStep, addOwn, addStep, endRows, endPart, treeOwn, treeStep};
+ghost use Rattle.watch.specs.Steps.{answered, emptyWatch, openingStep, checkNumber, eventOwn, eventStep, clockOwn, clockStep, forgetOwn, forgetStep, addOwn, addStep, endRows, endPart, treeOwn, treeStep, reportStep};
 use chart::Chart;
 use state::WatchState;
+use tally::Report;
 
 // A watch. What it holds is declared below, so that the crates that close, forget and check are handed it as one value; in C's layout it is
 // the same as its state.
@@ -270,6 +271,19 @@ impl Watch {
         let from = part.first * 5;
         let to = from + part.count * 5;
         &table[from..to]
+    }
+
+    // How many rows each entry has, how many are in use, and how many were read to count them, those read for the check apart; refused (14, 13): the number and
+    // zeros. A check, then one walk of the rows, whatever the number of entries.
+    pub fn report(self, chart: Chart, table: &[i32]) -> Report
+        ensures { λ r. ⌜ r ≡ reportStep chart (self .state) (now (table .entry)) ⌝ }
+    {
+        let n = self.check(chart, table);
+        if n != 0 {
+            return tally::refused(n);
+        }
+        let s = self.state;
+        tally::count_rows(chart, table, s.rows)
     }
 
     // Writes the tree of row i at the front of the output: 14, 13, 15, 16. A check; then the tree's bytes are counted, with at most one

@@ -11,15 +11,15 @@ returns c = let w = c .before .before in let t = w .before .before .enum-told .g
 
 returns-2 : tie.Need-returns-2
 unfolding lengthAt outputAt
-returns-2 c = let w = c .before .before in let t = w .before .before .enum-told2 .given .1 in (w .write-listing .ensures .0 ∙ rw t, w .write-listing .ensures .1 ∙ rw t)
+returns-2 c = let w = c .before .before in let t = w .before .before .enum-told2 .given .1 in (w .print-table .ensures .0 ∙ rw t, w .print-table .ensures .1 ∙ rw t)
 
 returns-3 : tie.Need-returns-3
 unfolding lengthAt outputAt
-returns-3 c = let w = c .before .before in let t = w .before .before .enum-told3 .given .1 in (w .write-listing2 .ensures .0 ∙ rw t, w .write-listing2 .ensures .1 ∙ rw t)
+returns-3 c = let w = c .before .before in let t = w .before .before .enum-told3 .given .1 in (w .print-table2 .ensures .0 ∙ rw t, w .print-table2 .ensures .1 ∙ rw t)
 
 returns-4 : tie.Need-returns-4
 unfolding lengthAt outputAt
-returns-4 c = let w = c .before .before in let t = w .before .before .enum-told4 .given .1 in (w .write-listing3 .ensures .0 ∙ rw t, w .write-listing3 .ensures .1 ∙ rw t)
+returns-4 c = let w = c .before .before in let t = w .before .before .enum-told4 .given .1 in (w .print-table3 .ensures .0 ∙ rw t, w .print-table3 .ensures .1 ∙ rw t)
 
 pub print-spec : {M : Type 1} → statement M
 print-spec = tie.close (tie.spec

@@ -14,7 +14,7 @@ use Rattle.interval.proofs.Signed.{never}
 use Rattle.io.specs.Counts.{clamped}
 use Rattle.model.proofs.Capacity.{capacity-fits, capacity-all}
 use Rattle.table.specs.Table.{roomIn}
-use Rattle.program.specs.Runs.{Progress, startRun, Between, fed, finished, finishedRun, printedLength, printedOutput, afterBytes, keptOf, isRefused, Reached, restLength, restMoved}
+use Rattle.program.specs.Runs.{Progress, startRun, Between, fed, finished, finishedRun, printedLength, printedOutput, afterBytes, keptOf, isRefused, Reached, Printable, restLength, restMoved}
 use Rattle.program.specs.Statements.{joined, fedRun, wholeRun, bytesFor, wholeLength, wholeOutput}
 use Rattle.program.specs.declared.Format.{Format}
 use Rattle.program.specs.declared.Run.{Run}
@@ -22,6 +22,7 @@ use Rattle.program.proofs.Pieces.{between, fed-nothing, fed-one, fed-more}
 use Rattle.program.proofs.Reading.{finished-run}
 use Rattle.program.proofs.Lines.{movedTo, rest-moved}
 use Rattle.program.proofs.Reaching.{bytes-on, bytes-counted}
+use Rattle.program.proofs.Theorems.{whole-printable}
 use Rattle.program.proofs.Whole.{one-run, has-room, whole-none, whole-all, whole-front}
 use Rattle.input.specs.Inputs.{held, isCame, isFailed, pieceOf, Turned, endOf, playedTo, OfInput, PrintsInput, Printout}
 use Rattle.input.specs.declared.Turn.{Turn}
@@ -150,6 +151,13 @@ fed-lines b c kept n m buf k h e z =
     let d = e ∙ fed-one b (take n (drop kept buf)) in
     let counted = bytes-counted (b .progress) (b .kept ++ take n (drop kept buf)) (ap (λ x. isRefused (x .progress .run .stage)) (sym d) ∙ z) in
     omega (arith, counted, ap (λ x. x .progress .run .line) d, h, ap length k, length-append (b .kept) (take n (drop kept buf)), length-take kept buf, length-take n (drop kept buf))
+
+-- a run that was played to the end can be printed
+pub played-printable : (t u : List ℤ) (p : Played) → OfInput t p u → p .failed ≡ false → Printable (p .run) u
+unfolding playedTo
+played-printable t u p q z =
+    let same : record { run = p .run; table = u } ≡ wholeRun t (q .pieces) = rw z at (q .same) in
+    subst (λ x. Printable (x .run) (x .table)) (sym same) (whole-printable t (q .pieces))
 
 -- what is printed for an input
 module _ (f : Format) (t : List ℤ) (out : List ℕ) where

@@ -7,12 +7,12 @@ use mathlib.Core.List.{List, [], _∷_, _++_}
 use lib.Dec.{eqb}
 use lib.IntN.{ℤ}
 use lib.ListN.{length, take, drop, length-drop}
-use Rattle.interval.proofs.Signed.{holds→}
+use Rattle.interval.proofs.Signed.{holds→, never}
 use Rattle.text.specs.Text.{Line}
 use Rattle.chart.specs.Charts.{isUsable}
 use Rattle.chart.specs.declared.Chart.{Chart}
 use Rattle.chart.proofs.Usable.{usable-few}
-use Rattle.tally.specs.Tally.{tallies, sum}
+use Rattle.tally.specs.Tally.{tallies, sum, reportOf}
 use Rattle.tally.proofs.Laws.{length-tallies, same-sum, report-rows, report-tallies}
 use Rattle.model.specs.Capacity.{capacity}
 use Rattle.model.specs.Reference as ref
@@ -21,7 +21,7 @@ use Rattle.model.proofs.Capacity.{capacity-fits}
 use Rattle.model.proofs.Theorems as model
 use Rattle.table.specs.Operators.{operatorsOf}
 use Rattle.table.specs.Table.{rowsIn, roomIn}
-use Rattle.watch.specs.Steps.{Step, openingStep, reportStep}
+use Rattle.watch.specs.Steps.{Step, openingStep}
 use Rattle.watch.specs.Histories as histories
 use Rattle.watch.specs.Histories.{State, call}
 use Rattle.state.specs.declared.WatchState.{WatchState}
@@ -35,12 +35,12 @@ use Rattle.watch.proofs.Shown.{Shows}
 use Rattle.watch.proofs.Steps.{opening-length, event-call, clock-call, forget-call}
 use Rattle.log.specs.declared.Call.{Call}
 use Rattle.log.specs.declared.Call.the-variants as log
-use Rattle.printing.specs.Listing.{listingText, tableText, refusalText, refusalLength, refusalOutput, lengthWhere, outputWhere, listingFits, refusalFits}
+use Rattle.printing.specs.Listing.{listingText, tableText, refusalText, listingLength, listingOutput, refusalLength, refusalOutput, lengthWhere, outputWhere, listingFits, refusalFits}
 use Rattle.printing.specs.Report.{reportText, reportFits}
 use Rattle.printing.proofs.Laws as printing
 use Rattle.printing.proofs.Laws.{report-fits, table-listing, length-room, output-room, front-within, refusal-fits}
 use Rattle.program.specs.Outcomes.{Outcome, callIn, listed, refused, outcomeText}
-use Rattle.program.specs.Runs.{Progress, refusedRun, nextRun, stepped, openingLine, stateOf, callStep, lineStep, afterLine, endRun, resultOf, outcomeOf, OfHistory, Holds, Reached, tableLength, tableOutput, lengthAt, outputAt, printedLength, printedOutput}
+use Rattle.program.specs.Runs.{Progress, refusedRun, nextRun, stepped, openingLine, stateOf, callStep, lineStep, afterLine, endRun, resultOf, outcomeOf, OfHistory, Holds, Reached, isRefused, Printable, reportedLength, reportedOutput, tableLength, tableOutput, lengthAt, outputAt, printedLength, printedOutput}
 use Rattle.program.specs.Statements.{bytesFor}
 use Rattle.program.specs.declared.Format.{Format}
 use Rattle.program.specs.declared.Format.the-variants.{Listing, Report}
@@ -179,13 +179,11 @@ table-prints Listing r t usable h out g =
     let front = fits-front (listingFits (r .watch .state .rows) t out) (tableText (r .watch .state .rows) t) out (listing-fits (r .chart) usable (stateOf r t) h out g) in
     (front .0 ∙ ap length same, front .1 ∙ ap (λ x. x ++ drop (length x) out) same)
 table-prints Report r t usable h out g =
-    let s = stateOf r t in
-    let rs = rowsIn (s .watch .rows) t in
+    let rs = rowsIn (r .watch .state .rows) t in
     let n = r .chart .count in
-    let p = reportStep (r .chart) (s .watch) t in
-    let is = report-passed (r .chart) (s .watch) t (history-checked (r .chart) usable s h) in
-    let lines : take (p .entries) (p .tallies) ≡ tallies n rs = ap (λ x. take (x .entries) (x .tallies)) is ∙ report-tallies n rs in
-    let text : reportText (take (p .entries) (p .tallies)) (p .rows) ≡ reportText (tallies n rs) (length rs) = ap₂ reportText lines (ap (λ x. x .rows) is ∙ report-rows n rs) in
+    let p = reportOf n rs in
+    let lines = report-tallies n rs in
+    let text : reportText (take (p .entries) (p .tallies)) (p .rows) ≡ reportText (tallies n rs) (length rs) = ap₂ reportText lines (report-rows n rs) in
     let few : length (take (p .entries) (p .tallies)) ≤ 32 = rw (lines, length-tallies n rs) (usable-few (r .chart) usable) in
     let front = fits-front (reportFits (take (p .entries) (p .tallies)) out) (reportText (take (p .entries) (p .tallies)) (p .rows)) out (report-fits (take (p .entries) (p .tallies)) out (omega (arith, few, g))) in
     (front .0 ∙ ap length text, front .1 ∙ ap (λ x. x ++ drop (length x) out) text)
@@ -216,12 +214,37 @@ end-prints f p out h g = go (p .run .stage) refl h
         (ap (λ s. lengthAt f s r t out) e ∙ front .0 ∙ ap (λ x. length (outcomeText f x)) (sym o), ap (λ s. outputAt f s r t out) e ∙ front .1 ∙ ap (λ x. outcomeText f x ++ drop (length (outcomeText f x)) out) (sym o))
     go Refused e k = let front = refusal-front (r .refusal) (r .line) out room in (rw (e, refused-text f (r .refusal) (r .line)) (front .0), rw (e, refused-text f (r .refusal) (r .line)) (front .1))
 
+-- what is printed, by whether the run is refused
+module _ (f : Format) (r : Run) (t : List ℤ) (out : List ℕ) where
+  pub refused-prints : (s : Stage) → isRefused s ≡ true → (lengthAt f s r t out ≡ refusalLength (r .refusal) (r .line) out) × (outputAt f s r t out ≡ refusalOutput (r .refusal) (r .line) out)
+  unfolding isRefused lengthAt outputAt
+  refused-prints Entries e = never e
+  refused-prints Opening e = never e
+  refused-prints Calls e = never e
+  refused-prints Refused e = (refl, refl)
+
+  pub going-prints : (s : Stage) → isRefused s ≡ false → (lengthAt f s r t out ≡ tableLength f r t out) × (outputAt f s r t out ≡ tableOutput f r t out)
+  unfolding isRefused lengthAt outputAt
+  going-prints Entries e = (refl, refl)
+  going-prints Opening e = (refl, refl)
+  going-prints Calls e = (refl, refl)
+  going-prints Refused e = never (sym e)
+
+  -- format by format
+  pub listing-prints : f ≡ Listing → (tableLength f r t out ≡ listingLength (r .watch .state .rows) t out) × (tableOutput f r t out ≡ listingOutput (r .watch .state .rows) t out)
+  unfolding tableLength tableOutput
+  listing-prints e = (rw e, rw e)
+
+  pub report-prints : f ≡ Report → let p = reportOf (r .chart .count) (rowsIn (r .watch .state .rows) t) in (tableLength f r t out ≡ reportedLength p out) × (tableOutput f r t out ≡ reportedOutput p out)
+  unfolding tableLength tableOutput
+  report-prints e = (rw e, rw e)
+
 -- what is printed is in the output
 table-within : (f : Format) (r : Run) (t : List ℤ) (out : List ℕ) → length (tableOutput f r t out) ≡ length out → tableLength f r t out ≤ length out
 unfolding tableLength tableOutput
 table-within Listing r t out h = front-within (listingFits (r .watch .state .rows) t out) (tableText (r .watch .state .rows) t) out h
 table-within Report r t out h =
-    let p = reportStep (r .chart) (r .watch .state) t in
+    let p = reportOf (r .chart .count) (rowsIn (r .watch .state .rows) t) in
     front-within (reportFits (take (p .entries) (p .tallies)) out) (reportText (take (p .entries) (p .tallies)) (p .rows)) out h
 
 pub printed-within : (f : Format) (r : Run) (t : List ℤ) (out : List ℕ) → length (printedOutput f r t out) ≡ length out → printedLength f r t out ≤ length out
@@ -233,6 +256,24 @@ printed-within f r t out e = go (r .stage) e
     go Opening h = table-within f r t out h
     go Calls h = table-within f r t out h
     go Refused h = front-within (refusalFits out) (refusalText (r .refusal) (r .line)) out h
+
+-- a run at its end, if not refused, has what a report asks
+pub end-printable : (p : Progress) → Reached p → Printable (atEnd p .run) (atEnd p .table)
+unfolding endRun Holds refusedRun isRefused
+end-printable p h = go (p .run .stage) refl h
+  where
+    r : Run
+    r = p .run
+
+    at-once : (b : Bool) (n line k below : ℕ) → Printable (cond b (refusedRun r n line) (refusedRun r k below)) (p .table)
+    at-once true n line k below z = never (sym z)
+    at-once false n line k below z = never (sym z)
+
+    go : (s : Stage) → r .stage ≡ s → Holds s r (p .table) → Printable (endRun s r) (p .table)
+    go Entries e k z = at-once (eqb (r .chart .count) 0) 1 1 7 (r .line + 1) z
+    go Opening e k z = never (sym z)
+    go Calls e k z = history-checked (r .chart) (k .1) (stateOf r (p .table)) (k .2)
+    go Refused e k z = never (sym z ∙ ap isRefused e)
 
 -- the sum of what a report prints for the entries is the number of all rows
 unfoldable pub Added : Outcome → Type 0

@@ -8,13 +8,13 @@ use Rattle.text.specs.Text.{lines}
 use Rattle.model.specs.Capacity.{capacity}
 use Rattle.table.specs.Table.{roomIn}
 use Rattle.program.specs.Outcomes.{outcomeText, printedFor}
-use Rattle.program.specs.Runs.{Progress, startRun, finished, resultOf}
+use Rattle.program.specs.Runs.{Progress, startRun, finished, Printable, resultOf}
 use Rattle.program.specs.Statements.{joined, wholeRun, bytesFor, ProgramHolds}
 use Rattle.program.specs.declared.Format.{Format}
 use Rattle.program.proofs.Pieces.{atEnd, afterLines, pieces-joined, finished-lines}
 use Rattle.program.proofs.Playing.{lines-play}
 use Rattle.program.proofs.Reaching.{start-reached}
-use Rattle.program.proofs.Printing.{Prints, lines-on, lines-length, end-prints}
+use Rattle.program.proofs.Printing.{Prints, lines-on, lines-length, end-prints, end-printable}
 
 module _ (t : List ℤ) (pieces : List (List ℕ)) where
   abbrev p : Progress
@@ -37,6 +37,9 @@ module _ (t : List ℤ) (pieces : List (List ℕ)) where
       let room : bytesFor f (roomIn (q .table)) ≤ length out = subst (λ n. bytesFor f (capacity n) ≤ length out) (sym size) h in
       let e : Prints f (atEnd q) out (outcomeText f (resultOf (atEnd q))) = end-prints f q out (lines-on p (lines (joined pieces)) (start-reached t)) room in
       subst (λ x. Prints f x out (printedFor f (roomIn t) (joined pieces))) (sym run-is) (subst (Prints f (atEnd q) out) (text-is f) e)
+
+  pub whole-printable : Printable (wholeRun t pieces .run) (wholeRun t pieces .table)
+  whole-printable = subst (λ x. Printable (x .run) (x .table)) (sym run-is) (end-printable q (lines-on p (lines (joined pieces)) (start-reached t)))
 
 pub program-holds : ProgramHolds
 program-holds f t pieces out h = let e = prints t pieces f out h in record { bytes = e .0; output = e .1 }

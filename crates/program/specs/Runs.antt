@@ -1,6 +1,6 @@
 -- A run of the program as the code goes through it: line by line, on watch and table, and what is kept of an input that comes in pieces.
 -- It has to be believed, since the statements cite it, but for `narrowed`, `unformedRun`, `OfHistory`, `Holds`, `Reached`, `outcomeOf`,
--- `resultOf`, `isEarly`, `HasLines`, `HasFew`, `callsRun`, `Read`, `fedTo`, `settledGoing`, `settledAt` and `finishedRun`, which serve the proofs.
+-- `resultOf`, `isEarly`, `HasLines`, `HasFew`, `callsRun`, `Read`, `fedTo`, `settledGoing`, `settledAt`, `finishedRun` and `Printable`, which serve the proofs.
 use Prim.Native.Nat.{ℕ, _+_, _-_, _≤_, _<_, _^_}
 use mathlib.Core.Path.{_≡_}
 use mathlib.Core.Bool.{Bool, true, false, cond}
@@ -14,13 +14,14 @@ use Rattle.chart.specs.Charts.{isUsable, readLines, noEntries, takenChart}
 use Rattle.chart.specs.declared.Chart.{Chart}
 use Rattle.chart.specs.declared.ChartAnswer.{ChartAnswer}
 use Rattle.table.specs.Table.{rowsIn}
-use Rattle.watch.specs.Steps.{Step, openingStep, eventStep, clockStep, forgetStep, reportStep, refusedStep, emptyWatch}
+use Rattle.watch.specs.Steps.{Step, openingStep, checkNumber, eventStep, clockStep, forgetStep, refusedStep, emptyWatch}
 use Rattle.watch.specs.Histories as watch
 use Rattle.watch.specs.Histories.{State}
 use Rattle.watch.specs.Demands.{history}
 use Rattle.watch.specs.declared.Watch.{Watch}
 use Rattle.log.specs.declared.Call.{Call}
 use Rattle.log.specs.declared.Call.the-variants as log
+use Rattle.tally.specs.Tally.{reportOf}
 use Rattle.tally.specs.declared.Report as tally
 use Rattle.printing.specs.Listing.{listingLength, listingOutput, refusalLength, refusalOutput}
 use Rattle.printing.specs.Report.{reportLength, reportOutput}
@@ -242,6 +243,10 @@ restMoved from to s = cond (leb to (length s)) (take (to - from) (drop from s) +
 unfoldable pub finishedRun : Run → ℕ → Run
 finishedRun r kept = cond (eqb kept 0) (endRun (r .stage) r) (unformedRun (r .stage) r)
 
+-- a finished run that is not refused has a watch and a table that the check lets through
+abbrev pub Printable : Run → List ℤ → Type 0
+Printable r t = isRefused (r .stage) ≡ false → checkNumber (r .chart) (r .watch .state) t ≡ 0
+
 -- what is printed of a report: its tallies, as many as there are entries, and the rows in use
 abbrev pub reportedLength : tally.Report → List ℕ → ℕ
 reportedLength p out = reportLength (take (p .entries) (p .tallies)) (p .rows) out
@@ -249,14 +254,14 @@ reportedLength p out = reportLength (take (p .entries) (p .tallies)) (p .rows) o
 abbrev pub reportedOutput : tally.Report → List ℕ → List ℕ
 reportedOutput p out = reportOutput (take (p .entries) (p .tallies)) (p .rows) out
 
--- what is printed of watch and table: the listing of the rows in use, or the library's report on them
+-- what is printed of watch and table: the listing of the rows in use, or the report on them
 unfoldable pub tableLength : Format → Run → List ℤ → List ℕ → ℕ
 tableLength Listing r t out = listingLength (r .watch .state .rows) t out
-tableLength Report r t out = reportedLength (reportStep (r .chart) (r .watch .state) t) out
+tableLength Report r t out = reportedLength (reportOf (r .chart .count) (rowsIn (r .watch .state .rows) t)) out
 
 unfoldable pub tableOutput : Format → Run → List ℤ → List ℕ → List ℕ
 tableOutput Listing r t out = listingOutput (r .watch .state .rows) t out
-tableOutput Report r t out = reportedOutput (reportStep (r .chart) (r .watch .state) t) out
+tableOutput Report r t out = reportedOutput (reportOf (r .chart .count) (rowsIn (r .watch .state .rows) t)) out
 
 -- what a run prints, and how many bytes
 unfoldable pub lengthAt : Format → Stage → Run → List ℤ → List ℕ → ℕ

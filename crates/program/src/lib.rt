@@ -9,10 +9,12 @@ ghost use Rattle.text.specs.Text.{whole, lineSize};
 ghost use Rattle.chart.specs.Charts.{isUsable, readLines};
 ghost use Rattle.model.specs.Capacity.{capacity};
 ghost use Rattle.log.specs.Log.{callOf};
-ghost use Rattle.watch.specs.Steps.{checkNumber, openingStep, reportStep};
+ghost use Rattle.watch.specs.Steps.{checkNumber, openingStep};
+ghost use Rattle.table.specs.Table.{rowsIn};
+ghost use Rattle.tally.specs.Tally.{reportOf};
 ghost use Rattle.program.specs.Outcomes.{isEmpty};
 ghost use Rattle.program.specs.Statements.{bytesFor, wholeLength, wholeTable, wholeOutput};
-ghost use Rattle.program.specs.Runs.{startRun, refusedRun, nextRun, entryRun, chartEnd, unformedRun, stepped, openingLine, callStep, narrowed, callsRun, afterLine, afterBytes, isEarly, isRefused, keptOf, endRun, finishedRun, Reached, Read, HasLines, HasFew, settledAt, settledGoing, restLength, restMoved, reportedLength, reportedOutput, tableLength, tableOutput, printedLength, printedOutput};
+ghost use Rattle.program.specs.Runs.{startRun, refusedRun, nextRun, entryRun, chartEnd, unformedRun, stepped, openingLine, callStep, narrowed, callsRun, afterLine, afterBytes, isEarly, isRefused, keptOf, endRun, finishedRun, Reached, Read, HasLines, HasFew, settledAt, settledGoing, restLength, restMoved, Printable, reportedLength, reportedOutput, printedLength, printedOutput};
 use chart::Chart;
 use log::Call;
 use watch::Answer;
@@ -157,38 +159,30 @@ impl Run {
     }
 
     // Writes what a finished run prints at the front of the output and returns the number of bytes; 0 where the output is too short. Each byte
-    // is written once; for a report watch and table are checked and the rows walked before.
+    // is written once; for a report the rows are walked before.
     pub fn print(self, format: Format, table: &[i32], out: &mut [u8]) -> usize
+        requires { ⌜ Printable self (now table) ⌝ }
         ensures { λ r. ⌜ (r ≡ printedLength format self (now (table .entry)) (now (out .entry))) × (now (out .exit) ≡ printedOutput format self (now (table .entry)) (now (out .entry))) ⌝ }
     {
-        let stage = self.stage;
-        match stage {
-            Stage::Refused => printing::write_refusal(self.refusal, self.line, out),
-            Stage::Entries => print_table(self, format, table, out),
-            Stage::Opening => print_table(self, format, table, out),
-            Stage::Calls => print_table(self, format, table, out),
+        if is_refused(self) {
+            return printing::write_refusal(self.refusal, self.line, out);
+        }
+        let watch = self.watch;
+        let state = watch.state;
+        let chart = self.chart;
+        match format {
+            Format::Listing => printing::write_listing(table, state.rows, out),
+            Format::Report => print_report(watch, chart, table, out),
         }
     }
 }
 
-// Writes what a run that is not refused prints.
-fn print_table(run: Run, format: Format, table: &[i32], out: &mut [u8]) -> usize
-    ensures { λ r. ⌜ (r ≡ tableLength format run (now (table .entry)) (now (out .entry))) × (now (out .exit) ≡ tableOutput format run (now (table .entry)) (now (out .entry))) ⌝ }
-{
-    let watch = run.watch;
-    let state = watch.state;
-    let chart = run.chart;
-    match format {
-        Format::Listing => printing::write_listing(table, state.rows, out),
-        Format::Report => print_report(watch, chart, table, out),
-    }
-}
-
-// Writes the library's report on the rows in use. A check, one walk of the rows, and each byte is written once.
+// Writes the report on the rows in use. One walk of the rows, and each byte is written once.
 fn print_report(watch: Watch, chart: Chart, table: &[i32], out: &mut [u8]) -> usize
-    ensures { λ r. ⌜ (r ≡ reportedLength (reportStep chart (watch .state) (now (table .entry))) (now (out .entry))) × (now (out .exit) ≡ reportedOutput (reportStep chart (watch .state) (now (table .entry))) (now (out .entry))) ⌝ }
+    requires { ⌜ checkNumber chart (watch .state) (now table) ≡ 0 ⌝ }
+    ensures { λ r. ⌜ (r ≡ reportedLength (reportOf (chart .count) (rowsIn (watch .state .rows) (now (table .entry)))) (now (out .entry))) × (now (out .exit) ≡ reportedOutput (reportOf (chart .count) (rowsIn (watch .state .rows) (now (table .entry)))) (now (out .entry))) ⌝ }
 {
-    let report = watch.report(chart, table);
+    let report = watch.report_unchecked(chart, table);
     let tallies = report.tallies;
     let entries = report.entries;
     printing::write_report(&tallies[..entries], report.rows, out)

@@ -3,7 +3,7 @@ use Prim.Native.Nat.{_≤_}
 use lib.ListN.{length}
 use Rattle.table.specs.Table.{roomIn}
 use Rattle.program.specs.Statements.{bytesFor}
-use Rattle.input.proofs.Laws.{no-room, not-printed, is-printed}
+use Rattle.input.proofs.Laws.{played-printable, no-room, not-printed, is-printed}
 use borrow.Author.Needs.{needs}
 use Rattle.input.proofs.print_input.Statement.{statement}
 use Rattle.input.proofs.print_input.Tie as tie
@@ -23,4 +23,4 @@ print-input-spec = tie.close (tie.spec
     (λ c. no-room _ _ _ (rw (← c .before .bytes-for .ensures) (c .if1 .taken)))
     (λ c κs. search needs) (λ c. search needs)
     (λ c. not-printed _ _ _ (roomy (c .before .before .before .before)) _ _ (c .before .before .play-input .ensures) (c .if2 .taken))
-    (λ c κs. search needs) (λ c. search needs) (λ c. search needs) returns-3)
+    (λ c κs. let e = c .before .before .before in played-printable _ _ _ (e .before .before .play-input .ensures) (e .if2 .left)) (λ c. search needs) (λ c. search needs) returns-3)

@@ -1,9 +1,12 @@
 -- `print_whole` meets its contract: the run of one piece.
 use Prim.Native.Nat.{_+_}
-use mathlib.Core.Path.{sym, ap, _∙_, subst}
+use mathlib.Core.Path.{_≡_, sym, ap, _∙_, subst}
+use mathlib.Core.List.{[], _∷_}
 use native.Mathlib.Omega.{arith}
 use lib.ListN.{length}
-use Rattle.program.specs.Runs.{Reached, HasLines, afterBytes, keptOf, printedLength, printedOutput}
+use Rattle.program.specs.Runs.{Reached, HasLines, Printable, afterBytes, keptOf}
+use Rattle.program.specs.Statements.{wholeRun}
+use Rattle.program.proofs.Theorems.{whole-printable}
 use Rattle.program.proofs.Reaching.{start-reached, start-lines, bytes-lines, bytes-few}
 use Rattle.program.proofs.Whole.{one-piece, whole-none, whole-all}
 use borrow.Author.Needs.{needs}
@@ -23,23 +26,38 @@ finish-requires c κs =
     let e = c .before .before .before .feed .ensures .0 in
     (bytes-lines _ _ _ (k .1) e, bytes-few _ _ _ (k .0) e)
 
-returns-2 : tie.Need-returns-2
-returns-2 c =
-    let s = c .before .before .before .before .before .before .before .before .before .before .before .before .before .before .before .before in
+-- the run of the whole input
+run-is : (c : tie.After-finish) →
+    let s = c .before .before .before .before .before .before .before .before .before .before .before in
+    wholeRun (s .args .table .now) (s .args .input .now ∷ []) ≡ record { run = c .finish .result; table = c .before .before .before .before .feed .last .1 .0 }
+run-is c =
+    let f = c .before .before .before .before in
+    let st = f .before .before in
+    let s = st .before .before .before .before .before in
     let t = s .args .table .now in
     let x = s .args .input .now in
-    let fe = c .before .before .before .before .before .before .before .before .before .feed in
-    let st = c .before .before .before .before .before .before .before .before .before .before .before .start .ensures in
-    let fi = c .before .before .before .before .before .finish .ensures in
+    let e = f .feed .ensures .0 ∙ ap (λ r. afterBytes (record { run = r; table = t }) x) (st .start .ensures) in
+    let k = f .feed .ensures .2 ∙ ap (λ r. keptOf (afterBytes (record { run = r; table = t }) x) x) (st .start .ensures) in
+    one-piece x t _ _ _ e k ∙ ap (λ r. record { run = r; table = f .feed .last .1 .0 }) (sym (c .finish .ensures))
+
+print-requires : tie.Need-print-requires
+print-requires c κs =
+    let f = c .before .before in
+    let s = f .before .before .before .before .before .before .before .before .before .before .before in
+    subst (λ x. Printable (x .run) (x .table)) (run-is f) (whole-printable (s .args .table .now) (s .args .input .now ∷ []))
+
+returns-2 : tie.Need-returns-2
+returns-2 c =
+    let f = c .before .before .before .before .before in
+    let b = f .before .before .before .before .before .before .before in
+    let g = b .before .before .before .before .args in
     let p = c .before .before .print .ensures in
-    let e = fe .ensures .0 ∙ ap (λ r. afterBytes (record { run = r; table = t }) x) st in
-    let k = fe .ensures .2 ∙ ap (λ r. keptOf (afterBytes (record { run = r; table = t }) x) x) st in
-    let g = whole-all x t (s .args .format) (s .args .out .now) (rw (← c .before .before .before .before .before .before .before .before .before .before .before .before .before .bytes-for .ensures) (c .before .before .before .before .before .before .before .before .before .before .before .before .if1 .left)) _ (one-piece x t _ _ _ e k) in
-    (p .0 ∙ ap (λ r. printedLength (s .args .format) r (fe .last .1 .0) (s .args .out .now)) fi ∙ g .0, g .1, p .1 ∙ ap (λ r. printedOutput (s .args .format) r (fe .last .1 .0) (s .args .out .now)) fi ∙ g .2)
+    let w = whole-all (g .input .now) (g .table .now) (g .format) (g .out .now) (rw (← b .before .bytes-for .ensures) (b .if1 .left)) _ (run-is f) in
+    (p .0 ∙ w .0, w .1, p .1 ∙ w .2)
 
 pub print-whole-spec : {M : Type 1} → statement M
 print-whole-spec = tie.close (tie.spec
     (λ c κs. search needs)
     (λ c. whole-none _ _ _ _ (rw (← c .before .bytes-for .ensures) (c .if1 .taken)))
-    (λ c κs. search needs) (λ c κs. ready (c .before)) (λ c. search needs) finish-requires (λ c κs. search needs) (λ c. search needs)
+    (λ c κs. search needs) (λ c κs. ready (c .before)) (λ c. search needs) finish-requires print-requires (λ c. search needs)
     (λ c. search needs) returns-2)

@@ -51,13 +51,6 @@ cast-entry c =
     let above = l .before .pre .entryAbove (l .loop .i) (c .before .before .before .loop-test .taken) in
     rw (same32 _ (fit c)) (cast-up _ (fit c) (rw (c .before .before .row-at .ensures) above))
 
-add-tallies : tie.Need-add-tallies Inv-loop μ-loop
-add-tallies c =
-    let l = c .before .before .before .before in
-    let s = l .before in
-    let most = counts-most (s .args .chart .count) (rowsIn (l .loop .i) (s .args .table .now)) (natAbs (toZ w32 (ofZ w32 (c .before .before .row-at .result .entry)))) in
-    record { fits = rw (l .loop .inv .2) (omega (arith, most, length-rows (l .loop .i) (s .args .table .now), c .before .before .before .loop-test .taken, s .fits .rows .fits)) }
-
 loop-again : tie.Need-loop-again Inv-loop μ-loop
 loop-again c =
     let l = c .before .before .before .before in
@@ -68,6 +61,13 @@ loop-again c =
       ap (λ k. k + 1) (l .loop .inv .1),
       rw (l .loop .inv .2, read-is c, add-one (l .loop .i)) (sym (ap (counts (s .args .chart .count)) (rows-snoc (l .loop .i) t) ∙ more)),
     )
+
+add-tallies : tie.Need-add-tallies Inv-loop μ-loop
+add-tallies c =
+    let l = c .before .before .before .before in
+    let s = l .before in
+    let most = counts-most (s .args .chart .count) (rowsIn (l .loop .i) (s .args .table .now)) (natAbs (toZ w32 (ofZ w32 (c .before .before .row-at .result .entry)))) in
+    record { fits = rw (l .loop .inv .2) (omega (arith, most, length-rows (l .loop .i) (s .args .table .now), c .before .before .before .loop-test .taken, s .fits .rows .fits)) }
 
 returns : tie.Need-returns Inv-loop μ-loop
 unfolding reportOf

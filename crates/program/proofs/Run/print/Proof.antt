@@ -1,28 +1,46 @@
--- `print` meets its contract, stage by stage.
-use mathlib.Core.Path.{_∙_}
-use Rattle.program.specs.Runs.{lengthAt, outputAt}
+-- `print` meets its contract: the refusal, or the table format by format.
+use mathlib.Core.Path.{_≡_, sym, _∙_}
+use mathlib.Core.Bool.{false}
+use Rattle.program.specs.Runs.{isRefused}
+use Rattle.program.proofs.Printing.{refused-prints, going-prints, listing-prints, report-prints}
 use borrow.Author.Needs.{needs}
 use Rattle.program.proofs.Run.print.Statement.{statement}
 use Rattle.program.proofs.Run.print.Tie as tie
 
 returns : tie.Need-returns
-unfolding lengthAt outputAt
-returns c = let w = c .before .before in let t = w .before .before .enum-told .given .1 in (w .write-refusal .ensures .0 ∙ rw t, w .write-refusal .ensures .1 ∙ rw t)
+returns c =
+    let w = c .before .before in
+    let d = w .before .before in
+    let g = d .before .before .before .args in
+    let e = refused-prints (g .format) (g .self) (g .table .now) (g .out .now) (g .self .stage) (sym (d .before .is-refused .ensures) ∙ d .if1 .taken) in
+    (w .write-refusal .ensures .0 ∙ sym (e .0), w .write-refusal .ensures .1 ∙ sym (e .1))
+
+-- the run is not refused
+goes : (d : tie.Else1) → isRefused (d .before .before .before .args .self .stage) ≡ false
+goes d = sym (d .before .is-refused .ensures) ∙ d .if1 .left
 
 returns-2 : tie.Need-returns-2
-unfolding lengthAt outputAt
-returns-2 c = let w = c .before .before in let t = w .before .before .enum-told2 .given .1 in (w .print-table .ensures .0 ∙ rw t, w .print-table .ensures .1 ∙ rw t)
+returns-2 c =
+    let w = c .before .before in
+    let k = w .before .before in
+    let d = k .before .before .before .before .before in
+    let g = d .before .before .before .args in
+    let e = going-prints (g .format) (g .self) (g .table .now) (g .out .now) (g .self .stage) (goes d) in
+    let l = listing-prints (g .format) (g .self) (g .table .now) (g .out .now) (k .enum-told .given .1) in
+    (w .write-listing .ensures .0 ∙ sym (e .0 ∙ l .0), w .write-listing .ensures .1 ∙ sym (e .1 ∙ l .1))
 
 returns-3 : tie.Need-returns-3
-unfolding lengthAt outputAt
-returns-3 c = let w = c .before .before in let t = w .before .before .enum-told3 .given .1 in (w .print-table2 .ensures .0 ∙ rw t, w .print-table2 .ensures .1 ∙ rw t)
-
-returns-4 : tie.Need-returns-4
-unfolding lengthAt outputAt
-returns-4 c = let w = c .before .before in let t = w .before .before .enum-told4 .given .1 in (w .print-table3 .ensures .0 ∙ rw t, w .print-table3 .ensures .1 ∙ rw t)
+returns-3 c =
+    let w = c .before .before in
+    let k = w .before .before in
+    let d = k .before .before .before .before .before in
+    let g = d .before .before .before .args in
+    let e = going-prints (g .format) (g .self) (g .table .now) (g .out .now) (g .self .stage) (goes d) in
+    let l = report-prints (g .format) (g .self) (g .table .now) (g .out .now) (k .enum-told2 .given .1) in
+    (w .print-report .ensures .0 ∙ sym (e .0 ∙ l .0), w .print-report .ensures .1 ∙ sym (e .1 ∙ l .1))
 
 pub print-spec : {M : Type 1} → statement M
 print-spec = tie.close (tie.spec
-    (λ c. search needs) (λ c κs. search needs) (λ c. search needs) (λ c κs. search needs) (λ c. search needs) (λ c κs. search needs)
-    (λ c. search needs) (λ c κs. search needs) (λ c. search needs) returns (λ c. search needs) returns-2 (λ c. search needs) returns-3
-    (λ c. search needs) returns-4)
+    (λ c κs. search needs) (λ c κs. search needs) (λ c. search needs) returns (λ c. search needs) (λ c κs. search needs) (λ c. search needs)
+    (λ c κs. let d = c .before .before .before .before .before .before in d .before .before .before .pre (goes d))
+    (λ c. search needs) returns-2 (λ c. search needs) returns-3)

@@ -135,8 +135,9 @@
  * 4, 6, 5. A refused addition hands back the watch and the chart given.
  * examples/add_at_noon.c is a whole program.
  *
- * An input of chronicle_list, and of the listing program, has no line that adds
- * entries: its chart is fixed for the whole log.
+ * An input of chronicle_list and chronicle_print_report, and of the listing and
+ * report programs, has no line that adds entries: its chart is fixed for the
+ * whole log.
  *
  *
  * THE TABLE
@@ -192,12 +193,14 @@
  *     chronicle_check        14, 13
  *     chronicle_rows_ending  14, 13: no rows; chronicle_check says which it was
  *     chronicle_tree         14, 13, 15, 16
+ *     chronicle_report       14, 13
  *
  * After a refusal all lent memory holds what it held before. A refused event,
  * mark, forget or addition returns the watch given, so the caller may go on:
  * after 12, forget and mark again. A refused opening returns an empty watch at
  * instant 0 with the floor at -1000000000 and no entries: with a usable chart,
- * every call on it is refused with 13. A refused tree returns the length 0.
+ * every call on it is refused with 13. A refused tree returns the length 0, a
+ * refused report zeros besides the number.
  *
  * Out of joint is a watch or table with: the open instant or the floor out of
  * range, or the floor above the open instant; another number of entries than
@@ -242,6 +245,9 @@
 
 /* The stack that a thread needs for any call, what the thread itself needs aside; measured, with room to spare. */
 #define CHRONICLE_STACK 8192
+
+/* The bytes that chronicle_print_report asks for: 40, and 42 for each of the 32 entries that a chart may have. */
+#define CHRONICLE_REPORT_BYTES 1384
 
 #ifdef __GNUC__
 #define CHRONICLE_CALL __attribute__((nonnull, warn_unused_result))
@@ -343,6 +349,20 @@ struct chronicle_rows {
 struct chronicle_tree_answer {
     uint32_t refusal;
     size_t length;
+};
+
+/*
+ * A report: the refusal's number, 0 for none; how many entries the chart has; how many rows are in use; how many rows were
+ * read to count them, those read for the check apart; and for each entry how many of the rows in use are its. Behind the
+ * entries' tallies stand zeros. The tallies together are `rows`, and `read` is `rows` too, however many entries there are:
+ * each row is read once. Of a refused report every field but the number is 0.
+ */
+struct chronicle_report_answer {
+    uint32_t refusal;
+    size_t entries;
+    size_t rows;
+    size_t read;
+    size_t tallies[32];
 };
 
 /* Checks a chart on paper. Time: proportional to the bytes of its first 33 lines. */
@@ -457,6 +477,15 @@ struct chronicle_tree_answer chronicle_tree(struct chronicle_watch watch, struct
                                             size_t out_length);
 
 /*
+ * How many rows each entry has: one tally for each entry of the chart, entries without rows too. The table is checked and
+ * not altered. Events of the open instant are no rows yet. Time: a check and a second walk of the rows in use, one look at
+ * each, whatever the number of entries.
+ */
+CHRONICLE_CALL
+struct chronicle_report_answer chronicle_report(struct chronicle_watch watch, struct chronicle_chart chart,
+                                                const int32_t *table, size_t length);
+
+/*
  * Plays a whole input of the listing program, lying in memory: a chart, an empty line and a log, as examples/listing has
  * them. Writes what the program prints, the listing of the table or the one line of a refusal, and returns its length; no
  * byte 0 follows. The table's contents before the call do not matter; after it they are those of the input's last call, or
@@ -467,6 +496,16 @@ struct chronicle_tree_answer chronicle_tree(struct chronicle_watch watch, struct
 CHRONICLE_CALL
 size_t chronicle_list(const uint8_t *input, size_t input_length, int32_t *table, size_t length, uint8_t *out,
                       size_t out_length);
+
+/*
+ * The same for the report program, which takes the same input: plays it, and writes for each entry of its chart one line,
+ * the entry and its number of rows parted by a tab, and then `total`, a tab and the number of rows in use, or the one line
+ * of a refusal, which is that of chronicle_list. Where the output has less than CHRONICLE_REPORT_BYTES, nothing is done and
+ * 0 is returned. Time: as chronicle_list, and at the end a check and one walk of the rows.
+ */
+CHRONICLE_CALL
+size_t chronicle_print_report(const uint8_t *input, size_t input_length, int32_t *table, size_t length, uint8_t *out,
+                              size_t out_length);
 
 #undef CHRONICLE_CALL
 #undef CHRONICLE_NUMBER_CALL

@@ -16,9 +16,9 @@ use measure::{print_line, print_method, taken, Call, Order, Workload};
 
 const ROWS_IN_USE: [usize; 4] = [100, 1_000, 10_000, 60_000];
 
-const CALLS: [&str; 8] = [
-    "check", "mark, none pending", "mark, few new", "mark, many new", "forget a tenth", "forget half", "add a line",
-    "add 22 lines",
+const CALLS: [&str; 9] = [
+    "check", "report", "mark, none pending", "mark, few new", "mark, many new", "forget a tenth", "forget half",
+    "add a line", "add 22 lines",
 ];
 
 /// Stage settled (1), shutter opened (2), focus moved (3), temperature sampled (4); and 5, which only fills the table.
@@ -61,6 +61,7 @@ fn workload(name: &'static str, rows: usize) -> Workload {
     let next = watch.instant + 1;
     let call = match name {
         "check" => Call::Check,
+        "report" => Call::Report,
         "forget a tenth" => Call::Forget(start_of(rows / 10)),
         "forget half" => Call::Forget(start_of(rows / 2)),
         "add a line" => Call::Add(LINE),

@@ -4,7 +4,7 @@
 #[path = "../../tests/common/proved_watch.rs"]
 mod proved_watch;
 
-use common::interface::{Addition, Answer, Calls, Chart, Watch};
+use common::interface::{Addition, Answer, Calls, Chart, Report, Watch};
 use common::plain_watch::{self, Plain};
 use common::timing::{median, processor_time};
 use std::hint::black_box;
@@ -16,6 +16,7 @@ const BYTES_A_ROUND: usize = 1 << 21;
 #[derive(Clone, Copy)]
 pub enum Call {
     Check,
+    Report,
     Clock(i32),
     Forget(i32),
     Add(&'static [u8]),
@@ -57,28 +58,42 @@ pub fn taken(answer: Answer) -> Watch {
     answer.watch
 }
 
-/// What a call answers, and the chart after it.
-fn play(calls: &Calls, workload: &Workload, table: &mut [i32]) -> (Answer, Chart) {
+/// What a call answers.
+#[derive(PartialEq)]
+enum Answered {
+    Check(u32),
+    Report(Report),
+    Watch(Answer),
+    Addition(Addition),
+}
+
+fn play(calls: &Calls, workload: &Workload, table: &mut [i32]) -> Answered {
     let Workload { watch, chart, call, .. } = workload;
-    let answer = match *call {
-        Call::Check => Answer { refusal: (calls.check)(*watch, *chart, table), watch: *watch },
-        Call::Clock(instant) => (calls.clock)(*watch, *chart, table, instant),
-        Call::Forget(floor) => (calls.forget)(*watch, *chart, table, floor),
-        Call::Add(lines) => {
-            let Addition { refusal, watch, chart, .. } = (calls.add_lines)(*watch, *chart, table, lines);
-            return (Answer { refusal, watch }, chart);
-        }
-    };
-    (answer, *chart)
+    match *call {
+        Call::Check => Answered::Check((calls.check)(*watch, *chart, table)),
+        Call::Report => Answered::Report((calls.report)(*watch, *chart, table)),
+        Call::Clock(instant) => Answered::Watch((calls.clock)(*watch, *chart, table, instant)),
+        Call::Forget(floor) => Answered::Watch((calls.forget)(*watch, *chart, table, floor)),
+        Call::Add(lines) => Answered::Addition((calls.add_lines)(*watch, *chart, table, lines)),
+    }
 }
 
 /// Returns how many rows are new.
 fn compare(workload: &Workload, plain: &Calls, proved: &Calls, order: Order) -> usize {
     let (mut by_plain, mut by_proved) = (workload.table.clone(), workload.table.clone());
-    let (answer, other) = (play(plain, workload, &mut by_plain), play(proved, workload, &mut by_proved));
+    let (answered, other) = (play(plain, workload, &mut by_plain), play(proved, workload, &mut by_proved));
     let is_same = by_plain == by_proved || (order == Order::Any && intervals(&by_plain) == intervals(&by_proved));
-    assert!(answer == other && is_same, "the two watches differ on: {}", workload.name);
-    taken(answer.0).rows.saturating_sub(workload.watch.rows)
+    assert!(answered == other && is_same, "the two watches differ on: {}", workload.name);
+    let Watch { rows: before, .. } = workload.watch;
+    let (refusal, rows) = match answered {
+        Answered::Check(refusal) => (refusal, before),
+        Answered::Report(Report { refusal, rows, .. }) => (refusal, rows),
+        Answered::Watch(Answer { refusal, watch }) | Answered::Addition(Addition { refusal, watch, .. }) => {
+            (refusal, watch.rows)
+        }
+    };
+    assert_eq!(refusal, 0, "the call is taken: {}", workload.name);
+    rows.saturating_sub(before)
 }
 
 /// End, entry and start of each row: what does not depend on the order of rows.

@@ -76,6 +76,19 @@ pub struct TreeAnswer {
     pub length: usize,
 }
 
+/// What a report answers: the refusal's number; how many entries the chart has, how many rows are in use, and how many
+/// were read for the tallies, those read for the check apart; and how many rows each entry has, with zeros behind the
+/// last. Of a refused call all but the number are 0.
+#[repr(C)]
+#[derive(Clone, Copy, Debug, PartialEq)]
+pub struct Report {
+    pub refusal: u32,
+    pub entries: usize,
+    pub rows: usize,
+    pub read: usize,
+    pub tallies: [usize; 32],
+}
+
 /// The calls of a watch, the proved one or another.
 #[derive(Clone, Copy)]
 pub struct Calls {
@@ -88,11 +101,19 @@ pub struct Calls {
     pub rows_ending: fn(Watch, Chart, &[i32], i32) -> Rows,
     pub tree: fn(Watch, Chart, &[i32], usize, &mut [u8]) -> TreeAnswer,
     pub add_lines: fn(Watch, Chart, &[i32], &[u8]) -> Addition,
+    pub report: fn(Watch, Chart, &[i32]) -> Report,
 }
 
 impl Chart {
     pub fn no_entries() -> Chart {
         Chart { count: 0, entries: [Entry { op: 0, a: 0, b: 0 }; MOST_ENTRIES] }
+    }
+}
+
+impl Report {
+    /// "Refused (14, 13), the library's report gives only the number."
+    pub fn refused(refusal: u32) -> Report {
+        Report { refusal, entries: 0, rows: 0, read: 0, tallies: [0; MOST_ENTRIES] }
     }
 }
 

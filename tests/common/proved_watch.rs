@@ -1,6 +1,6 @@
 //! The proved watch, linked from the archive that `rt staticlib host` writes. include/chronicle.h declares the same.
 
-use common::interface::{Addition, Answer, Calls, Chart, ChartAnswer, Rows, TreeAnswer, Watch};
+use common::interface::{Addition, Answer, Calls, Chart, ChartAnswer, Report, Rows, TreeAnswer, Watch};
 
 #[link(name = "host", kind = "static")]
 extern "C" {
@@ -28,11 +28,13 @@ extern "C" {
         bytes: *const u8,
         size: usize,
     ) -> Addition;
+    fn chronicle_report(watch: Watch, chart: Chart, table: *const i32, length: usize) -> Report;
 }
 
 // The sizes that the C compiler gives the structs, and the archive's code takes them to have.
 const _: () = assert!(size_of::<Chart>() == 392 && size_of::<ChartAnswer>() == 400);
 const _: () = assert!(size_of::<Watch>() == 232 && size_of::<Answer>() == 240 && size_of::<Addition>() == 632);
+const _: () = assert!(size_of::<Report>() == 288);
 
 // SAFETY of every call: a slice is valid for its whole length during the call, a mutable one is lent to nobody else,
 // and no call keeps a pointer.
@@ -56,4 +58,5 @@ pub const CALLS: Calls = Calls {
     add_lines: |watch, chart, table, bytes| unsafe {
         chronicle_add_lines(watch, chart, table.as_ptr(), table.len(), bytes.as_ptr(), bytes.len())
     },
+    report: |watch, chart, table| unsafe { chronicle_report(watch, chart, table.as_ptr(), table.len()) },
 };

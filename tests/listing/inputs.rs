@@ -114,7 +114,7 @@ fn chart(random: &mut Random) -> String {
     }
 }
 
-fn opening(random: &mut Random) -> i64 {
+pub fn opening(random: &mut Random) -> i64 {
     match random.below(8) {
         0 => LEAST + random.below(3) as i64,
         1 => GREATEST - random.below(40) as i64,
@@ -123,7 +123,7 @@ fn opening(random: &mut Random) -> i64 {
     }
 }
 
-fn log(random: &mut Random, opening: i64, length: usize, longest_step: usize) -> String {
+pub fn log(random: &mut Random, opening: i64, length: usize, longest_step: usize) -> String {
     let (mut instant, mut floor) = (opening, LEAST);
     let mut text = format!("open\t{opening}\n");
     for _ in 0..length {

@@ -2,36 +2,31 @@
 //! program on long ones. With --self-test it compares programs that are wrong on purpose instead, and each of them must
 //! be found.
 
+mod comparison;
 mod damage;
 mod inputs;
+mod lent;
 mod planned;
+mod printed;
 mod proved_listing;
 mod wrong_programs;
 
 use common::harness::{self, Compared, Met as _, Named, Test, LEAST_MET};
 use common::paper::{self, lines};
 use common::plain_chart::{self, Entry, Nearest, Operator};
-use common::random::Random;
+use comparison::{compare, list_all, long_inputs, set_built, short_inputs, Listing, Program};
 use inputs::Case;
-use oracle::listing::{listing, TABLE_ROWS};
-use oracle::model::Over;
-use plain_listing::long_logs::{one_event_too_many, FULL_TABLE, FULL_TABLE_ROWS, WORKLOADS};
-use proved_listing::Lent;
+use lent::Lent;
+use oracle::listing::TABLE_ROWS;
+use printed::refusal;
 use std::collections::{BTreeMap, BTreeSet};
 use std::process::ExitCode;
-use wrong_programs::{list_all, Listing};
 
 const SEEDS: [u64; 4] = [51, 52, 53, 54];
 const INPUTS_PER_SEED: usize = 30_000;
 /// Enough to find a wrong program.
 const SELF_TEST_INPUTS: usize = 4_000;
-const LONG_EVENTS: usize = 100_000;
-const LONG_FILLINGS: [usize; 2] = [100, 2_900];
-const FULL_TABLE_EVENTS: usize = 10_000;
 const NEAREST: [Nearest; 2] = [Nearest::Cut, Nearest::Change];
-
-/// What a program prints for an input on a table of so many rows, or what else is wrong.
-type Program<'a> = dyn FnMut(&[u8], usize) -> Result<Vec<u8>, String> + 'a;
 
 fn main() -> ExitCode {
     harness::main::<ListingTest>()
@@ -46,8 +41,9 @@ impl Test for ListingTest {
 
     fn compare_proved(met: &mut Met) -> Compared {
         let mut lent = Lent::new();
-        compare_short(&mut |input, rows| lent.list(input, rows), INPUTS_PER_SEED, met)?;
-        compare_long(&mut |input, rows| lent.list(input, rows), met)?;
+        let mut list = |input: &[u8], rows| proved_listing::list(&mut lent, input, rows);
+        compare_short(&mut list, INPUTS_PER_SEED, met)?;
+        compare_long(&mut list, met)?;
         compare_short_outputs(&mut lent)
     }
 
@@ -81,8 +77,7 @@ struct Met {
 
 impl Met {
     fn count(&mut self, kind: &'static str, case: &Case, printed: &[u8]) {
-        let number = printed.strip_prefix(b"refused\t").and_then(|text| text.split(|byte| *byte == b'\t').next());
-        let number = number.map_or(0, |digits| digits.iter().fold(0, |n, digit| n * 10 + u32::from(digit - b'0')));
+        let number = refusal(printed).map_or(0, |(number, _)| number);
         *self.refusals.entry(number).or_default() += 1;
         *self.kinds.entry(kind).or_default() += 1;
         if number == 0 {
@@ -186,60 +181,19 @@ impl harness::Met for Met {
     }
 }
 
-/// What must be printed, as the set-building program finds it.
-fn expected(case: &Case) -> Vec<u8> {
-    listing(&case.input, case.table_rows, Over::EventsFromFloor)
-}
-
-/// Nothing, or what the difference is.
-fn compare(program: &mut Program, case: &Case, expected: &[u8]) -> Compared {
-    match program(&case.input, case.table_rows) {
-        Ok(printed) if printed == expected => Ok(()),
-        Ok(printed) => Err(described(case, &format!("\"{}\"", shortened(&printed)), expected)),
-        Err(fault) => Err(described(case, &fault, expected)),
-    }
-}
-
-fn described(case: &Case, found: &str, expected: &[u8]) -> String {
-    let Case { input, table_rows } = case;
-    format!(
-        "input \"{}\"\ntable of {table_rows} rows\nexpected \"{}\"\nfound {found}",
-        shortened(input),
-        shortened(expected)
-    )
-}
-
-/// The beginning of a long text.
-fn shortened(text: &[u8]) -> String {
-    let end = if text.len() > 4_000 { "..." } else { "" };
-    format!("{}{end}", text[..text.len().min(4_000)].escape_ascii())
-}
-
 /// Compares a program on the inputs by plan and on so many from each seed, up to the first difference.
 fn compare_short(program: &mut Program, per_seed: usize, met: &mut Met) -> Compared {
-    let mut compare_case = |kind: &'static str, case: Case| {
-        let expected = expected(&case);
+    for (kind, case) in short_inputs(SEEDS, per_seed) {
+        let expected = set_built(&case.input, case.table_rows);
         met.count(kind, &case, &expected);
-        compare(program, &case, &expected)
-    };
-    planned::all().try_for_each(|(kind, case)| compare_case(kind, case))?;
-    for seed in SEEDS {
-        let mut random = Random::new(seed);
-        for _ in 0..per_seed {
-            let kind = inputs::kind(&mut random);
-            compare_case(kind.name, (kind.draw)(&mut random))?;
-        }
+        compare(program, &case, &expected)?;
     }
     Ok(())
 }
 
 /// Compares a program with the plain one on inputs of many events.
 fn compare_long(program: &mut Program, met: &mut Met) -> Compared {
-    let drawn = WORKLOADS.iter().flat_map(|workload| {
-        LONG_FILLINGS.map(|filling| workload.draw(&mut Random::new(filling as u64), LONG_EVENTS, filling).input)
-    });
-    let full_table = FULL_TABLE.draw(&mut Random::new(64), FULL_TABLE_EVENTS, FULL_TABLE_ROWS).input;
-    for input in drawn.chain([full_table, one_event_too_many()]) {
+    for input in long_inputs() {
         let expected = list_all(&input, TABLE_ROWS);
         let case = Case { input, table_rows: TABLE_ROWS };
         met.count("many events", &case, &expected);
@@ -252,7 +206,7 @@ fn compare_long(program: &mut Program, met: &mut Met) -> Compared {
 fn compare_short_outputs(lent: &mut Lent) -> Compared {
     for rows in [0, 8, TABLE_ROWS] {
         for length in [0, 30, proved_listing::out_length(rows) - 1] {
-            let printed = lent.list_into(planned::P1, rows, length)?;
+            let printed = proved_listing::list_into(lent, planned::P1, rows, length)?;
             if !printed.is_empty() {
                 return Err(format!("{} bytes printed on an output of {length}, table of {rows} rows", printed.len()));
             }

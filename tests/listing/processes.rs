@@ -1,16 +1,19 @@
-//! Runs the listing program itself and compares what it prints: input in pieces of any size, lines and inputs of any
-//! length within a bounded memory, and inputs and outputs that are no files of text or that fail.
+//! Runs the listing program or the report program itself and compares what it prints: input in pieces of any size, lines
+//! and inputs of any length within a bounded memory, and inputs and outputs that are no files of text or that fail.
 
+#[path = "../report/counted.rs"]
+mod counted;
 mod damage;
 mod failures;
 #[allow(dead_code)]
 mod inputs;
+mod many_entries;
 mod terminal;
+mod tested;
 
 use common::harness::Compared;
 use common::random::Random;
-use oracle::listing::{listing, TABLE_ROWS};
-use oracle::model::Over;
+use oracle::listing::TABLE_ROWS;
 use plain_listing::list;
 use plain_listing::long_logs::{one_event_too_many, WORKLOADS};
 use std::fs::{self, File};
@@ -18,21 +21,21 @@ use std::io::{self, Read, Write};
 use std::process::{Child, ChildStdin, Command, ExitCode, Output, Stdio};
 use std::thread;
 use std::time::{Duration, Instant};
+use tested::Tested;
 
 const RUNS: usize = 300;
 const MILLION: usize = 1_000_000;
 const GIGABYTE: usize = 1 << 30;
-/// The kilobytes of address space that the program may have, its code and libraries included.
-const MEMORY: usize = 65_536;
 /// A run that takes longer is taken for one that never ends.
 const LONGEST_RUN: Duration = Duration::from_secs(120);
 
 fn main() -> ExitCode {
-    let Some(path) = std::env::args().nth(1).filter(|_| std::env::args().count() == 2) else {
-        eprintln!("use: listing_processes LISTING");
+    let path = std::env::args().nth(1).filter(|_| std::env::args().count() == 2);
+    let Some(tested) = path.and_then(Tested::at) else {
+        eprintln!("use: processes PROGRAM, whose name is listing or report");
         return ExitCode::from(2);
     };
-    let parts: [(&str, fn(&str) -> Compared); 10] = [
+    let parts: [(&str, fn(&Tested) -> Compared); 10] = [
         ("inputs in pieces", in_pieces),
         ("lines of a gigabyte", long_lines),
         ("a million events and more", many_events),
@@ -45,7 +48,7 @@ fn main() -> ExitCode {
         ("outputs that cannot be written", failures::unwritten_outputs),
     ];
     for (name, compare) in parts {
-        if let Err(difference) = compare(&path) {
+        if let Err(difference) = compare(&tested) {
             println!("{name}: {difference}");
             return ExitCode::FAILURE;
         }
@@ -54,18 +57,10 @@ fn main() -> ExitCode {
     ExitCode::SUCCESS
 }
 
-/// The program, with no more memory than it is allowed.
-fn program(path: &str) -> Command {
-    let mut command = Command::new("sh");
-    command.args(["-c", &format!("ulimit -v {MEMORY} && exec \"$0\""), path]);
-    command.stdout(Stdio::piped()).stderr(Stdio::piped());
-    command
-}
-
 /// Runs the program on what `write` writes into its standard input. That the program ends before it has read all is no
 /// fault, so whether all could be written does not matter.
-fn run(path: &str, write: impl FnOnce(&mut ChildStdin) -> io::Result<()> + Send + 'static) -> Output {
-    run_on(&mut program(path), write)
+fn run(tested: &Tested, write: impl FnOnce(&mut ChildStdin) -> io::Result<()> + Send + 'static) -> Output {
+    run_on(&mut tested.command(), write)
 }
 
 fn run_on(command: &mut Command, write: impl FnOnce(&mut ChildStdin) -> io::Result<()> + Send + 'static) -> Output {
@@ -139,14 +134,15 @@ fn write_pieces(input: &mut ChildStdin, bytes: &[u8], longest: usize, seed: u64)
     Ok(())
 }
 
-fn in_pieces(path: &str) -> Compared {
+fn in_pieces(tested: &Tested) -> Compared {
     let mut random = Random::new(61);
     for seed in 0..RUNS as u64 {
-        let input = (inputs::kind(&mut random).draw)(&mut random).input;
-        let expected = listing(&input, TABLE_ROWS, Over::EventsFromFloor);
+        let draw = if random.one_in(10) { many_entries::draw } else { inputs::kind(&mut random).draw };
+        let input = draw(&mut random).input;
+        let expected = tested.expected(&input);
         let what = format!("input \"{}\"", input.escape_ascii());
         let longest = random.pick(&[1, 3, 20, 100, 5_000]);
-        let output = run(path, move |pipe| write_pieces(pipe, &input, longest, seed));
+        let output = run(tested, move |pipe| write_pieces(pipe, &input, longest, seed));
         compare(&what, &output, &expected)?;
     }
     Ok(())
@@ -161,7 +157,7 @@ fn write_many(input: &mut ChildStdin, first: &[u8], text: &[u8], length: usize) 
 
 /// A gigabyte without byte 10, as the first chart line, a 33rd, the parting line, the first line of the log and a later
 /// one; and a gigabyte of empty lines in the log.
-fn long_lines(path: &str) -> Compared {
+fn long_lines(tested: &Tested) -> Compared {
     let entries = |count: usize| (0..count).map(|number| format!("{number}\tevent\t1\n")).collect::<String>();
     let cases: [(String, &[u8], &str); 7] = [
         (String::new(), b"x", "refused\t3\t1\n"),
@@ -175,31 +171,33 @@ fn long_lines(path: &str) -> Compared {
     for (first, text, expected) in cases {
         let what = format!("\"{}\", then a gigabyte of \"{}\"", first.escape_debug(), text.escape_ascii());
         let text = text.to_vec();
-        let output = run(path, move |pipe| write_many(pipe, first.as_bytes(), &text, GIGABYTE));
+        let output = run(tested, move |pipe| write_many(pipe, first.as_bytes(), &text, GIGABYTE));
         compare(&what, &output, expected.as_bytes())?;
     }
     Ok(())
 }
 
-fn many_events(path: &str) -> Compared {
+fn many_events(tested: &Tested) -> Compared {
     let drawn = WORKLOADS.iter().map(|workload| workload.draw(&mut Random::new(62), MILLION, 500).input);
     for (seed, input) in drawn.chain([one_event_too_many()]).enumerate() {
-        let expected = list(&input[..], TABLE_ROWS).expect("bytes in memory can be read");
-        let output = run(path, move |pipe| write_pieces(pipe, &input, 20_000, seed as u64));
+        let listing = list(&input[..], TABLE_ROWS).expect("bytes in memory can be read");
+        let expected = tested.expected_for(&input, &listing);
+        let output = run(tested, move |pipe| write_pieces(pipe, &input, 20_000, seed as u64));
         compare("an input of a million events", &output, &expected)?;
     }
     Ok(())
 }
 
 /// Forgets that alter nothing, and then one that is refused.
-fn many_lines(path: &str) -> Compared {
+fn many_lines(tested: &Tested) -> Compared {
     let first = "0\tevent\t1\n\nopen\t-7\nevent\t1\nclock\t0\n";
     let forget = b"forget\t-1000000000\n";
     let a_megabyte = (1 << 20) / forget.len();
     let (megabytes, length) = (64, 64 * a_megabyte * forget.len());
-    let sound = run(path, move |pipe| write_many(pipe, first.as_bytes(), forget, length));
-    compare("millions of forgets", &sound, b"row\tentry\tleft\tright\tstart\tend\n0\t0\t1\t-1\t-7\t-7\n")?;
-    let refused = run(path, move |pipe| {
+    let sound = run(tested, move |pipe| write_many(pipe, first.as_bytes(), forget, length));
+    let listing = b"row\tentry\tleft\tright\tstart\tend\n0\t0\t1\t-1\t-7\t-7\n";
+    compare("millions of forgets", &sound, &tested.expected_for(first.as_bytes(), listing))?;
+    let refused = run(tested, move |pipe| {
         write_many(pipe, first.as_bytes(), forget, length)?;
         pipe.write_all(b"forget\t1\n")
     });
@@ -208,12 +206,12 @@ fn many_lines(path: &str) -> Compared {
 }
 
 /// Files of any bytes.
-fn odd_inputs(path: &str) -> Compared {
-    for file in ["/dev/null", "/bin/sh", path] {
+fn odd_inputs(tested: &Tested) -> Compared {
+    for file in ["/dev/null", "/bin/sh", &tested.path] {
         let bytes = fs::read(file).expect("the file can be read");
         let input = File::open(file).expect("the file can be opened");
-        let child = program(path).stdin(input).spawn().expect("the program can be run");
-        compare(file, &finished(child), &listing(&bytes, TABLE_ROWS, Over::EventsFromFloor))?;
+        let child = tested.command().stdin(input).spawn().expect("the program can be run");
+        compare(file, &finished(child), &tested.expected(&bytes))?;
     }
     Ok(())
 }

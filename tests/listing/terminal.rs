@@ -1,6 +1,7 @@
-//! The listing program with a terminal as its input.
+//! The program with a terminal as its input.
 
-use crate::{compare as compare_output, finished, program};
+use crate::tested::Tested;
+use crate::{compare as compare_output, finished};
 use common::harness::Compared;
 use std::ffi::{c_char, c_int, CStr, OsStr};
 use std::fs::{File, OpenOptions};
@@ -20,8 +21,8 @@ const FLAGS: c_int = 0o2 | 0o400;
 /// What the end of the input is on a terminal's keys.
 const END: &str = "\u{4}";
 
-/// What is typed and then ended, and what must be printed.
-pub fn compare(path: &str) -> Compared {
+/// What is typed and then ended, and what its listing is.
+pub fn compare(tested: &Tested) -> Compared {
     let sound = "0\tevent\t1\n\nopen\t-1\nevent\t1\nclock\t0\n";
     let listed = "row\tentry\tleft\tright\tstart\tend\n0\t0\t1\t-1\t-1\t-1\n";
     let typed = [
@@ -30,11 +31,12 @@ pub fn compare(path: &str) -> Compared {
         (format!("0\tevent\t1\n{END}"), "refused\t7\t2\n"),
         (format!("{sound}{END}"), listed),
     ];
-    for (text, expected) in typed {
+    for (text, listing) in typed {
+        let expected = tested.expected_for(text.as_bytes(), listing.as_bytes());
         let (mut keys, input) = open_terminal().ok_or("no terminal could be opened")?;
         keys.write_all(text.as_bytes()).map_err(|error| error.to_string())?;
-        let child = program(path).stdin(input).spawn().expect("the program can be run");
-        compare_output(&format!("typed \"{}\"", text.escape_debug()), &finished(child), expected.as_bytes())?;
+        let child = tested.command().stdin(input).spawn().expect("the program can be run");
+        compare_output(&format!("typed \"{}\"", text.escape_debug()), &finished(child), &expected)?;
     }
     Ok(())
 }

@@ -1,13 +1,11 @@
 //! Listing programs that are wrong on purpose. The comparison must find each of them, or it could not find a fault in
 //! the proved one.
 
+use crate::comparison::{list_all, Listing};
+use crate::printed::refusal;
 use common::careless::{with_last_byte, without_carriage_returns};
 use common::harness::Named;
 use common::paper::lines;
-use plain_listing::list;
-
-/// What a program prints for an input on a table of so many rows.
-pub type Listing = fn(&[u8], usize) -> Vec<u8>;
 
 pub const ALL: [Named<Listing>; 29] = [
     ("line number one too high in the log", |i, n| log_line_moved(i, n, 1)),
@@ -40,18 +38,6 @@ pub const ALL: [Named<Listing>; 29] = [
     ("one fixed listing", |_, _| b"row\tentry\tleft\tright\tstart\tend\n".to_vec()),
     ("everything refused", |_, _| b"refused\t7\t1\n".to_vec()),
 ];
-
-/// The plain program on an input in memory.
-pub fn list_all(input: &[u8], table_rows: usize) -> Vec<u8> {
-    list(input, table_rows).expect("bytes in memory can be read")
-}
-
-/// The number and the line of a refusal.
-fn refusal(printed: &[u8]) -> Option<(u32, i64)> {
-    let text = std::str::from_utf8(printed).ok()?.strip_prefix("refused\t")?;
-    let (number, line) = text.strip_suffix('\n')?.split_once('\t')?;
-    Some((number.parse().ok()?, line.parse().ok()?))
-}
 
 fn refused(number: u32, line: i64) -> Vec<u8> {
     format!("refused\t{number}\t{line}\n").into_bytes()

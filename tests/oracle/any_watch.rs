@@ -8,7 +8,7 @@ use crate::layout::{self, flat, rows_held, rows_in_use};
 use crate::model::{Call, INSTANTS, MOST_EVENTS, MOST_PENDING};
 use crate::recognitions::Row;
 use common::chart_value;
-use common::interface::{Addition, Answer, Chart, Watch, FIRST_FLOOR};
+use common::interface::{Addition, Answer, Chart, Report, Watch, FIRST_FLOOR};
 use common::plain_chart::{self, Entry, Nearest, Operator, Relation, Verdict};
 use std::cmp::Reverse;
 use std::ops::Range;
@@ -67,6 +67,14 @@ pub fn rows_ending(watch: &Watch, chart: &Chart, table: &[i32], end: i32) -> Ran
         return 0..0;
     }
     layout::rows_ending(&rows_in_use(watch, table), end)
+}
+
+/// How many rows each entry has; only the number where the call is refused.
+pub fn report(watch: &Watch, chart: &Chart, table: &[i32]) -> Report {
+    match entries_consistent(watch, chart, table) {
+        Ok(entries) => layout::report(&rows_in_use(watch, table), entries.len()),
+        Err(refusal) => Report::refused(refusal),
+    }
 }
 
 /// The bytes of a row's tree, "15 before 16".

@@ -1,9 +1,9 @@
 //! A history as the C interface shows it: the model's state after each call, laid out as a watch and a table.
 
-use crate::layout::{flat, rows_ending, rows_held};
+use crate::layout::{self, flat, rows_ending, rows_held};
 use crate::model::{Call, Model, Over, Refusal, MOST_PENDING};
 use crate::recognitions::{Recognitions, Row};
-use common::interface::{Watch, MOST_ENTRIES};
+use common::interface::{Report, Watch, MOST_ENTRIES};
 use common::plain_chart::{Entry, Verdict};
 use std::ops::Range;
 
@@ -54,6 +54,11 @@ impl History {
     /// The numbers of the rows with this end; where there are none, the empty range at the place they would have.
     pub fn rows_ending(&self, end: i32) -> Range<usize> {
         rows_ending(&self.rows, end)
+    }
+
+    /// How many rows each entry has.
+    pub fn report(&self) -> Report {
+        layout::report(&self.rows, self.chart().len())
     }
 
     /// The tree of the recognition that a row shows.

@@ -1,7 +1,7 @@
-//! Rows as the numbers of the caller's table. Document 01, "Instants, events, rows".
+//! Rows as the numbers of the caller's table. Document 01, "Instants, events, rows"; request N3 for their report.
 
 use crate::recognitions::Row;
-use common::interface::Watch;
+use common::interface::{Report, Watch, MOST_ENTRIES};
 use std::ops::Range;
 
 /// "The caller's table holds length divided by 5 rows, rounded down, and never more than 65,535."
@@ -26,6 +26,16 @@ pub fn rows_ending(rows: &[Row], end: i32) -> Range<usize> {
     let end = i64::from(end);
     let first = rows.iter().filter(|row| row.end < end).count();
     first..first + rows.iter().filter(|row| row.end == end).count()
+}
+
+/// What a report of these rows answers, under a chart of so many entries. It reads each row once, "whatever the number
+/// of entries".
+pub fn report(rows: &[Row], entries: usize) -> Report {
+    let mut tallies = [0; MOST_ENTRIES];
+    for (entry, tally) in tallies.iter_mut().take(entries).enumerate() {
+        *tally = rows.iter().filter(|row| row.entry == entry).count();
+    }
+    Report { refusal: 0, entries, rows: rows.len(), read: rows.len(), tallies }
 }
 
 /// The rows in use of a consistent table.

@@ -1,7 +1,7 @@
 //! The set-building program's own tests, beside the examples of tests/examples.
 
 use common::chart_value;
-use common::interface::{Answer, Chart, Watch, FIRST_FLOOR};
+use common::interface::{Answer, Chart, Report, Watch, FIRST_FLOOR};
 use common::plain_chart::{self, Entry, Operator, Verdict};
 use common::random::Random;
 use common::random_charts;
@@ -663,6 +663,9 @@ fn steps_on_rows_follow_the_recognitions() {
             let row = random.below(40);
             let tree = any_watch::tree(&history.watch, &value, &history.table, row, 20);
             assert_eq!(tree, history.tree(row, 20), "the tree of row {row} on {chart:?}");
+            let report = any_watch::report(&history.watch, &value, &history.table);
+            assert_eq!(report, history.report(), "the report on {chart:?}");
+            assert_eq!(report.tallies.iter().sum::<usize>(), history.rows.len(), "the sum of the lines");
         }
     }
 }
@@ -744,6 +747,27 @@ fn p1_at_the_end() -> (Watch, Vec<i32>) {
     ];
     let table = rows.concat().into_iter().chain([8, 9]).collect();
     (Watch { instant: 4, events: 4, rows: 8, ..Watch::opened(0, 5) }, table)
+}
+
+/// "Entry and number of rows": P1 has an event of code 1, two of code 2, one of code 3, two pairs and two absences. An
+/// added entry without rows has 0, pending events are no rows, and unused rows none of entry 0. "Refused (14, 13), the
+/// library's report gives only the number."
+#[test]
+fn reports_of_p1() {
+    let ((watch, table), chart) = (p1_at_the_end(), chart_value::of(&chart(P1)));
+    let report = |watch: &Watch, chart: &Chart| any_watch::report(watch, chart, &table);
+    let tallies = std::array::from_fn(|entry| [1, 2, 1, 2, 2].get(entry).copied().unwrap_or(0));
+    let expected = Report { refusal: 0, entries: 5, rows: 8, read: 8, tallies };
+    assert_eq!(report(&watch, &chart), expected);
+    assert_eq!(report(&Watch { pending: 1, ..watch }, &chart), expected);
+    let added = any_watch::add_lines(&watch, &chart, &table, b"5\tevent\t1\n");
+    assert_eq!(report(&added.watch, &added.chart), Report { entries: 6, ..expected });
+    let (opened, empty) = any_watch::open(&chart, &table, 0);
+    let no_rows = Report { refusal: 0, entries: 5, rows: 0, read: 0, tallies: [0; 32] };
+    assert_eq!(any_watch::report(&opened.watch, &chart, &empty), no_rows);
+    let out_of_joint = Watch { rows: 7, ..watch };
+    assert_eq!(report(&out_of_joint, &chart), Report::refused(13));
+    assert_eq!(report(&out_of_joint, &Chart { count: 33, ..chart }), Report::refused(14));
 }
 
 /// Each cause of "out of joint" by itself, and changes that are none.

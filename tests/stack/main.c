@@ -4,8 +4,8 @@
  * Each call is made in a thread of its own, whose stack is painted before: what is no longer painted afterwards was
  * used. What a thread uses for itself is measured by one that makes no call, and taken off. The calls are made where
  * they reach deepest: on charts that nest all 32 entries, by operators of every form, with marks that go over the ends
- * of all delays; an addition also where it is taken, 30 lines behind two; and a mark also where it puts as many rows of
- * one entry in order as a table holds, the starts of which rise and fall.
+ * of all delays; an addition also where it is taken, 30 lines behind two; a mark also where it puts as many rows of one
+ * entry in order as a table holds, the starts of which rise and fall; and a report also of a full table.
  */
 #define _POSIX_C_SOURCE 200809L
 #include "chronicle.h"
@@ -28,7 +28,8 @@ enum {
     BLOCK_ENDS = 60,
     BLOCK_EVENTS = 3,
     BLOCK_PAIRS = BLOCK_STARTS * BLOCK_ENDS,
-    BLOCK_ROWS = 65535
+    BLOCK_ROWS = 65535,
+    MOST_PENDING = 64
 };
 
 /* What the calls are made on; the answers go here too, so that no answer takes room on the painted stack. */
@@ -50,7 +51,9 @@ static struct subject {
     struct chronicle_addition refused;
     struct chronicle_rows rows;
     struct chronicle_tree_answer tree;
+    struct chronicle_report_answer report;
     size_t listed;
+    size_t printed;
     size_t fitting;
     uint32_t refusal;
 } s;
@@ -75,7 +78,12 @@ static void add_33rd(void)
 {
     s.refused = chronicle_add_lines(s.watch, s.chart, s.table, NUMBERS, s.text, s.chart_length);
 }
+static void report(void) { s.report = chronicle_report(s.watch, s.chart, s.table, NUMBERS); }
 static void list(void) { s.listed = chronicle_list(s.text, s.text_length, s.table, NUMBERS, s.out, OUTPUT); }
+static void print_report(void)
+{
+    s.printed = chronicle_print_report(s.text, s.text_length, s.table, NUMBERS, s.out, CHRONICLE_REPORT_BYTES);
+}
 
 /* The table that holds a long block. */
 static int32_t block_table[5 * BLOCK_ROWS];
@@ -83,6 +91,7 @@ static void mark_block(void)
 {
     s.answer = chronicle_clock(s.watch, s.chart, block_table, 5 * BLOCK_ROWS, s.watch.instant + 1);
 }
+static void report_full(void) { s.report = chronicle_report(s.watch, s.chart, block_table, 5 * BLOCK_ROWS); }
 
 static void fail(const char *what)
 {
@@ -163,10 +172,11 @@ static struct call {
 } calls[] = {
     {"chronicle_check_chart", check_chart, 0}, {"chronicle_read_chart", read_chart, 0},
     {"chronicle_check", check, 0},             {"chronicle_rows_ending", rows_ending, 0},
-    {"chronicle_tree", tree, 0},               {"chronicle_add_lines", add_lines, 0},
-    {"chronicle_add_lines, 2", add_33rd, 0},   {"chronicle_event", event, 0},
-    {"chronicle_clock", mark, 0},              {"chronicle_forget", forget, 0},
-    {"chronicle_open", open_watch, 0},         {"chronicle_list", list, 0},
+    {"chronicle_tree", tree, 0},               {"chronicle_report", report, 0},
+    {"chronicle_add_lines", add_lines, 0},     {"chronicle_add_lines, 2", add_33rd, 0},
+    {"chronicle_event", event, 0},             {"chronicle_clock", mark, 0},
+    {"chronicle_forget", forget, 0},           {"chronicle_open", open_watch, 0},
+    {"chronicle_list", list, 0},               {"chronicle_print_report", print_report, 0},
     {"chronicle_rows_that_fit", rows_that_fit, 0},
 };
 
@@ -183,7 +193,7 @@ static void measure(size_t of_thread)
             fail("a call that alters the watch was refused");
     }
     if (s.verdict.refusal != 0 || s.refusal != 0 || s.tree.refusal != 0 || s.tree.length == 0 || s.listed == 0 ||
-        s.fitting != ROWS)
+        s.fitting != ROWS || s.report.refusal != 0 || s.report.rows == 0 || s.printed == 0)
         fail("a call was refused");
     if (s.addition.refusal != 0 || s.addition.chart.count != ENTRIES || s.refused.refusal != 2 || s.refused.line != 1)
         fail("an addition went another way than planned");
@@ -240,6 +250,27 @@ static int measure_block(size_t of_thread)
     return used <= 5120;
 }
 
+/* What a report of a full table uses: the block's, filled up by events of code 1, which make no other row. */
+static size_t used_by_full_table(void)
+{
+    while (s.answer.refusal == 0 && s.answer.watch.rows < BLOCK_ROWS) {
+        size_t left = BLOCK_ROWS - s.answer.watch.rows;
+        play(1, left < MOST_PENDING ? (int)left : MOST_PENDING);
+    }
+    s.watch = s.answer.watch;
+    size_t used = used_by(report_full);
+    if (s.report.refusal != 0 || s.report.rows != BLOCK_ROWS)
+        fail("the full table could not be reported");
+    return used;
+}
+
+static int measure_full_table(size_t of_thread)
+{
+    size_t used = used_by_full_table() - of_thread;
+    printf("chronicle_report, a full table of %d rows: %zu bytes of stack\n", BLOCK_ROWS, used);
+    return used <= CHRONICLE_STACK;
+}
+
 int main(void)
 {
     static const struct {
@@ -261,6 +292,7 @@ int main(void)
         is_enough &= calls[i].most <= CHRONICLE_STACK;
     }
     is_enough &= measure_block(of_thread);
+    is_enough &= measure_full_table(of_thread);
     printf("a thread itself: %zu; the header says: %d\n", of_thread, CHRONICLE_STACK);
     return is_enough ? 0 : 1;
 }

@@ -6,7 +6,7 @@ use crate::blocks::{On, TABLES};
 use crate::delays::{add, is_absence, named, Mark};
 use crate::nearest::{is_nearest, Pair};
 use common::chart_value;
-use common::interface::{Chart, Entry, Watch, FIRST_FLOOR, MOST_ENTRIES};
+use common::interface::{Chart, Entry, Report, Watch, FIRST_FLOOR, MOST_ENTRIES};
 use common::plain_chart::{Verdict, WORDS};
 use common::plain_watch::closing::{Closing, CHANGE, EVENT};
 use common::plain_watch::Plain;
@@ -53,7 +53,7 @@ const FULL: [&str; 3] = ["room in a history", "room on a table of none", "12 at 
 const FORGETS: [&str; 3] = ["below", "at it", "above"];
 
 /// Reads of a row of an added entry.
-const READS: [&str; 2] = ["tree", "rows by end"];
+const READS: [&str; 3] = ["tree", "rows by end", "report"];
 
 /// What a watch's entries have that no call left there.
 #[derive(Clone, Copy, Debug, PartialEq)]
@@ -208,6 +208,11 @@ impl Additions {
 
     pub fn count_rows_read(&mut self, watch: &Watch, rows: &[Row]) {
         self.reads[1] += usize::from(rows.iter().any(|row| is_added(watch, row.entry)));
+    }
+
+    pub fn count_report(&mut self, watch: &Watch, report: &Report) {
+        let tallies = report.tallies.iter().enumerate();
+        self.reads[2] += usize::from(tallies.into_iter().any(|(entry, tally)| is_added(watch, entry) && *tally > 0));
     }
 
     pub fn count_damage(&mut self, damage: Damage) {

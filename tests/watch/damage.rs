@@ -5,7 +5,7 @@ use crate::added_lines;
 use crate::additions;
 use crate::blocks::On;
 use crate::delays::{delays, Fault, Mark, FAULTS};
-use crate::histories::{any_row, compare_check_and_rows, compare_tree, count_full};
+use crate::histories::{any_row, compare_check_and_rows, compare_report, compare_tree, count_full};
 use crate::met::Met;
 use crate::nearest::{nearest, Damage, Pair, DAMAGES};
 use crate::random_calls::{self, near_instant_of_row, number, Frequencies, OUT_OF_RANGE};
@@ -155,6 +155,7 @@ fn compare_reads(calls: &Calls, given: &Subject, random: &mut Random, met: &mut 
     let end = random_calls::end(random, watch, table.part());
     let rows = any_watch::rows_ending(watch, chart, table.part(), end);
     compare_check_and_rows(calls, given, end, refusal, rows, met)?;
+    compare_report(calls, given, On::NoHistory, any_watch::report(watch, chart, table.part()), met)?;
     let row = any_row(random, watch.rows.min(65_535));
     let tree_at = |room: usize| any_watch::tree(watch, chart, table.part(), row, room);
     compare_tree(calls, given, row, tree_at, random, met)
@@ -176,11 +177,12 @@ pub fn compare_openings(calls: &Calls, random: &mut Random, met: &mut Met, chart
     // "An empty watch has none": what a refused opening hands back is out of joint with every chart.
     let (checked, check) =
         ((calls.check)(answer.watch, chart, &after), any_watch::check(&expected.watch, &chart, &after));
-    if checked == check {
-        Ok(())
-    } else {
-        Err(format!("check after an opening at {instant} answered {checked}, expected {check}"))
+    if checked != check {
+        return Err(format!("check after an opening at {instant} answered {checked}, expected {check}"));
     }
+    let report = any_watch::report(&expected.watch, &chart, &after);
+    compare_report(calls, &subject, On::NothingForgotten, report, met)
+        .map_err(|difference| format!("after an opening at {instant}: {difference}"))
 }
 
 // What can be changed in a watch.

@@ -1,6 +1,6 @@
 //! Random histories, compared with the set-building program after every call: the refusal's number, every field of the
-//! watch, every entry of the chart, every number of the table and of the margins around it, rows by their end and
-//! trees.
+//! watch, every entry of the chart, every number of the table and of the margins around it, rows by their end, trees
+//! and reports.
 
 use crate::added_lines::{self, Drawn};
 use crate::additions;
@@ -13,7 +13,7 @@ use crate::random_calls::{self, Frequencies};
 use crate::subject::{lent_table, name, Lent, Subject};
 use common::chart_value;
 use common::harness::Compared;
-use common::interface::{Calls, Chart, Watch, FIRST_FLOOR, MOST_ENTRIES};
+use common::interface::{Calls, Chart, Report, Watch, FIRST_FLOOR, MOST_ENTRIES};
 use common::plain_chart::{self, Entry, TAKEN};
 use common::random::Random;
 use common::random_inputs;
@@ -287,9 +287,8 @@ impl<'a> Run<'a> {
     /// Counts a mark by the watch before it and the rows that it left.
     fn count_mark(&mut self, before: &Watch, instant: i64, met: &mut Met) {
         let (chart, rows, closed) = (&self.subject.chart, &self.history.rows, before.instant.into());
-        let has_forgotten = before.floor > FIRST_FLOOR;
-        let on = if has_forgotten { On::AfterForget } else { On::NothingForgotten };
-        met.searches.count(chart, rows, closed, has_forgotten);
+        let on = on_history(before);
+        met.searches.count(chart, rows, closed, has_forgotten(before));
         met.blocks.count(on, chart, rows, closed);
         let mark = Mark { watch: before, chart, rows, instant };
         met.delays.count_mark(on, &mark);
@@ -332,6 +331,7 @@ impl<'a> Run<'a> {
             if random.one_in(4) {
                 self.read_rows(random, met)?;
                 self.read_tree(random, met)?;
+                self.read_report(met)?;
             }
         }
         Ok(())
@@ -365,6 +365,13 @@ impl<'a> Run<'a> {
             .map_err(|difference| self.described(&difference))
     }
 
+    pub fn read_report(&self, met: &mut Met) -> Compared {
+        let (watch, report) = (&self.history.watch, self.history.report());
+        met.additions.count_report(watch, &report);
+        compare_report(self.calls, &self.subject, on_history(watch), report, met)
+            .map_err(|difference| self.described(&difference))
+    }
+
     /// Compares a call's number and all that it left.
     fn compare_state(&self, expected: u32, refusal: u32) -> Compared {
         let (subject, history) = (&self.subject, &self.history);
@@ -389,6 +396,18 @@ impl<'a> Run<'a> {
         let (length, opening) = (self.history.table.len(), self.opening);
         let played = self.played.iter().map(Played::shown).collect::<Vec<_>>().join(", ");
         format!("{difference}\nchart {chart:?}\ntable of {length} numbers, opened at {opening}, then {played}")
+    }
+}
+
+fn has_forgotten(watch: &Watch) -> bool {
+    watch.floor > FIRST_FLOOR
+}
+
+fn on_history(watch: &Watch) -> On {
+    if has_forgotten(watch) {
+        On::AfterForget
+    } else {
+        On::NothingForgotten
     }
 }
 
@@ -450,6 +469,21 @@ pub fn compare_check_and_rows(
     }
     if !subject.table.holds(&table) {
         return Err("a read altered the table".to_string());
+    }
+    Ok(())
+}
+
+/// Compares every number of a report, which leaves the table.
+pub fn compare_report(calls: &Calls, subject: &Subject, on: On, expected: Report, met: &mut Met) -> Compared {
+    let table = subject.table.part().to_vec();
+    let report = (calls.report)(subject.watch, subject.chart, subject.table.part());
+    met.count_answer("report", expected.refusal);
+    met.reports.count(on, &expected);
+    if report != expected {
+        return Err(format!("{report:?}\nexpected {expected:?}"));
+    }
+    if !subject.table.holds(&table) {
+        return Err("a report altered the table".to_string());
     }
     Ok(())
 }

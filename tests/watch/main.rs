@@ -14,6 +14,7 @@ mod planned;
 #[path = "../common/proved_watch.rs"]
 mod proved_watch;
 mod random_calls;
+mod reports;
 mod searches;
 mod subject;
 
@@ -86,6 +87,7 @@ impl Test for WatchTest {
 /// Compares all, up to the first difference.
 fn compare(calls: &Calls, extent: &Extent, met: &mut Met) -> Compared {
     planned::short_tables(calls, met)?;
+    planned::reports(calls, met)?;
     planned::additions(calls, met)?;
     planned::added_lines(calls, extent.added_texts, met)?;
     planned::long_trees(calls, met)?;

@@ -1,10 +1,11 @@
 //! What a run reached: answers of each call, causes of 13, operators of rows, edges of searches, blocks of rows,
-//! delays, `cut` and `change`, additions.
+//! delays, `cut` and `change`, additions, reports.
 
 use crate::additions::Additions;
 use crate::blocks::Blocks;
 use crate::delays::{self, Delays};
 use crate::nearest::Nearest;
+use crate::reports::Reports;
 use crate::searches::Searches;
 use common::harness::{self, LEAST_MET};
 use common::interface::{Chart, Watch};
@@ -13,7 +14,7 @@ use oracle::consistency::{Cause, CAUSES};
 use std::collections::{BTreeMap, BTreeSet};
 
 /// Every answer that a call has, 0 being no refusal.
-const ANSWERS: [(&str, &[u32]); 8] = [
+const ANSWERS: [(&str, &[u32]); 9] = [
     ("open", &[0, 8, 14]),
     ("event", &[0, 9, 10, 13, 14]),
     ("clock", &[0, 8, 12, 13, 14]),
@@ -22,6 +23,7 @@ const ANSWERS: [(&str, &[u32]); 8] = [
     ("rows", &[0, 13, 14]),
     ("tree", &[0, 13, 14, 15, 16]),
     ("add", &[0, 1, 2, 3, 4, 5, 6, 13, 14]),
+    ("report", &[0, 13, 14]),
 ];
 
 const LEAST_HISTORIES_WITH_DELAYS: usize = 100_000;
@@ -45,6 +47,7 @@ pub struct Met {
     pub delays: Delays,
     pub nearest: Nearest,
     pub additions: Additions,
+    pub reports: Reports,
 }
 
 impl Met {
@@ -91,13 +94,14 @@ impl harness::Met for Met {
             delays: Delays::default(),
             nearest: Nearest::default(),
             additions: Additions::default(),
+            reports: Reports::default(),
         }
     }
 
     fn is_enough(&self) -> bool {
         let answers = self.answers.values().chain(self.causes.values());
         let reads = answers.chain(&self.operators).chain(&self.rows_read).chain([&self.consistent]);
-        let rows = self.searches.counts().chain(self.blocks.counts());
+        let rows = self.searches.counts().chain(self.blocks.counts()).chain(self.reports.counts());
         let operators = self.delays.counts().chain(self.nearest.counts()).chain(self.additions.counts());
         self.delays.histories >= LEAST_HISTORIES_WITH_DELAYS
             && self.nearest.histories[0] >= LEAST_HISTORIES_WITH_NEAREST
@@ -125,5 +129,6 @@ impl harness::Met for Met {
         self.delays.print();
         self.nearest.print();
         self.additions.print();
+        self.reports.print();
     }
 }

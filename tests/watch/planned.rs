@@ -1,17 +1,18 @@
-//! What is compared by plan, not by chance: charts on paper, every short table, delays, jumps over many ends and over
-//! most of the range, `cut` and `change` at each boundary, additions between what comes too early for them and what
-//! does not, added lines up to the end of a chart, the largest table, blocks of many rows to be put in order, and trees
-//! of billions of bytes.
+//! What is compared by plan, not by chance: charts on paper, every short table, reports of entries with few rows or
+//! none, delays, jumps over many ends and over most of the range, `cut` and `change` at each boundary, additions between
+//! what comes too early for them and what does not, added lines up to the end of a chart, the largest table, blocks of
+//! many rows to be put in order, and trees of billions of bytes.
 
 use crate::added_lines::Drawn;
+use crate::blocks::On;
 use crate::damage::compare_addition;
-use crate::histories::{any_row, compare_tree, compare_tree_in, Run};
+use crate::histories::{any_row, compare_report, compare_tree, compare_tree_in, Run};
 use crate::met::Met;
 use crate::subject::{lent_table, Subject};
 use common::blocks::{before_block, BeforeBlock, Pairs, Starts, ALL_STARTS};
 use common::chart_value;
 use common::harness::Compared;
-use common::interface::{Calls, Watch};
+use common::interface::{Calls, Report, Watch, MOST_ENTRIES};
 use common::plain_chart::{self, Entry};
 use common::plain_watch;
 use common::random::Random;
@@ -30,8 +31,9 @@ const MANY: i64 = 100;
 const MANY_TIES: i64 = 30;
 const BLOCK_ROWS: [usize; 3] = [100, 1_000, 3_000];
 const TREES_OF_BLOCK: usize = 10;
+const MOST_ROWS: usize = 65_535;
 /// The greatest table that is all rows.
-const ALL_ROWS: usize = 65_535 * 5;
+const ALL_ROWS: usize = MOST_ROWS * 5;
 
 fn entries(text: &str) -> Vec<Entry> {
     plain_chart::read(text.as_bytes()).expect("the planned chart is sound")
@@ -52,7 +54,7 @@ pub fn charts(calls: &Calls, met: &mut Met) -> Compared {
     Ok(())
 }
 
-/// P1 on a table of each length from 0 to 60, which takes it from 40 on, and a forget after it.
+/// P1 on a table of each length from 0 to 60, which takes it from 40 on, and a forget and a report after it.
 pub fn short_tables(calls: &Calls, met: &mut Met) -> Compared {
     let entries = entries("0\tevent\t1\n1\tevent\t2\n2\tevent\t3\n3\tseq\t0\t1\n4\t-[[\t3\t2\n");
     let log = calls_of("e1 c0 e2 c3 e3 e2 c4 f0 c5");
@@ -60,6 +62,40 @@ pub fn short_tables(calls: &Calls, met: &mut Met) -> Compared {
         let table: Vec<i32> = (0..length).map(|place| 1_000 - place).collect();
         let mut run = Run::open(calls, &entries, chart_value::of(&entries), &table, -2, 0, met)?;
         log.iter().try_for_each(|call| run.play(*call, met))?;
+        run.read_report(met)?;
+    }
+    Ok(())
+}
+
+/// A chart of so many events, the code of each being its entry's number.
+fn of_events(count: usize) -> Vec<Entry> {
+    entries(&(0..count).map(|number| format!("{number}\tevent\t{number}\n")).collect::<String>())
+}
+
+/// Reports of charts of the least and the most entries, of which the last has no row, one, two or three; and of one with
+/// more rows than a byte counts.
+pub fn reports(calls: &Calls, met: &mut Met) -> Compared {
+    for count in [1, 2, MOST_ENTRIES - 1, MOST_ENTRIES] {
+        (0..4).try_for_each(|more| compare_reports(calls, count, more, met))?;
+    }
+    compare_report_of_one_entry(calls, 256, met)
+}
+
+/// The entries come one after the other, each at an instant of its own, and no two beside each other with as many rows.
+/// Reports while events are pending, which are no rows yet, after each mark, and after a forget of half of the rows and
+/// of all.
+fn compare_reports(calls: &Calls, count: usize, more: usize, met: &mut Met) -> Compared {
+    let entries = of_events(count);
+    let mut run = Run::open(calls, &entries, chart_value::of(&entries), &[7; 503], 0, 0, met)?;
+    for number in 0..count {
+        (0..(number + more) % 4).try_for_each(|_| run.play(Call::Event(number as u8), met))?;
+        run.read_report(met)?;
+        run.play(Call::Clock(number as i64 + 1), met)?;
+        run.read_report(met)?;
+    }
+    for floor in [count / 2, count] {
+        run.play(Call::Forget(floor as i64), met)?;
+        run.read_report(met)?;
     }
     Ok(())
 }
@@ -384,8 +420,9 @@ pub fn largest_table(calls: &Calls, met: &mut Met) -> Compared {
         (0..count).try_for_each(|_| run.play(Call::Event(code), met))?;
         run.play(Call::Clock(instant as i64 - 2), met)?;
     }
-    assert_eq!(run.history.watch.rows, 65_535, "the table is full");
-    compare_checks_of_full_table(calls, &run.subject)?;
+    assert_eq!(run.history.watch.rows, MOST_ROWS, "the table is full");
+    compare_checks_of_full_table(calls, &run.subject, run.history.report(), met)?;
+    compare_report_of_one_entry(calls, MOST_ROWS, met)?;
     run.play(Call::Event(2), met)?;
     run.play(Call::Clock(100), met)?;
     run.play(Call::Forget(-1), met)?;
@@ -450,8 +487,8 @@ fn compare_trees_of_block(calls: &Calls, subject: &Subject, rows: usize, met: &m
     })
 }
 
-/// One thing changed in a table of 65,535 rows.
-fn compare_checks_of_full_table(calls: &Calls, full: &Subject) -> Compared {
+/// One thing changed in a table of 65,535 rows, of which there is such a report.
+fn compare_checks_of_full_table(calls: &Calls, full: &Subject, report: Report, met: &mut Met) -> Compared {
     let with_number = |place: usize, number: i32| {
         let mut changed = full.clone();
         changed.table.part_mut()[place] = number;
@@ -471,8 +508,22 @@ fn compare_checks_of_full_table(calls: &Calls, full: &Subject) -> Compared {
         if checked != expected {
             return Err(format!("full table, {what}: check answered {checked}, expected {expected}"));
         }
+        let report = if expected == 0 { report } else { Report::refused(expected) };
+        compare_report(calls, &changed, On::NoHistory, report, met)
+            .map_err(|difference| format!("full table, {what}: {difference}"))?;
     }
     Ok(())
+}
+
+/// A full table of so many rows, all of the last entry of 32.
+fn compare_report_of_one_entry(calls: &Calls, rows: usize, met: &mut Met) -> Compared {
+    let table: Vec<i32> = (1..=rows as i32).flat_map(|serial| [31, serial, -1, 0, 0]).collect();
+    let watch = Watch { instant: 1, events: rows, rows, ..Watch::opened(0, MOST_ENTRIES) };
+    let chart = chart_value::of(&of_events(MOST_ENTRIES));
+    let expected = any_watch::report(&watch, &chart, &table);
+    assert_eq!(expected.tallies[31], rows, "all rows are of one entry");
+    compare_report(calls, &Subject { watch, chart, table: lent_table(&table) }, On::NoHistory, expected, met)
+        .map_err(|difference| format!("{rows} rows of one entry: {difference}"))
 }
 
 /// A chart of 32 entries, each with the one before it for both operands, and its one event closed: a row for each

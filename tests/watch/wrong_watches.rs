@@ -4,7 +4,7 @@
 
 use common::careless;
 use common::harness::Named;
-use common::interface::{Addition, Answer, Calls, Chart, Entry, Rows, TreeAnswer, Watch, FIRST_FLOOR};
+use common::interface::{Addition, Answer, Calls, Chart, Entry, Report, Rows, TreeAnswer, Watch, FIRST_FLOOR};
 use common::plain_chart::{self, Verdict};
 use common::plain_watch::closing::{
     Closing, AFTER, AND, AT_LEAST, AT_MOST, CHANGE, CLOSED_CLOSED, CLOSED_OPEN, CUT, DURING, EQUALS, EVENT, LASTS,
@@ -697,6 +697,136 @@ wrong_watches! {
                 let place = out[at..behind].iter().position(|byte| *byte == b'_');
                 place.into_iter().for_each(|place| out[at + place] = b' ');
                 behind
+            }
+        }
+
+        // Reports.
+        MissesRowOfLastEntry: "report: a row of the last entry not counted" {
+            fn report(watch: Watch, chart: Chart, table: &[i32]) -> Report {
+                let mut report = Plain::report(watch, chart, table);
+                if report.refusal == 0 {
+                    let last = &mut report.tallies[chart.count - 1];
+                    *last = last.saturating_sub(1);
+                }
+                report
+            }
+        }
+        MissesLastEntryOf32: "report: the rows of the 32nd entry not counted" {
+            fn report(watch: Watch, chart: Chart, table: &[i32]) -> Report {
+                let mut report = Plain::report(watch, chart, table);
+                report.tallies[31] = 0;
+                report
+            }
+        }
+        MissesAddedEntries: "report: the rows of added entries not counted" {
+            fn report(watch: Watch, chart: Chart, table: &[i32]) -> Report {
+                let mut report = Plain::report(watch, chart, table);
+                let added = report.tallies.iter_mut().zip(watch.since).filter(|(_, since)| *since > FIRST_FLOOR);
+                added.for_each(|(tally, _)| *tally = 0);
+                report
+            }
+        }
+        CountsUnusedRows: "report: rows not in use, which are zeros, counted for entry 0" {
+            fn report(watch: Watch, chart: Chart, table: &[i32]) -> Report {
+                let mut report = Plain::report(watch, chart, table);
+                if report.refusal == 0 {
+                    report.tallies[0] += Plain::capacity(table.len()) - watch.rows;
+                }
+                report
+            }
+        }
+        CountsPendingEvents: "report: the events of the open instant counted too" {
+            fn report(watch: Watch, chart: Chart, table: &[i32]) -> Report {
+                let mut report = Plain::report(watch, chart, table);
+                if report.refusal == 0 {
+                    let tallies = chart.entries[..chart.count].iter().zip(&mut report.tallies);
+                    for (entry, tally) in tallies.filter(|(entry, _)| entry.op == EVENT) {
+                        let pending = &watch.codes[..watch.pending];
+                        *tally += pending.iter().filter(|code| u32::from(**code) == entry.a).count();
+                    }
+                }
+                report
+            }
+        }
+        CountsInBytes: "report: a tally kept in a byte" {
+            fn report(watch: Watch, chart: Chart, table: &[i32]) -> Report {
+                let report = Plain::report(watch, chart, table);
+                Report { tallies: report.tallies.map(|tally| tally % 256), ..report }
+            }
+        }
+        ShiftsTallies: "report: each tally given to the next entry" {
+            fn report(watch: Watch, chart: Chart, table: &[i32]) -> Report {
+                let mut report = Plain::report(watch, chart, table);
+                report.tallies.rotate_right(1);
+                report
+            }
+        }
+        LeavesNumberBehind: "report: a number behind the last entry" {
+            fn report(watch: Watch, chart: Chart, table: &[i32]) -> Report {
+                let mut report = Plain::report(watch, chart, table);
+                if report.refusal == 0 && chart.count < 32 {
+                    report.tallies[chart.count] = report.rows;
+                }
+                report
+            }
+        }
+        LeavesOutEmptyEntries: "report: entries without rows left out of their number" {
+            fn report(watch: Watch, chart: Chart, table: &[i32]) -> Report {
+                let report = Plain::report(watch, chart, table);
+                Report { entries: report.tallies.iter().filter(|tally| **tally > 0).count(), ..report }
+            }
+        }
+        TotalsWithoutEntry: "report: the total without the rows of entry 0" {
+            fn report(watch: Watch, chart: Chart, table: &[i32]) -> Report {
+                let report = Plain::report(watch, chart, table);
+                Report { rows: report.rows - report.tallies[0], ..report }
+            }
+        }
+        ReadsOneRowLess: "report: one row less read" {
+            fn report(watch: Watch, chart: Chart, table: &[i32]) -> Report {
+                let report = Plain::report(watch, chart, table);
+                Report { read: report.read.saturating_sub(1), ..report }
+            }
+        }
+        ReadsForEachEntry: "report: a walk for each entry" {
+            fn report(watch: Watch, chart: Chart, table: &[i32]) -> Report {
+                let report = Plain::report(watch, chart, table);
+                Report { read: report.read * report.entries, ..report }
+            }
+        }
+        CountsReadsOfCheck: "report: the rows read for 13 among those read" {
+            fn report(watch: Watch, chart: Chart, table: &[i32]) -> Report {
+                let report = Plain::report(watch, chart, table);
+                Report { read: report.read * 2, ..report }
+            }
+        }
+        GivesRowsOfRefused: "report refused: the rows in use given all the same" {
+            fn report(watch: Watch, chart: Chart, table: &[i32]) -> Report {
+                Report { rows: watch.rows, ..Plain::report(watch, chart, table) }
+            }
+        }
+        GivesEntriesOfRefused: "report refused: the number of entries given all the same" {
+            fn report(watch: Watch, chart: Chart, table: &[i32]) -> Report {
+                Report { entries: chart.count, ..Plain::report(watch, chart, table) }
+            }
+        }
+        ReportsOutOfJoint: "report: 13 not checked" {
+            fn report(watch: Watch, chart: Chart, table: &[i32]) -> Report {
+                let mut report = Plain::report(watch, chart, table);
+                if report.refusal == 13 {
+                    let in_use = Plain::rows(table).iter().take(watch.rows);
+                    let entries = in_use.map(|row| row[ENTRY] as usize).filter(|entry| *entry < chart.count);
+                    entries.for_each(|entry| report.tallies[entry] += 1);
+                    return Report { refusal: 0, entries: chart.count, rows: watch.rows, read: watch.rows, ..report };
+                }
+                report
+            }
+        }
+        ReportsUnusable: "report: 13 before 14" {
+            fn report(watch: Watch, chart: Chart, table: &[i32]) -> Report {
+                let report = Plain::report(watch, chart, table);
+                let is_out_of_joint = report.refusal == 14 && watch.entries != chart.count;
+                Report { refusal: if is_out_of_joint { 13 } else { report.refusal }, ..report }
             }
         }
 

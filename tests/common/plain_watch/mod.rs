@@ -8,7 +8,7 @@ pub mod storage;
 
 use crate::chart_value;
 use crate::interface::{
-    Addition, Answer, Calls, Chart, ChartAnswer, Entry, Rows, TreeAnswer, Watch, FIRST_FLOOR, MOST_ENTRIES,
+    Addition, Answer, Calls, Chart, ChartAnswer, Entry, Report, Rows, TreeAnswer, Watch, FIRST_FLOOR, MOST_ENTRIES,
     MOST_PENDING,
 };
 use crate::plain_chart::{self, Verdict};
@@ -55,6 +55,7 @@ pub fn calls<W: PlainWatch>() -> Calls {
         rows_ending: W::rows_ending,
         tree: W::tree,
         add_lines: W::add_lines,
+        report: W::report,
     }
 }
 
@@ -151,6 +152,18 @@ pub trait PlainWatch: Closing {
             return TreeAnswer { refusal: 16, length: 0 };
         }
         TreeAnswer { refusal: 0, length: Self::write_tree(&chart, rows, row as i32, out, 0) }
+    }
+
+    /// One walk for all entries.
+    fn report(watch: Watch, chart: Chart, table: &[i32]) -> Report {
+        let refusal = Self::check(watch, chart, table);
+        if refusal != 0 {
+            return Report::refused(refusal);
+        }
+        let in_use = &Self::rows(table)[..watch.rows];
+        let mut tallies = [0; MOST_ENTRIES];
+        in_use.iter().for_each(|row| tallies[row[ENTRY] as usize] += 1);
+        Report { refusal: 0, entries: chart.count, rows: watch.rows, read: in_use.len(), tallies }
     }
 
     fn add_lines(watch: Watch, chart: Chart, table: &[i32], bytes: &[u8]) -> Addition {

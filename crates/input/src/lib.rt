@@ -7,10 +7,12 @@ ghost use Prim.Native.Nat.{ℕ, _+_, _≤_, _<_};
 ghost use lib.IntN.{ℤ};
 ghost use lib.ListN.{length, take, drop};
 ghost use Rattle.program.specs.Runs.{Reached, HasLines, HasFew, isRefused, fed};
-ghost use Rattle.input.specs.Inputs.{held, isFailed, pieceOf, Turned, endOf, OfInput, PrintsInput};
+ghost use Rattle.input.specs.Inputs.{held, isFailed, pieceOf, Turned, endOf, OfInput, PrintsInput, Printout};
+ghost use Rattle.program.specs.Statements.{bytesFor};
 use libc::EINTR;
 use libc::STDERR_FILENO;
 use libc::STDIN_FILENO;
+use libc::STDOUT_FILENO;
 use program::Format;
 use program::Run;
 
@@ -32,6 +34,30 @@ struct Turn {
     kept: usize,
     ended: bool,
     failed: bool,
+}
+
+// A whole program: plays the standard input on a table of 3,000 rows and hands what is printed for it to the standard output. Where reading or writing fails,
+// standard error says so behind the program's name, and where reading fails nothing is printed.
+pub fn run(format: Format, name: &[u8], table: &mut [i32], out: &mut [u8])
+    requires { ⌜ (length (now table) ≡ 15000) × (bytesFor format 3000 ≤ length (now out)) ⌝ }
+    ensures { λ _. ⌜ ((r : Printed) × PrintsInput format (now (table .entry)) (now (out .entry)) r (now (table .exit)) (now (out .exit))) ⌝ }
+{
+    let printed = print_input(format, table, out);
+    if printed.failed {
+        say_not_read(name);
+        return;
+    }
+    let n = printed.length;
+    write(format, name, &out[..n]);
+}
+
+// Writes what the program of this format prints for an input, with a table of 3,000 rows; nothing else may be handed over.
+fn write(format: Format, name: &[u8], text: &[u8])
+    requires { ⌜ Printout format 3000 (now text) ⌝ }
+{
+    if !io::write_all(STDOUT_FILENO, text) {
+        say_not_written(name);
+    }
 }
 
 // Plays the standard input to its end and writes what the program of this format prints for it at the front of the output. Nothing is read, and the length
@@ -83,13 +109,13 @@ pub fn play_input(table: &mut [i32]) -> Played
 }
 
 // Says on standard error, in one line that begins with the program's name, that the standard input could not be read, and the system's reason.
-pub fn say_not_read(name: &[u8]) {
+fn say_not_read(name: &[u8]) {
     io::write_all(STDERR_FILENO, name);
     os::fail(b": standard input could not be read");
 }
 
 // Says in the same way that not all of the output could be written.
-pub fn say_not_written(name: &[u8]) {
+fn say_not_written(name: &[u8]) {
     io::write_all(STDERR_FILENO, name);
     os::fail(b": standard output could not be written");
 }

@@ -1,7 +1,7 @@
 -- `print` meets its contract: the refusal, or the table format by format.
 use mathlib.Core.Path.{_≡_, sym, _∙_}
 use mathlib.Core.Bool.{false}
-use Rattle.program.specs.Runs.{isRefused}
+use Rattle.program.specs.Runs.{isRefused, tableLength, tableOutput, printedLength, printedOutput}
 use Rattle.program.proofs.Printing.{refused-prints, going-prints, listing-prints, report-prints}
 use borrow.Author.Needs.{needs}
 use Rattle.program.proofs.Run.print.Statement.{statement}
@@ -19,25 +19,25 @@ returns c =
 goes : (d : tie.Else1) → isRefused (d .before .before .before .args .self .stage) ≡ false
 goes d = sym (d .before .is-refused .ensures) ∙ d .if1 .left
 
+-- then it prints the table
+prints-table : (d : tie.Else1) → let g = d .before .before .before .args in (printedLength (g .format) (g .self) (g .table .now) (g .out .now) ≡ tableLength (g .format) (g .self) (g .table .now) (g .out .now)) × (printedOutput (g .format) (g .self) (g .table .now) (g .out .now) ≡ tableOutput (g .format) (g .self) (g .table .now) (g .out .now))
+prints-table d = let g = d .before .before .before .args in going-prints (g .format) (g .self) (g .table .now) (g .out .now) (g .self .stage) (goes d)
+
 returns-2 : tie.Need-returns-2
 returns-2 c =
     let w = c .before .before in
     let k = w .before .before in
     let d = k .before .before .before .before .before in
-    let g = d .before .before .before .args in
-    let e = going-prints (g .format) (g .self) (g .table .now) (g .out .now) (g .self .stage) (goes d) in
-    let l = listing-prints (g .format) (g .self) (g .table .now) (g .out .now) (k .enum-told .given .1) in
-    (w .write-listing .ensures .0 ∙ sym (e .0 ∙ l .0), w .write-listing .ensures .1 ∙ sym (e .1 ∙ l .1))
+    let l = listing-prints _ _ _ _ (k .enum-told .given .1) in
+    (w .write-listing .ensures .0 ∙ sym (prints-table d .0 ∙ l .0), w .write-listing .ensures .1 ∙ sym (prints-table d .1 ∙ l .1))
 
 returns-3 : tie.Need-returns-3
 returns-3 c =
     let w = c .before .before in
     let k = w .before .before in
     let d = k .before .before .before .before .before in
-    let g = d .before .before .before .args in
-    let e = going-prints (g .format) (g .self) (g .table .now) (g .out .now) (g .self .stage) (goes d) in
-    let l = report-prints (g .format) (g .self) (g .table .now) (g .out .now) (k .enum-told2 .given .1) in
-    (w .print-report .ensures .0 ∙ sym (e .0 ∙ l .0), w .print-report .ensures .1 ∙ sym (e .1 ∙ l .1))
+    let l = report-prints _ _ _ _ (k .enum-told2 .given .1) in
+    (w .print-report .ensures .0 ∙ sym (prints-table d .0 ∙ l .0), w .print-report .ensures .1 ∙ sym (prints-table d .1 ∙ l .1))
 
 pub print-spec : {M : Type 1} → statement M
 print-spec = tie.close (tie.spec

@@ -168,6 +168,21 @@
  * any time and must not write to them.
  *
  *
+ * REPORTS
+ *
+ * How many of the rows in use each entry has, as for a shift sheet:
+ *
+ *     struct chronicle_report_answer sheet =
+ *         chronicle_report(now.watch, read.chart, table, 5 * 3000);
+ *     for (size_t entry = 0; entry < sheet.entries; entry++)
+ *         printf("%zu\t%zu\n", entry, sheet.tallies[entry]);
+ *     printf("total\t%zu\n", sheet.rows);
+ *
+ * (A program looks at sheet.refusal first.) The tallies add up to sheet.rows,
+ * which is also how many rows the listing of this table has. The report program
+ * and chronicle_print_report print the same for an input with its chart and log.
+ *
+ *
  * REFUSALS
  *
  *     8   an opening instant out of range; a clock mark out of range or not

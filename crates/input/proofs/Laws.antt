@@ -153,11 +153,11 @@ fed-lines b c kept n m buf k h e z =
     omega (arith, counted, ap (λ x. x .progress .run .line) d, h, ap length k, length-append (b .kept) (take n (drop kept buf)), length-take kept buf, length-take n (drop kept buf))
 
 -- a run that was played to the end can be printed
-pub played-printable : (t u : List ℤ) (p : Played) → OfInput t p u → p .failed ≡ false → Printable (p .run) u
+pub played-printable : (f : Format) (t u : List ℤ) (p : Played) → OfInput t p u → p .failed ≡ false → Printable f (p .run) u
 unfolding playedTo
-played-printable t u p q z =
+played-printable f t u p q z =
     let same : record { run = p .run; table = u } ≡ wholeRun t (q .pieces) = rw z at (q .same) in
-    subst (λ x. Printable (x .run) (x .table)) (sym same) (whole-printable t (q .pieces))
+    subst (λ x. Printable f (x .run) (x .table)) (sym same) (whole-printable t (q .pieces) f)
 
 -- what is printed for an input
 module _ (f : Format) (t : List ℤ) (out : List ℕ) where

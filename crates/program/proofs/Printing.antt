@@ -258,22 +258,26 @@ printed-within f r t out e = go (r .stage) e
     go Refused h = front-within (refusalFits out) (refusalText (r .refusal) (r .line)) out h
 
 -- a run at its end, if not refused, has what a report asks
-pub end-printable : (p : Progress) → Reached p → Printable (atEnd p .run) (atEnd p .table)
+end-reports : (p : Progress) → Reached p → Printable Report (atEnd p .run) (atEnd p .table)
 unfolding endRun Holds refusedRun isRefused
-end-printable p h = go (p .run .stage) refl h
+end-reports p h = go (p .run .stage) refl h
   where
     r : Run
     r = p .run
 
-    at-once : (b : Bool) (n line k below : ℕ) → Printable (cond b (refusedRun r n line) (refusedRun r k below)) (p .table)
+    at-once : (b : Bool) (n line k below : ℕ) → Printable Report (cond b (refusedRun r n line) (refusedRun r k below)) (p .table)
     at-once true n line k below z = never (sym z)
     at-once false n line k below z = never (sym z)
 
-    go : (s : Stage) → r .stage ≡ s → Holds s r (p .table) → Printable (endRun s r) (p .table)
+    go : (s : Stage) → r .stage ≡ s → Holds s r (p .table) → Printable Report (endRun s r) (p .table)
     go Entries e k z = at-once (eqb (r .chart .count) 0) 1 1 7 (r .line + 1) z
     go Opening e k z = never (sym z)
     go Calls e k z = history-checked (r .chart) (k .1) (stateOf r (p .table)) (k .2)
     go Refused e k z = never (sym z ∙ ap isRefused e)
+
+pub end-printable : (f : Format) (p : Progress) → Reached p → Printable f (atEnd p .run) (atEnd p .table)
+end-printable Listing p h = tt
+end-printable Report p h = end-reports p h
 
 -- the sum of what a report prints for the entries is the number of all rows
 unfoldable pub Added : Outcome → Type 0

@@ -38,8 +38,8 @@ module _ (t : List ℤ) (pieces : List (List ℕ)) where
       let e : Prints f (atEnd q) out (outcomeText f (resultOf (atEnd q))) = end-prints f q out (lines-on p (lines (joined pieces)) (start-reached t)) room in
       subst (λ x. Prints f x out (printedFor f (roomIn t) (joined pieces))) (sym run-is) (subst (Prints f (atEnd q) out) (text-is f) e)
 
-  pub whole-printable : Printable (wholeRun t pieces .run) (wholeRun t pieces .table)
-  whole-printable = subst (λ x. Printable (x .run) (x .table)) (sym run-is) (end-printable q (lines-on p (lines (joined pieces)) (start-reached t)))
+  pub whole-printable : (f : Format) → Printable f (wholeRun t pieces .run) (wholeRun t pieces .table)
+  whole-printable f = subst (λ x. Printable f (x .run) (x .table)) (sym run-is) (end-printable f q (lines-on p (lines (joined pieces)) (start-reached t)))
 
 pub program-holds : ProgramHolds
 program-holds f t pieces out h = let e = prints t pieces f out h in record { bytes = e .0; output = e .1 }

@@ -243,9 +243,10 @@ restMoved from to s = cond (leb to (length s)) (take (to - from) (drop from s) +
 unfoldable pub finishedRun : Run → ℕ → Run
 finishedRun r kept = cond (eqb kept 0) (endRun (r .stage) r) (unformedRun (r .stage) r)
 
--- a finished run that is not refused has a watch and a table that the check lets through
-abbrev pub Printable : Run → List ℤ → Type 0
-Printable r t = isRefused (r .stage) ≡ false → checkNumber (r .chart) (r .watch .state) t ≡ 0
+-- A listing asks nothing of a run, a report that the check lets watch and table through where the run is not refused.
+abbrev pub Printable : Format → Run → List ℤ → Type 0
+Printable Listing r t = Unit {0}
+Printable Report r t = isRefused (r .stage) ≡ false → checkNumber (r .chart) (r .watch .state) t ≡ 0
 
 -- what is printed of a report: its tallies, as many as there are entries, and the rows in use
 abbrev pub reportedLength : tally.Report → List ℕ → ℕ

@@ -161,7 +161,7 @@ impl Run {
     // Writes what a finished run prints at the front of the output and returns the number of bytes; 0 where the output is too short. Each byte
     // is written once; for a report the rows are walked before.
     pub fn print(self, format: Format, table: &[i32], out: &mut [u8]) -> usize
-        requires { ⌜ Printable self (now table) ⌝ }
+        requires { ⌜ Printable format self (now table) ⌝ }
         ensures { λ r. ⌜ (r ≡ printedLength format self (now (table .entry)) (now (out .entry))) × (now (out .exit) ≡ printedOutput format self (now (table .entry)) (now (out .entry))) ⌝ }
     {
         if is_refused(self) {

@@ -23,4 +23,4 @@ print-input-spec = tie.close (tie.spec
     (λ c. no-room _ _ _ (rw (← c .before .bytes-for .ensures) (c .if1 .taken)))
     (λ c κs. search needs) (λ c. search needs)
     (λ c. not-printed _ _ _ (roomy (c .before .before .before .before)) _ _ (c .before .before .play-input .ensures) (c .if2 .taken))
-    (λ c κs. let e = c .before .before .before in played-printable _ _ _ (e .before .before .play-input .ensures) (e .if2 .left)) (λ c. search needs) (λ c. search needs) returns-3)
+    (λ c κs. let e = c .before .before .before in played-printable (e .before .before .before .before .before .before .before .args .format) _ _ _ (e .before .before .play-input .ensures) (e .if2 .left)) (λ c. search needs) (λ c. search needs) returns-3)

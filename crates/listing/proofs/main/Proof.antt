@@ -9,4 +9,4 @@ run-requires : tie.Need-run-requires
 run-requires c κs = (simp length-replicate, simp length-replicate (omega arith))
 
 pub main-spec : {M : Type 1} → statement M
-main-spec = tie.close (tie.spec (λ c. search needs) (λ c. search needs) (λ c. search needs) run-requires (λ c. search needs))
+main-spec = tie.close (tie.spec (λ c. search needs) (λ c. search needs) run-requires (λ c. search needs))

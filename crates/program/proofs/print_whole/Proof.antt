@@ -44,7 +44,7 @@ print-requires : tie.Need-print-requires
 print-requires c κs =
     let f = c .before .before in
     let s = f .before .before .before .before .before .before .before .before .before .before .before in
-    subst (λ x. Printable (x .run) (x .table)) (run-is f) (whole-printable (s .args .table .now) (s .args .input .now ∷ []))
+    subst (λ x. Printable (s .args .format) (x .run) (x .table)) (run-is f) (whole-printable (s .args .table .now) (s .args .input .now ∷ []) (s .args .format))
 
 returns-2 : tie.Need-returns-2
 returns-2 c =

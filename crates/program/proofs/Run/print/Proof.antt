@@ -1,7 +1,7 @@
 -- `print` meets its contract: the refusal, or the table format by format.
-use mathlib.Core.Path.{_≡_, sym, _∙_}
+use mathlib.Core.Path.{_≡_, sym, _∙_, subst}
 use mathlib.Core.Bool.{false}
-use Rattle.program.specs.Runs.{isRefused, tableLength, tableOutput, printedLength, printedOutput}
+use Rattle.program.specs.Runs.{isRefused, Printable, tableLength, tableOutput, printedLength, printedOutput}
 use Rattle.program.proofs.Printing.{refused-prints, going-prints, listing-prints, report-prints}
 use borrow.Author.Needs.{needs}
 use Rattle.program.proofs.Run.print.Statement.{statement}
@@ -39,8 +39,16 @@ returns-3 c =
     let l = report-prints _ _ _ _ (k .enum-told2 .given .1) in
     (w .print-report .ensures .0 ∙ sym (prints-table d .0 ∙ l .0), w .print-report .ensures .1 ∙ sym (prints-table d .1 ∙ l .1))
 
+-- what a report asks
+print-report-requires : tie.Need-print-report-requires
+print-report-requires c κs =
+    let k = c .before in
+    let d = k .before .before .before .before .before in
+    let s = d .before .before .before in
+    subst (λ f. Printable f (s .args .self) (s .args .table .now)) (k .enum-told2 .given .1) (s .pre) (goes d)
+
 pub print-spec : {M : Type 1} → statement M
 print-spec = tie.close (tie.spec
     (λ c κs. search needs) (λ c κs. search needs) (λ c. search needs) returns (λ c. search needs) (λ c κs. search needs) (λ c. search needs)
-    (λ c κs. let d = c .before .before .before .before .before .before in d .before .before .before .pre (goes d))
+    print-report-requires
     (λ c. search needs) returns-2 (λ c. search needs) returns-3)

@@ -1,6 +1,6 @@
 -- Charts as text: what each operator word means, each refusal, and the order of refusals in a line. One list of cases, one theorem that the
 -- checker computes; the same for lines added to a chart; then the code of each word. What must come out was found by hand from document 01 and requests
--- N1, N5 and N13. No contract says as much of the words, since the code and its contract share the list of them.
+-- N1, N5, N11 and N13. No contract says as much of the words, since the code and its contract share the list of them.
 use Prim.Native.Nat.{ℕ}
 use Prim.Native.String.{String}
 use mathlib.Core.Path.{_≡_, refl}
@@ -13,9 +13,9 @@ use Rattle.interval.specs.declared.LengthTest.the-variants.{Lasts, AtMost, AtLe
 use Rattle.interval.specs.declared.Nearest.the-variants.{Cut, Change}
 use Rattle.text.specs.Text.{split, lines}
 use Rattle.text.specs.Quoted.{bytes, tabbed, unended, text}
-use Rattle.decimal.specs.Spelling.{isDigit, allDigits, valueFrom, hasLeadingZero, isNumber, numberOf}
+use Rattle.decimal.specs.Spelling.{isDigit, allDigits, valueFrom, hasLeadingZero, isNumber, numberOf, millisecondsOf, inTenths, hasPoint, lengthOf}
 use Rattle.chart.specs.Operators.{words, sameBytes, placeOf, operatorOf, edgesOf, relationOf, lengthTestOf, kindOf, shapeOf, inRange, areLower}
-use Rattle.chart.specs.Records.{entry, withCode, eventLine, withOperands, secondOperand, operandsLine, byOperator, operatorLine, numbered, parsedLine, checkedEntry, checkedLine, answerTo}
+use Rattle.chart.specs.Records.{entry, withCode, eventLine, withOperands, secondOf, secondOperand, operandsLine, byOperator, operatorLine, numbered, parsedLine, checkedEntry, checkedLine, answerTo}
 use Rattle.chart.specs.Charts.{noEntries, withEntry, refusedChart, readLines, orNoLine, readChart, faultIn, entriesOf, addedVerdict, withEntries, readAdded}
 use Rattle.chart.specs.declared.Entry.{Entry}
 use Rattle.chart.specs.declared.ChartAnswer.{ChartAnswer}
@@ -68,7 +68,8 @@ abbrev _⇒_ : String → Meaning → Written
 l ⇒ m = record { line = l; meaning = m }
 
 -- the 17 words, in the order of the operator table, then `after` (request N1), `cut` and `change` (request N5). In an absence "the first sign is the
--- early edge and the second the late one": `[` early and `]` late are closed, `]` early and `[` late are open.
+-- early edge and the second the late one": `[` early and `]` late are closed, `]` early and `[` late are open. A length is in tenths: with a point and one
+-- digit, or in whole milliseconds (request N11).
 abbrev operatorTable : List Written
 operatorTable =
     "0 event 0" ⇒ means Event Leaf 0 0 ∷
@@ -87,14 +88,17 @@ operatorTable =
     "13 finishes 0 1" ⇒ means (Pair Finishes) Double 0 1 ∷
     "14 equals 0 1" ⇒ means (Pair Equals) Double 0 1 ∷
     "15 lasts 14 0" ⇒ means (Length Lasts) Single 14 0 ∷
-    "16 atmost 15 2000000000" ⇒ means (Length AtMost) Single 15 2000000000 ∷
-    "17 atleast 0 17" ⇒ means (Length AtLeast) Single 0 17 ∷
-    "18 after 17 0" ⇒ means After Delayed 17 0 ∷
-    "19 after 18 2000000000" ⇒ means After Delayed 18 2000000000 ∷
+    "16 atmost 15 200000000" ⇒ means (Length AtMost) Single 15 2000000000 ∷
+    "17 atleast 0 17" ⇒ means (Length AtLeast) Single 0 170 ∷
+    "18 after 17 0.0" ⇒ means After Delayed 17 0 ∷
+    "19 after 18 200000000.0" ⇒ means After Delayed 18 2000000000 ∷
     "20 cut 0 19" ⇒ means (Nearest Cut) Double 0 19 ∷
     "21 change 20 1" ⇒ means (Nearest Change) Double 20 1 ∷
     "22 cut 21 21" ⇒ means (Nearest Cut) Double 21 21 ∷
-    "23 change 22 22" ⇒ means (Nearest Change) Double 22 22 ∷ []
+    "23 change 22 22" ⇒ means (Nearest Change) Double 22 22 ∷
+    "24 lasts 0 0.5" ⇒ means (Length Lasts) Single 0 5 ∷
+    "25 atmost 0 17.0" ⇒ means (Length AtMost) Single 0 170 ∷
+    "26 atleast 0 1.7" ⇒ means (Length AtLeast) Single 0 17 ∷ []
 
 abbrev tableOfWords : List Case
 tableOfWords = taken (text (map (λ (w : Written). w .line) operatorTable)) (map (λ (w : Written). w .meaning) operatorTable) ∷ []
@@ -121,7 +125,8 @@ tooFewOrMany =
     refused (full ++ text ("32 event 1" ∷ [])) 2 33 ∷ []
 
 -- "3 a line not of the form above": an empty line; no operand, one too few, one too many; a word that is none, with a letter too few or too many, in
--- capitals; no entry number; two tabs; a tab in front or behind; a space for a tab; a leading zero; a minus; no digit; 11 digits; no byte 10, a byte 13
+-- capitals; no entry number; two tabs; a tab in front or behind; a space for a tab; a leading zero; a minus; no digit; 11 digits, and 10 of a length; a
+-- point in what is no length; no digit before the point, none behind it, and two; no byte 10, a byte 13
 abbrev notOfTheForm : List Case
 notOfTheForm = map (λ (s : List ℕ). refused (text ("0 event 1" ∷ []) ++ s) 3 2) (
     text ("" ∷ []) ∷
@@ -155,7 +160,20 @@ notOfTheForm = map (λ (s : List ℕ). refused (text ("0 event 1" ∷ []) ++ s) 
     text ("1 lasts 0 -1" ∷ []) ∷
     text ("1 after 0 -1" ∷ []) ∷
     text ("1 seq 0 x" ∷ []) ∷
-    text ("1 lasts 0 10000000000" ∷ []) ∷
+    text ("1 seq 0 10000000000" ∷ []) ∷
+    text ("1 lasts 0 1000000000" ∷ []) ∷
+    text ("1 after 0 1000000000.0" ∷ []) ∷
+    text ("1.0 event 1" ∷ []) ∷
+    text ("1 event 1.0" ∷ []) ∷
+    text ("1 seq 0.0 0" ∷ []) ∷
+    text ("1 seq 0 0.0" ∷ []) ∷
+    text ("1 -[] 0 0.0" ∷ []) ∷
+    text ("1 or 0 0.0" ∷ []) ∷
+    text ("1 cut 0 0.0" ∷ []) ∷
+    text ("1 lasts 0.0 0" ∷ []) ∷
+    text ("1 after 0 .5" ∷ []) ∷
+    text ("1 atmost 0 5." ∷ []) ∷
+    text ("1 atleast 0 1.55" ∷ []) ∷
     unended "1 event 1" ∷
     bytes "1\tevent\t1\r\n" ∷ [])
 
@@ -175,8 +193,9 @@ notOfTheTable =
     refused (text ("0 event 1" ∷ "1 change 1 0" ∷ [])) 5 2 ∷
     refused (text ("0 event 1" ∷ "1 change 0 1" ∷ [])) 5 2 ∷
     refused (text ("0 event 256" ∷ [])) 6 1 ∷
-    refused (text ("0 event 1" ∷ "1 atmost 0 2000000001" ∷ [])) 6 2 ∷
-    refused (text ("0 event 1" ∷ "1 after 0 2000000001" ∷ [])) 6 2 ∷ []
+    refused (text ("0 event 1" ∷ "1 atmost 0 200000001" ∷ [])) 6 2 ∷
+    refused (text ("0 event 1" ∷ "1 after 0 200000000.1" ∷ [])) 6 2 ∷
+    refused (text ("0 event 1" ∷ "1 lasts 0 999999999.9" ∷ [])) 6 2 ∷ []
 
 -- "in a line 2, 3, 4, 6, 5": each line refused has a fault that comes later in this order, too
 abbrev inALine : List Case
@@ -191,16 +210,16 @@ inALine =
     refused (text ("1 event" ∷ [])) 3 1 ∷
     refused (text ("0 event 256 0" ∷ [])) 3 1 ∷
     refused (text ("0 seq 0" ∷ [])) 3 1 ∷
-    refused (unended "1 lasts 1 2000000001") 3 1 ∷
+    refused (unended "1 lasts 1 200000000.1") 3 1 ∷
     -- 4 before 6 and 5
     refused (text ("1 event 256" ∷ [])) 4 1 ∷
     refused (text ("1 seq 1 1" ∷ [])) 4 1 ∷
-    refused (text ("1 lasts 1 2000000001" ∷ [])) 4 1 ∷
+    refused (text ("1 lasts 1 200000000.1" ∷ [])) 4 1 ∷
     -- 6 before 5, and 5 alone
-    refused (text ("0 lasts 0 2000000001" ∷ [])) 6 1 ∷
-    refused (text ("0 lasts 0 2000000000" ∷ [])) 5 1 ∷
-    refused (text ("0 after 0 2000000001" ∷ [])) 6 1 ∷
-    refused (text ("0 after 0 2000000000" ∷ [])) 5 1 ∷
+    refused (text ("0 lasts 0 200000000.1" ∷ [])) 6 1 ∷
+    refused (text ("0 lasts 0 200000000.0" ∷ [])) 5 1 ∷
+    refused (text ("0 after 0 200000000.1" ∷ [])) 6 1 ∷
+    refused (text ("0 after 0 200000000.0" ∷ [])) 5 1 ∷
     refused (text ("0 cut 0 2000000001" ∷ [])) 5 1 ∷
     refused (text ("0 change 0 2000000001" ∷ [])) 5 1 ∷ []
 
@@ -208,7 +227,7 @@ inALine =
 abbrev fromTheFirst : List Case
 fromTheFirst =
     refused (text (lines31 ++ "31 seq 31 31" ∷ "32 event 1" ∷ [])) 5 32 ∷
-    refused (text ("0 event 1" ∷ "1 seq 1 1" ∷ "2 lasts 0 2000000001" ∷ "x" ∷ [])) 5 2 ∷
+    refused (text ("0 event 1" ∷ "1 seq 1 1" ∷ "2 lasts 0 200000000.1" ∷ "x" ∷ [])) 5 2 ∷
     refused (text ("0 event 256" ∷ "2 event 1" ∷ [])) 6 1 ∷
     refused (text ("0 event 1" ∷ "2 event 1" ∷ "x" ∷ [])) 4 2 ∷
     refused (text ("0 event 1" ∷ "x" ∷ [] ++ lines31)) 3 2 ∷ []
@@ -217,7 +236,7 @@ pub cases : List Case
 cases = tableOfWords ++ tooFewOrMany ++ notOfTheForm ++ notOfTheTable ++ inALine ++ fromTheFirst
 
 pub examples : map (λ (c : Case). reading (c .chart)) cases ≡ map (λ (c : Case). c .expected) cases
-unfolding cases bytes tabbed unended text split lines isLength isDigit allDigits valueFrom hasLeadingZero isNumber numberOf words sameBytes placeOf operatorOf edgesOf relationOf lengthTestOf kindOf inRange areLower withCode eventLine withOperands secondOperand operandsLine byOperator operatorLine numbered parsedLine checkedEntry checkedLine answerTo noEntries withEntry refusedChart readLines orNoLine readChart
+unfolding cases bytes tabbed unended text split lines isLength isDigit allDigits valueFrom hasLeadingZero isNumber numberOf millisecondsOf inTenths hasPoint lengthOf words sameBytes placeOf operatorOf edgesOf relationOf lengthTestOf kindOf inRange areLower withCode eventLine withOperands secondOf secondOperand operandsLine byOperator operatorLine numbered parsedLine checkedEntry checkedLine answerTo noEntries withEntry refusedChart readLines orNoLine readChart
 examples = refl
 
 -- Lines added to a chart (request N13): those of the chart, the bytes added, and what must come out. "Lines may be added to the chart ..., numbered on from
@@ -249,7 +268,7 @@ pub additions : List Addition
 additions =
     -- taken: one line, and two of which the second refers to the first
     addedTo2 (text ("2 seq 0 1" ∷ [])) (means (Pair Seq) Double 0 1 ∷ []) ∷
-    addedTo2 (text ("2 seq 1 0" ∷ "3 lasts 2 500" ∷ [])) (means (Pair Seq) Double 1 0 ∷ means (Length Lasts) Single 2 500 ∷ []) ∷
+    addedTo2 (text ("2 seq 1 0" ∷ "3 lasts 2 500" ∷ [])) (means (Pair Seq) Double 1 0 ∷ means (Length Lasts) Single 2 5000 ∷ []) ∷
     -- none
     refusedTo2 (text []) 1 1 ∷
     -- the second added line is line 2, though it asks for entry 3 and would be line 4 of the chart
@@ -264,9 +283,9 @@ additions =
     refusedTo2 (text ("2 seq 1 2" ∷ "x" ∷ [])) 5 1 ∷
     -- in a line 3, 4, 6, 5
     refusedTo2 (text ("3 lasts 3" ∷ [])) 3 1 ∷
-    refusedTo2 (text ("3 lasts 3 2000000001" ∷ [])) 4 1 ∷
-    refusedTo2 (text ("2 lasts 2 2000000001" ∷ [])) 6 1 ∷
-    refusedTo2 (text ("2 lasts 2 2000000000" ∷ [])) 5 1 ∷
+    refusedTo2 (text ("3 lasts 3 200000000.1" ∷ [])) 4 1 ∷
+    refusedTo2 (text ("2 lasts 2 200000000.1" ∷ [])) 6 1 ∷
+    refusedTo2 (text ("2 lasts 2 200000000.0" ∷ [])) 5 1 ∷
     -- a 32nd entry is taken, a 33rd is not, whatever stands in its line
     eventsTo lines31 (text ("31 event 1" ∷ [])) 0 0 32 ∷
     eventsTo lines31 (text ("31 event 1" ∷ "32 event 1" ∷ [])) 2 2 31 ∷
@@ -278,7 +297,7 @@ additions =
     eventsTo lines32 (text []) 1 1 32 ∷ []
 
 pub additions-read : map (λ (a : Addition). readingOf (readAdded ((readChart (text (a .lines))) .chart) (a .added))) additions ≡ map (λ (a : Addition). a .expected) additions
-unfolding additions bytes tabbed unended text split lines isLength isDigit allDigits valueFrom hasLeadingZero isNumber numberOf words sameBytes placeOf operatorOf lengthTestOf kindOf inRange areLower withCode eventLine withOperands secondOperand operandsLine byOperator operatorLine numbered parsedLine checkedEntry checkedLine answerTo noEntries withEntry refusedChart readLines orNoLine readChart faultIn entriesOf addedVerdict withEntries readAdded
+unfolding additions bytes tabbed unended text split lines isLength isDigit allDigits valueFrom hasLeadingZero isNumber numberOf millisecondsOf inTenths hasPoint lengthOf words sameBytes placeOf operatorOf lengthTestOf kindOf inRange areLower withCode eventLine withOperands secondOf secondOperand operandsLine byOperator operatorLine numbered parsedLine checkedEntry checkedLine answerTo noEntries withEntry refusedChart readLines orNoLine readChart faultIn entriesOf addedVerdict withEntries readAdded
 additions-read = refl
 
 -- a chart that counts over 32 entries, which no reader makes, takes no line

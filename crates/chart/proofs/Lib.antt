@@ -10,3 +10,4 @@ pub mod Places
 pub mod Lines
 pub mod Examples
 pub mod Numbers
+mod Fitting

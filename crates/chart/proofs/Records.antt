@@ -15,10 +15,10 @@ use Rattle.decimal.specs.Spelling.{numberOf}
 use Rattle.decimal.specs.declared.Number.{Number}
 use Rattle.text.specs.Text.{fields, indexOf}
 use Rattle.text.proofs.Laws.{split-cut, split-none, split-some, index-le}
-use Rattle.chart.specs.Operators.{operatorOf, inRange, areLower}
+use Rattle.chart.specs.Operators.{operatorOf, kindOf, inRange, areLower}
 use Rattle.chart.specs.declared.operator.Kind.{Kind}
 use Rattle.chart.specs.declared.operator.Kind.the-variants.{Event, Or, Pair, Absence, Length, After, Nearest, Unknown}
-use Rattle.chart.specs.Records.{parsedLine, numbered, operatorLine, byOperator, eventLine, withCode, operandsLine, secondOperand, withOperands}
+use Rattle.chart.specs.Records.{parsedLine, numbered, operatorLine, byOperator, eventLine, withCode, operandsLine, secondOf, secondOperand, withOperands}
 use Rattle.chart.specs.declared.record.Parsed.{Parsed}
 
 -- a text with no tab is one field; with one, its first field and the rest
@@ -64,7 +64,7 @@ module _ (e : ℕ) (s : List ℕ) where
       go false false = refl
 
 module _ (e op : ℕ) (s : List ℕ) where
-  pub second-one : (x : Number) → indexOf 9 s ≡ length s → secondOperand e op x (fields s) ≡ withOperands e op x (numberOf s)
+  pub second-one : (x : Number) → indexOf 9 s ≡ length s → secondOperand e op x (fields s) ≡ withOperands e op x (secondOf (kindOf op) s)
   unfolding secondOperand
   second-one x h = rw (one-field s h)
 

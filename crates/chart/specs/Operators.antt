@@ -128,6 +128,17 @@ shapeOf After = Delayed
 shapeOf (Nearest c) = Double
 shapeOf Unknown = Delayed
 
+-- whether the second operand is a length: "d is a length", also of after (request N1)
+abbrev pub takesLength : Kind → Bool
+takesLength Event = false
+takesLength Or = false
+takesLength (Pair c) = false
+takesLength (Absence e) = false
+takesLength (Length t) = true
+takesLength After = true
+takesLength (Nearest c) = false
+takesLength Unknown = false
+
 -- "An event has a code 0 to 255"; "d is a length", also of after (request N1). An event's second operand is none, written 0
 unfoldable pub inRange : Kind → ℕ → ℕ → Bool
 inRange Event a b = leb a 255 && eqb b 0

@@ -5,11 +5,12 @@ use mathlib.Core.Bool.{cond}
 use mathlib.Core.List.{List, [], _∷_}
 use lib.Dec.{eqb, leb}
 use lib.ListN.{take}
-use Rattle.decimal.specs.Spelling.{numberOf}
+use Rattle.decimal.specs.Spelling.{numberOf, lengthOf}
 use Rattle.decimal.specs.declared.Number.{Number}
 use Rattle.text.specs.Text.{Line, isRecord, fields}
-use Rattle.chart.specs.Operators.{operatorOf, kindOf, inRange, areLower}
+use Rattle.chart.specs.Operators.{operatorOf, kindOf, takesLength, inRange, areLower}
 use Rattle.chart.specs.declared.Entry.{Entry}
+use Rattle.chart.specs.declared.operator.Kind.{Kind}
 use Rattle.chart.specs.declared.record.Parsed.{Parsed}
 use Rattle.chart.specs.declared.record.LineAnswer.{LineAnswer}
 
@@ -32,9 +33,13 @@ withOperands e op (Number.Value a) (Number.Value b) = Parsed.Line e op a b
 withOperands e op (Number.Value a) Number.Malformed = Parsed.Malformed
 withOperands e op Number.Malformed y = Parsed.Malformed
 
+-- a second operand on paper: a length, which may have a point (request N11), or the number of an entry
+unfoldable pub secondOf : Kind → List ℕ → Number
+secondOf k y = cond (takesLength k) (lengthOf y) (numberOf y)
+
 unfoldable pub secondOperand : ℕ → ℕ → Number → List (List ℕ) → Parsed
 secondOperand e op x [] = Parsed.Malformed
-secondOperand e op x (y ∷ []) = withOperands e op x (numberOf y)
+secondOperand e op x (y ∷ []) = withOperands e op x (secondOf (kindOf op) y)
 secondOperand e op x (y ∷ z ∷ zs) = Parsed.Malformed
 
 unfoldable pub operandsLine : ℕ → ℕ → List (List ℕ) → Parsed

@@ -1,12 +1,15 @@
--- What the theorems say of a chart that is read whole and in parts; proofs/Parts.antt proves each statement. No proof stands here.
+-- What the theorems say of a chart that is read whole and in parts, and of the limit of a line; proofs/Parts.antt and proofs/Fitting.antt prove each
+-- statement. No proof stands here.
 use Prim.Native.Nat.{ℕ, _+_, _<_}
 use mathlib.Core.Path.{_≡_}
 use mathlib.Core.Bool.{cond}
 use mathlib.Core.List.{List, [], _∷_, _++_}
 use lib.Dec.{eqb}
 use lib.ListN.{length}
-use Rattle.text.specs.Text.{lines}
+use Rattle.text.specs.Text.{lines, fields}
 use Rattle.chart.specs.Charts.{noEntries, readChart, readAdded}
+use Rattle.chart.specs.Records.{parsedLine}
+use Rattle.chart.specs.declared.record.Parsed.{Parsed}
 use Rattle.chart.specs.declared.Chart.{Chart}
 use Rattle.chart.specs.declared.ChartAnswer.{ChartAnswer}
 
@@ -27,3 +30,7 @@ inParts c p q =
 -- follows.
 abbrev pub ReadInParts : Type 0
 ReadInParts = (c : Chart) (p q : List ℕ) → 0 < length q → readAdded c ((p ++ 10 ∷ []) ++ q) ≡ inParts c (p ++ 10 ∷ []) q
+
+-- "at most 64 bytes with it": every line that is of the form has less, with its byte 10
+abbrev pub LinesFit : Type 0
+LinesFit = (s : List ℕ) → (parsedLine (fields s) ≡ Parsed.Malformed → ⊥) → length s + 1 < 64

@@ -3,7 +3,7 @@ ghost use mathlib.Core.Path.{_≡_};
 ghost use Prim.Native.Nat.{_<_};
 ghost use lib.ListN.{getD};
 ghost use mathlib.Core.List.{[]};
-ghost use Rattle.chart.specs.Operators.{words, paddedWords, wordLengths, sameBytes, operatorOf, edgesOf, relationOf, lengthTestOf, laterKindOf, kindOf, shapeOf, inRange, areLower};
+ghost use Rattle.chart.specs.Operators.{words, paddedWords, wordLengths, sameBytes, operatorOf, edgesOf, relationOf, lengthTestOf, laterKindOf, kindOf, shapeOf, takesLength, inRange, areLower};
 use interval::Edges;
 use interval::LengthTest;
 use interval::Nearest;
@@ -147,6 +147,22 @@ pub fn shape_of(k: Kind) -> Shape
         Kind::After => Shape::Delayed,
         Kind::Nearest(_) => Shape::Double,
         Kind::Unknown => Shape::Delayed,
+    }
+}
+
+// Whether the second operand is a length. Constant time.
+pub fn takes_length(k: Kind) -> bool
+    ensures { λ r. ⌜ r ≡ takesLength k ⌝ }
+{
+    match k {
+        Kind::Event => false,
+        Kind::Or => false,
+        Kind::Pair(_) => false,
+        Kind::Absence(_) => false,
+        Kind::Length(_) => true,
+        Kind::After => true,
+        Kind::Nearest(_) => false,
+        Kind::Unknown => false,
     }
 }
 

@@ -3,12 +3,14 @@ ghost use mathlib.Core.Path.{_≡_};
 ghost use Prim.Native.Nat.{_≤_, _<_};
 ghost use lib.ListN.{length};
 ghost use Rattle.text.specs.Text.{fields, whole};
-ghost use Rattle.chart.specs.Records.{parsedLine, numbered, operatorLine, byOperator, eventLine, withCode, operandsLine, secondOperand, withOperands, refusedLine, checkedEntry, checkedLine, lineAnswer, answerTo};
+ghost use Rattle.chart.specs.Records.{parsedLine, numbered, operatorLine, byOperator, eventLine, withCode, operandsLine, secondOf, secondOperand, withOperands, refusedLine, checkedEntry, checkedLine, lineAnswer, answerTo};
 use crate::Entry;
+use crate::operator::Kind;
 use crate::operator::are_lower;
 use crate::operator::in_range;
 use crate::operator::kind_of;
 use crate::operator::operator_of;
+use crate::operator::takes_length;
 use decimal::Number;
 
 // What stands in a line: entry number, operator code, operands. An event's second operand is 0.
@@ -106,8 +108,19 @@ fn read_second(entry: u64, op: u8, x: Number, s: &[u8]) -> Parsed
     if text::find(s, 9) != s.len() {
         return Parsed::Malformed;
     }
-    let y = decimal::read_number(s);
+    let k = kind_of(op);
+    let y = read_by_kind(k, s);
     with_operands(entry, op, x, y)
+}
+
+// A second operand: a length, or the number of an entry.
+fn read_by_kind(k: Kind, s: &[u8]) -> Number
+    ensures { λ r. ⌜ r ≡ secondOf k (now (s .entry)) ⌝ }
+{
+    if takes_length(k) {
+        return decimal::read_length(s);
+    }
+    decimal::read_number(s)
 }
 
 fn with_operands(entry: u64, op: u8, x: Number, y: Number) -> Parsed

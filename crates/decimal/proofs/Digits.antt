@@ -5,10 +5,11 @@ use mathlib.Core.List.{List, [], _∷_, _++_}
 use Prim.Native.Nat.{ℕ, zero, suc, _+_, _*_, _-_, _/_, _%_, _^_, _<_, _≤_}
 use native.Mathlib.Omega.{arith}
 use native.Mathlib.Nat.{add-zero, add-suc, suc-add, pow-suc, one-le-pow}
-use lib.Dec.{leb, ltb}
+use lib.Dec.{eqb, leb, ltb}
 use lib.ListN.{length, getD, length-append, List·getD-append}
-use borrow.Author.Tests.{lt-ltb, le-ltb, le-leb, ltb-true, ltb-false, leb-true}
+use borrow.Author.Tests.{lt-ltb, le-ltb, le-leb, lt-leb, ne-eqb, ltb-true, ltb-false, leb-true}
 use Rattle.interval.proofs.Signed.{and-first, and-second}
+use Rattle.text.proofs.Laws.{lacks}
 use Rattle.decimal.specs.Spelling.{isDigit, allDigits, valueFrom, digitsValue, digit, digitsWithin, spelledNumber}
 
 -- The spelling of a number, unfolded: one digit, or the spelling of its tens and the last digit.
@@ -54,7 +55,7 @@ by-tens P one more n = go n n (omega arith)
     go zero m h = one m (omega arith)
     go (suc f) m h = step m (go f (m / 10) (omega arith)) (ltb m 10) refl
 
-digit-is : (d : ℕ) → d < 10 → isDigit (digit d) ≡ true
+pub digit-is : (d : ℕ) → d < 10 → isDigit (digit d) ≡ true
 unfolding isDigit
 digit-is d h = rw (le-leb 48 (digit d) (omega arith), le-leb (digit d) 57 (omega arith))
 
@@ -65,6 +66,19 @@ digit-least b e = leb-true 48 b (and-first (leb 48 b) (leb b 57) e)
 pub digit-most : (b : ℕ) → isDigit b ≡ true → b ≤ 57
 unfolding isDigit
 digit-most b e = leb-true b 57 (and-second (leb 48 b) (leb b 57) e)
+
+-- What the tests of a byte in the code tell.
+pub below-digits : (b : ℕ) → b < 48 → isDigit b ≡ false
+unfolding isDigit
+below-digits b h = simp (lt-leb 48 b h)
+
+pub above-digits : (b : ℕ) → 48 ≤ b → 57 < b → isDigit b ≡ false
+unfolding isDigit
+above-digits b h l = simp (le-leb 48 b h, lt-leb b 57 l)
+
+pub in-digits : (b : ℕ) → 48 ≤ b → b ≤ 57 → isDigit b ≡ true
+unfolding isDigit
+in-digits b h l = simp (le-leb 48 b h, le-leb b 57 l)
 
 -- One digit more at the end.
 value-more : (n : ℕ) (s : List ℕ) (b : ℕ) → valueFrom n (s ++ (b ∷ [])) ≡ valueFrom n s * 10 + (b - 48)
@@ -141,6 +155,14 @@ value-below i m (b ∷ s) h e =
     let d = digit-most b (and-first (isDigit b) (allDigits s) e) in
     rw (add-suc i (length s), ← suc-add i (length s))
     (value-below (suc i) (m * 10 + (b - 48)) s (digit-below i m (b - 48) h (omega arith)) (and-second (isDigit b) (allDigits s) e))
+
+-- Digits lack every byte below the digits.
+pub digits-lack : (x : ℕ) (s : List ℕ) → x < 48 → allDigits s ≡ true → lacks x s ≡ true
+unfolding allDigits
+digits-lack x [] h e = refl
+digits-lack x (b ∷ s) h e =
+    let d = digit-least b (and-first (isDigit b) (allDigits s) e) in
+    rw (ne-eqb b x (λ q. omega arith)) (digits-lack x s h (and-second (isDigit b) (allDigits s) e))
 
 -- Each byte of digits is a digit.
 pub digits-byte : (s : List ℕ) (i : ℕ) → allDigits s ≡ true → i < length s → isDigit (getD s i 0) ≡ true

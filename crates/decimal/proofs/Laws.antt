@@ -1,26 +1,25 @@
--- Laws of specs/Spelling.antt: a number is read back from its spelling, it has no other spelling, how large both can be, and what
--- is written of a spelling.
-use mathlib.Core.Path.{_≡_, refl, sym, ap, _∙_, subst}
+-- Laws of specs/Spelling.antt for plain numbers and for signs: a number is read back from its spelling, it has no other spelling, how large both can be,
+-- and what is written of a spelling. Lengths and instants are in Tenths.antt.
+use mathlib.Core.Path.{_≡_, refl, sym, ap, _∙_}
 use mathlib.Core.Bool.{Bool, true, false, not, cond, _&&_, and-false}
 use mathlib.Core.List.{List, [], _∷_, _++_, append-nil}
-use mathlib.Core.Logic.{_⊎_, inl, inr, ⊎-elim}
+use mathlib.Core.Logic.{⊎-elim}
 use Prim.Native.Nat.{ℕ, zero, suc, _+_, _*_, _-_, _/_, _%_, _^_, _<_, _≤_}
 use native.Mathlib.Omega.{arith}
 use native.Mathlib.Nat.{zero-add, lt-of-lt-of-le, pow-le-pow-right}
-use lib.Dec.{eqb, leb, ltb, eqb·suc-zero}
+use lib.Dec.{eqb, leb, ltb}
 use lib.Signed.{leZ, natAbs-le}
 use lib.IntN.{ℤ, pos, negsuc, natAbs}
 use lib.ListN.{length, getD, drop}
 use lib.Seq.{append-snoc}
 use mir.Syntax.{w32}
 use mir.Val.{SFits}
-use borrow.Author.Tests.{lt-ltb, le-leb, lt-leb, ne-eqb, ltb-true, leb-true, leb-false, eqb-true, eqb-false, not-true}
+use borrow.Author.Tests.{lt-ltb, le-leb, lt-leb, ne-eqb, ltb-true, leb-true, leb-false, eqb-false, not-true}
 use Rattle.interval.proofs.Signed.{never, and-first, and-second}
-use Rattle.text.proofs.Laws.{lt-or-le}
+use Rattle.text.proofs.Laws.{lt-or-le, lacks}
 use Rattle.decimal.specs.declared.Number.{Number}
-use Rattle.decimal.specs.declared.Instant.{Instant}
-use Rattle.decimal.specs.Spelling.{isDigit, allDigits, valueFrom, digitsValue, hasLeadingZero, isNumber, numberOf, withoutMinus, withMinus, instantOf, digit, spelledNumber, spelled, writtenLength, writtenOutput}
-use Rattle.decimal.proofs.Digits.{digit-least, digit-most, digits-byte, spelled-small, spelled-large, spelled-value, spelled-digits, spelled-nonempty, spelled-first, length-most, value-below}
+use Rattle.decimal.specs.Spelling.{isDigit, allDigits, valueFrom, digitsValue, hasLeadingZero, isNumber, numberOf, digit, spelledNumber, signed, spelled, writtenLength, writtenOutput}
+use Rattle.decimal.proofs.Digits.{digit-least, digit-most, digits-lack, spelled-small, spelled-large, spelled-value, spelled-digits, spelled-nonempty, spelled-first, length-most, value-below}
 
 -- What a number's spelling tells.
 record Numeral (s : List ℕ) (n : ℕ) : Type 0 where
@@ -48,12 +47,28 @@ numeral s n e = at (isNumber s) refl e
         }
     at false p q = let z : _≡_ {A = ℕ} 0 1 = cc in absurd (omega arith)
 
--- The number of a spelling is below the tenth power of ten.
-pub number-below : (s : List ℕ) (n : ℕ) → numberOf s ≡ Number.Value n → n < 10 ^ 10
-number-below s n e =
+-- The number of a spelling is below the power of ten of its length, and so below the tenth.
+pub number-below-length : (s : List ℕ) (n : ℕ) → numberOf s ≡ Number.Value n → n < 10 ^ length s
+number-below-length s n e =
     let f = numeral s n e in
-    rw (← f .value)
-    (lt-of-lt-of-le (value-below 0 0 s (omega arith) (f .digits)) (rw zero-add (pow-le-pow-right {n = 10} (omega arith) (f .few-bytes))))
+    let below : digitsValue s < 10 ^ length s = rw zero-add at (value-below 0 0 s (omega arith) (f .digits)) in
+    rw (← f .value) below
+
+pub number-below : (s : List ℕ) (n : ℕ) → numberOf s ≡ Number.Value n → n < 10 ^ 10
+number-below s n e = lt-of-lt-of-le (number-below-length s n e) (pow-le-pow-right {n = 10} (omega arith) (numeral s n e .few-bytes))
+
+-- It has 1 to 10 bytes, and lacks every byte below the digits.
+pub number-some : (s : List ℕ) (n : ℕ) → numberOf s ≡ Number.Value n → 1 ≤ length s
+number-some s n e = numeral s n e .some-bytes
+
+pub number-few : (s : List ℕ) (n : ℕ) → numberOf s ≡ Number.Value n → length s ≤ 10
+number-few s n e = numeral s n e .few-bytes
+
+pub number-digits : (s : List ℕ) (n : ℕ) → numberOf s ≡ Number.Value n → allDigits s ≡ true
+number-digits s n e = numeral s n e .digits
+
+pub number-lacks : (x : ℕ) → x < 48 → (s : List ℕ) (n : ℕ) → numberOf s ≡ Number.Value n → lacks x s ≡ true
+number-lacks x h s n e = digits-lack x s h (number-digits s n e)
 
 -- A number of at most ten digits is read back from its spelling.
 leading : (n : ℕ) → hasLeadingZero (spelledNumber n) ≡ false
@@ -105,16 +120,32 @@ number-one-spelling s n e =
     let f = numeral s n e in
     sym (spelled-again s (f .some-bytes) (f .first) (f .digits)) ∙ ap spelledNumber (f .value)
 
--- The sign apart: a number below 0 has a minus and then its absolute value.
-pub spelled-plain : (z : ℤ) → leZ (pos 0) z ≡ true → spelled z ≡ spelledNumber (natAbs z)
-unfolding spelled
-spelled-plain (pos n) e = refl
-spelled-plain (negsuc n) e = never e
+-- The sign apart: a number below 0 has a minus and then its absolute value, however that is spelled.
+module _ (f : ℕ → List ℕ) where
+  pub signed-plain : (z : ℤ) → leZ (pos 0) z ≡ true → signed f z ≡ f (natAbs z)
+  unfolding signed
+  signed-plain (pos n) e = refl
+  signed-plain (negsuc n) e = never e
 
-pub spelled-minus : (z : ℤ) → leZ (pos 0) z ≡ false → spelled z ≡ 45 ∷ spelledNumber (natAbs z)
-unfolding spelled
-spelled-minus (pos n) e = absurd (omega (arith, leb-false 0 n e))
-spelled-minus (negsuc n) e = refl
+  pub signed-minus : (z : ℤ) → leZ (pos 0) z ≡ false → signed f z ≡ 45 ∷ f (natAbs z)
+  unfolding signed
+  signed-minus (pos n) e = absurd (omega (arith, leb-false 0 n e))
+  signed-minus (negsuc n) e = refl
+
+  pub signed-least : (k : ℕ) → ((n : ℕ) → k ≤ length (f n)) → (z : ℤ) → k ≤ length (signed f z)
+  unfolding signed
+  signed-least k h (pos n) = h n
+  signed-least k h (negsuc n) = omega (arith, h (suc n))
+
+  pub signed-most : (k : ℕ) (z : ℤ) → length (f (natAbs z)) ≤ k → length (signed f z) ≤ suc k
+  unfolding signed
+  signed-most k (pos n) h = omega arith
+  signed-most k (negsuc n) h = omega arith
+
+  pub signed-lacks : (x : ℕ) → x < 45 → ((n : ℕ) → lacks x (f n) ≡ true) → (z : ℤ) → lacks x (signed f z) ≡ true
+  unfolding signed
+  signed-lacks x h l (pos n) = l n
+  signed-lacks x h l (negsuc n) = rw (ne-eqb 45 x (λ e. omega arith)) (l (suc n))
 
 -- The spelling of a number: at most k + 1 bytes below the (k + 1)th power of ten, and so at most 20 for what a u64 holds.
 pub number-digits-most : (k n : ℕ) → n < 10 ^ suc k → length (spelledNumber n) ≤ suc k
@@ -123,94 +154,22 @@ number-digits-most k n h = length-most k n h
 pub wide-digits-most : (n : ℕ) → n < 2 ^ 64 → length (spelledNumber n) ≤ 20
 wide-digits-most n h = length-most 19 n (omega arith)
 
+pub spelled-number-lacks : (x : ℕ) → x < 48 → (n : ℕ) → lacks x (spelledNumber n) ≡ true
+spelled-number-lacks x h n = digits-lack x (spelledNumber n) h (spelled-digits n)
+
 -- What an i32 holds has at most ten digits.
 pub fits-below : (z : ℤ) → SFits w32 z → natAbs z < 10 ^ 10
 fits-below z f = omega (arith, natAbs-le z (f .sfits))
 
--- The spelling of a whole number: 1 to 11 bytes, each a digit or the minus.
+-- The spelling of a whole number: at least 1 byte, at most 11 of an i32, and neither a tab nor the end of a line among them.
 pub spelled-length-least : (z : ℤ) → 1 ≤ length (spelled z)
-unfolding spelled
-spelled-length-least (pos n) = spelled-nonempty n
-spelled-length-least (negsuc n) = omega arith
-
-pub spelled-length-most : (z : ℤ) → natAbs z < 10 ^ 10 → length (spelled z) ≤ 11
-unfolding spelled
-spelled-length-most (pos n) h = omega (arith, length-most 9 n h)
-spelled-length-most (negsuc n) h = omega (arith, length-most 9 (suc n) h)
+spelled-length-least z = signed-least spelledNumber 1 spelled-nonempty z
 
 pub integer-length-most : (z : ℤ) → SFits w32 z → length (spelled z) ≤ 11
-integer-length-most z f = spelled-length-most z (fits-below z f)
+integer-length-most z f = signed-most spelledNumber 10 z (length-most 9 (natAbs z) (fits-below z f))
 
-pub spelled-byte : (z : ℤ) (i : ℕ) → i < length (spelled z) → (isDigit (getD (spelled z) i 0) ≡ true) ⊎ (getD (spelled z) i 0 ≡ 45)
-unfolding spelled
-spelled-byte (pos n) i h = inl (digits-byte (spelledNumber n) i (spelled-digits n) h)
-spelled-byte (negsuc n) zero h = inr refl
-spelled-byte (negsuc n) (suc i) h = inl (digits-byte (spelledNumber (suc n)) i (spelled-digits (suc n)) (omega arith))
-
--- So each byte is at least 45: neither the tab nor the end of a line.
-pub spelled-byte-least : (z : ℤ) (i : ℕ) → i < length (spelled z) → 45 ≤ getD (spelled z) i 0
-spelled-byte-least z i h =
-    ⊎-elim (λ e. omega (arith, digit-least (getD (spelled z) i 0) e)) (λ e. omega arith) (spelled-byte z i h)
-
--- What an instant's spelling tells: it is the number's, or has a minus in front of that of a number other than 0.
-data Signed : List ℕ → ℤ → Type 0 where
-  without-minus : {s : List ℕ} {n : ℕ} → numberOf s ≡ Number.Value n → Signed s (pos n)
-  with-minus : {s : List ℕ} {n : ℕ} → numberOf s ≡ Number.Value (suc n) → Signed (45 ∷ s) (negsuc n)
-
-signed-plain : (s : List ℕ) (z : ℤ) (r : Number) → numberOf s ≡ r → withoutMinus r ≡ Instant.Value z → Signed s z
-unfolding withoutMinus
-signed-plain s z (Number.Value n) p q = let e : pos n ≡ z = cc in subst (λ (x : ℤ). Signed s x) e (without-minus p)
-signed-plain s z Number.Malformed p q = let c : _≡_ {A = ℕ} 0 1 = cc in absurd (omega arith)
-
-signed-minus : (s : List ℕ) (z : ℤ) (r : Number) → numberOf s ≡ r → withMinus r ≡ Instant.Value z → Signed (45 ∷ s) z
-unfolding withMinus
-signed-minus s z (Number.Value zero) p q = let c : _≡_ {A = ℕ} 0 1 = cc in absurd (omega arith)
-signed-minus s z (Number.Value (suc n)) p q =
-    let q₁ : Instant.Value (negsuc n) ≡ Instant.Value z = rw (eqb·suc-zero n) at q in
-    let e : negsuc n ≡ z = cc in
-    subst (λ (x : ℤ). Signed (45 ∷ s) x) e (with-minus p)
-signed-minus s z Number.Malformed p q = let c : _≡_ {A = ℕ} 0 1 = cc in absurd (omega arith)
-
-signed : (s : List ℕ) (z : ℤ) → instantOf s ≡ Instant.Value z → Signed s z
-unfolding instantOf
-signed [] z e = signed-plain [] z (numberOf []) refl e
-signed (b ∷ s) z e = at (eqb b 45) refl e
-  where
-    at : (t : Bool) → eqb b 45 ≡ t → cond t (withMinus (numberOf s)) (withoutMinus (numberOf (b ∷ s))) ≡ Instant.Value z → Signed (b ∷ s) z
-    at true p q = rw (eqb-true b 45 p) (signed-minus s z (numberOf s) refl q)
-    at false p q = signed-plain (b ∷ s) z (numberOf (b ∷ s)) refl q
-
--- A whole number of at most ten digits is read back from its spelling.
-no-minus : (n : ℕ) → eqb (getD (spelledNumber n) 0 0) 45 ≡ false
-no-minus n =
-    ne-eqb (getD (spelledNumber n) 0 0) 45
-    (λ e. omega (arith, digit-least (getD (spelledNumber n) 0 0) (digits-byte (spelledNumber n) 0 (spelled-digits n) (spelled-nonempty n))))
-
-pub instant-read-back : (z : ℤ) → natAbs z < 10 ^ 10 → instantOf (spelled z) ≡ Instant.Value z
-unfolding instantOf spelled withoutMinus withMinus
-instant-read-back (pos n) h = rw (no-minus n, number-read-back n h)
-instant-read-back (negsuc n) h = rw (number-read-back (suc n) h, eqb·suc-zero n)
-
--- The same for every number that an i32 holds.
-pub integer-read-back : (z : ℤ) → SFits w32 z → instantOf (spelled z) ≡ Instant.Value z
-integer-read-back z f = instant-read-back z (fits-below z f)
-
--- An instant has one spelling.
-pub instant-one-spelling : (s : List ℕ) (z : ℤ) → instantOf s ≡ Instant.Value z → s ≡ spelled z
-unfolding spelled
-instant-one-spelling s z e = at (signed s z e)
-  where
-    at : {s : List ℕ} {z : ℤ} → Signed s z → s ≡ spelled z
-    at (without-minus {s = t} {n = n} p) = number-one-spelling t n p
-    at (with-minus {s = t} {n = n} p) = ap (λ (l : List ℕ). 45 ∷ l) (number-one-spelling t (suc n) p)
-
--- The instant of a spelling has at most ten digits.
-pub instant-below : (s : List ℕ) (z : ℤ) → instantOf s ≡ Instant.Value z → natAbs z < 10 ^ 10
-instant-below s z e = at (signed s z e)
-  where
-    at : {s : List ℕ} {z : ℤ} → Signed s z → natAbs z < 10 ^ 10
-    at (without-minus {s = t} {n = n} p) = number-below t n p
-    at (with-minus {s = t} {n = n} p) = number-below t (suc n) p
+pub spelled-lacks : (x : ℕ) → x < 45 → (z : ℤ) → lacks x (spelled z) ≡ true
+spelled-lacks x h z = signed-lacks spelledNumber x h (spelled-number-lacks x (omega arith)) z
 
 -- What is written of a spelling: all of it where the output has room, else nothing.
 module _ (s out : List ℕ) where

@@ -1,19 +1,20 @@
-// Numbers on paper: which number a spelling is, and how a number is spelled. The other crates go by these contracts and by the
-// laws of `proofs/Laws.antt`, and know nothing of digits. Every public function accepts every input.
+// Numbers, lengths and instants on paper: which number a spelling is, and how a number is spelled. Lengths and instants are in tenths of a
+// millisecond. The other crates go by these contracts and by the laws of `proofs/Laws.antt` and `proofs/Tenths.antt`, and know nothing of
+// digits. Every public function accepts every input.
 ghost use mathlib.Core.Path.{_≡_};
 ghost use Prim.Native.Nat.{_≤_};
 ghost use mathlib.Core.Bool.{cond};
 ghost use lib.IntN.{natAbs};
 ghost use lib.ListN.{length};
-ghost use Rattle.decimal.specs.Spelling.{allDigits, digitsValue, hasLeadingZero, numberOf, instantOf, spelledNumber, spelled, writtenLength, writtenOutput};
+ghost use Rattle.decimal.specs.Spelling.{allDigits, digitsValue, hasLeadingZero, numberOf, millisecondsOf, inTenths, hasPoint, lengthOf, instantOf, spelledNumber, spelledLength, signed, spelled, spelledInstant, spelledIn, writtenLength, writtenOutput};
 
-// A number that was read. A well-formed one is below 10,000,000,000.
+// A number that was read, or a length in tenths. A well-formed one is below 10,000,000,000; the caller refuses it where it is out of range.
 pub enum Number {
     Value(u64),
     Malformed,
 }
 
-// An instant that was read. A well-formed one may exceed an i32; the caller refuses it as out of range.
+// An instant that was read, in tenths. A well-formed one may exceed an i32; the caller refuses it as out of range.
 pub enum Instant {
     Value(i64),
     Malformed,
@@ -35,7 +36,19 @@ pub fn read_number(s: &[u8]) -> Number
     read_digits(s)
 }
 
-// The instant that the whole slice spells, or Malformed. One pass over at most 11 bytes.
+// The length that the whole slice spells, in tenths, or Malformed. One pass over at most 11 bytes.
+pub fn read_length(s: &[u8]) -> Number
+    ensures { λ r. ⌜ r ≡ lengthOf (now (s .entry)) ⌝ }
+{
+    if has_point(s) {
+        let point = s.len() - 2;
+        let last = s[s.len() - 1];
+        return read_tenths(&s[..point], last);
+    }
+    read_tenths(s, b'0')
+}
+
+// The instant that the whole slice spells, in tenths, or Malformed. One pass over at most 12 bytes.
 pub fn read_instant(s: &[u8]) -> Instant
     ensures { λ r. ⌜ r ≡ instantOf (now (s .entry)) ⌝ }
 {
@@ -43,7 +56,7 @@ pub fn read_instant(s: &[u8]) -> Instant
         return Instant::Malformed;
     }
     if s[0] == b'-' {
-        let n = read_number(&s[1..]);
+        let n = read_length(&s[1..]);
         let Number::Value(v) = n else {
             return Instant::Malformed;
         };
@@ -52,11 +65,20 @@ pub fn read_instant(s: &[u8]) -> Instant
         }
         return Instant::Value(0 - (v as i64));
     }
-    let n = read_number(s);
+    let n = read_length(s);
     let Number::Value(v) = n else {
         return Instant::Malformed;
     };
     Instant::Value(v as i64)
+}
+
+// Writes the instant x, which is in tenths, at the front of the output, its minus, its point and one digit behind it included, and returns
+// the number of bytes. Where the output is too short it writes nothing and returns 0. Each byte is written once, with one division by 10
+// for each digit but the first.
+pub fn write_instant(x: i32, out: &mut [u8]) -> usize
+    ensures { λ r. ⌜ (r ≡ writtenLength (spelledInstant x) (now (out .entry))) × (now (out .exit) ≡ writtenOutput (spelledInstant x) (now (out .entry))) ⌝ }
+{
+    write_signed(x, true, out)
 }
 
 // Writes x in decimal, minus included, at the front of the output, and returns the number of bytes. Where the output is too
@@ -64,19 +86,7 @@ pub fn read_instant(s: &[u8]) -> Instant
 pub fn write_integer(x: i32, out: &mut [u8]) -> usize
     ensures { λ r. ⌜ (r ≡ writtenLength (spelled x) (now (out .entry))) × (now (out .exit) ≡ writtenOutput (spelled x) (now (out .entry))) ⌝ }
 {
-    let m = magnitude(x);
-    if 0 <= x {
-        return write_number(m, out);
-    }
-    if out.len() == 0 {
-        return 0;
-    }
-    let n = write_number(m, &mut out[1..]);
-    if n == 0 {
-        return 0;
-    }
-    out[0] = b'-';
-    n + 1
+    write_signed(x, false, out)
 }
 
 // Writes m in decimal at the front of the output and returns the number of bytes. Where the output is too short it writes nothing
@@ -109,6 +119,85 @@ pub fn integer_length(x: i32) -> usize
         return digits;
     }
     digits + 1
+}
+
+// Whole milliseconds and the byte b behind their point, in tenths, or Malformed. More than 9 digits are refused unread.
+fn read_tenths(s: &[u8], b: u8) -> Number
+    ensures { λ r. ⌜ r ≡ inTenths (millisecondsOf (now (s .entry))) b ⌝ }
+{
+    if 9 < s.len() {
+        return Number::Malformed;
+    }
+    let n = read_number(s);
+    let Number::Value(v) = n else {
+        return Number::Malformed;
+    };
+    if b < b'0' {
+        return Number::Malformed;
+    }
+    if b'9' < b {
+        return Number::Malformed;
+    }
+    Number::Value(v * 10 + wide(b - b'0'))
+}
+
+// Whether the last byte but one is a point. Constant time.
+fn has_point(s: &[u8]) -> bool
+    ensures { λ r. ⌜ r ≡ hasPoint (now (s .entry)) ⌝ }
+{
+    let n = s.len();
+    if n <= 1 {
+        return false;
+    }
+    s[n - 2] == b'.'
+}
+
+// Writes x with its minus, as an instant with a point or as a whole number without. Where the output is too short it writes nothing and
+// returns 0.
+fn write_signed(x: i32, point: bool, out: &mut [u8]) -> usize
+    ensures { λ r. ⌜ (r ≡ writtenLength (signed (spelledIn point) x) (now (out .entry))) × (now (out .exit) ≡ writtenOutput (signed (spelledIn point) x) (now (out .entry))) ⌝ }
+{
+    let m = magnitude(x);
+    if 0 <= x {
+        return write_unsigned(m, point, out);
+    }
+    if out.len() == 0 {
+        return 0;
+    }
+    let n = write_unsigned(m, point, &mut out[1..]);
+    if n == 0 {
+        return 0;
+    }
+    out[0] = b'-';
+    n + 1
+}
+
+// Writes m as a length with a point or as a number without.
+fn write_unsigned(m: u64, point: bool, out: &mut [u8]) -> usize
+    ensures { λ r. ⌜ (r ≡ writtenLength (spelledIn point m) (now (out .entry))) × (now (out .exit) ≡ writtenOutput (spelledIn point m) (now (out .entry))) ⌝ }
+{
+    if point {
+        return write_length(m, out);
+    }
+    write_number(m, out)
+}
+
+// Writes the length m, which is in tenths, with its point and one digit behind it. The whole milliseconds go into the output without its
+// last two bytes, so that there is room for the point and the digit.
+fn write_length(m: u64, out: &mut [u8]) -> usize
+    ensures { λ r. ⌜ (r ≡ writtenLength (spelledLength m) (now (out .entry))) × (now (out .exit) ≡ writtenOutput (spelledLength m) (now (out .entry))) ⌝ }
+{
+    if out.len() < 2 {
+        return 0;
+    }
+    let room = out.len() - 2;
+    let n = write_number(m / 10, &mut out[..room]);
+    if n == 0 {
+        return 0;
+    }
+    out[n] = b'.';
+    out[n + 1] = b'0' + (m % 10) as u8;
+    n + 2
 }
 
 // The number that the digits spell, leading zeros or not, or Malformed. At most 10 digits, so that no value wraps. One pass.

@@ -16,11 +16,12 @@ use mir.Val.{SFits, toZ, ofZ}
 use Rattle.interval.proofs.Signed.{never, and-first, and-second}
 use Rattle.interval.proofs.Machine.{same64}
 use Rattle.text.specs.Text.{indexOf, fields}
-use Rattle.text.proofs.Laws.{index-le, index-without, lacks, index-lacks, index-cut, split-some, split-word, part-from}
-use Rattle.decimal.specs.Spelling.{numberOf, instantOf, spelled}
+use Rattle.text.proofs.Laws.{index-le, lacks, index-lacks, index-cut, split-some, split-word, part-from}
+use Rattle.decimal.specs.Spelling.{numberOf, instantOf}
 use Rattle.decimal.specs.declared.Number.{Number}
 use Rattle.decimal.specs.declared.Instant.{Instant}
-use Rattle.decimal.proofs.Laws.{number-one-spelling, instant-one-spelling, instant-below, spelled-plain, spelled-byte-least}
+use Rattle.decimal.proofs.Laws.{number-lacks}
+use Rattle.decimal.proofs.Tenths.{instant-below, instant-lacks}
 use Rattle.chart.specs.Operators.{sameBytes, placeOf}
 use Rattle.chart.proofs.Records.{one-field, cut-field}
 use Rattle.chart.proofs.Words.{same-eq, place-hit, place-on, place-none}
@@ -29,24 +30,20 @@ use Rattle.log.specs.declared.Call.{Call}
 use Rattle.log.specs.declared.Word.{Word}
 use Rattle.log.specs.Log.{openWord, eventWord, clockWord, forgetWord, callWords, eventCall, instantCall, wordCall, placeAmongWords, fieldsCall, callOf, startsWith, answerOf, takenLine, refusedLine, codeAnswer, instantAnswer, wordAnswer, fieldsAnswer, lineAnswer}
 
--- a number has no tab
-no-tab : (z : ℤ) → indexOf 9 (spelled z) ≡ length (spelled z)
-no-tab z = index-without 9 (spelled z) (λ i k e. omega (arith, spelled-byte-least z i k, e))
-
 -- what has a tab is no number and no instant
 module _ (s : List ℕ) (tab : indexOf 9 s ≡ length s → ⊥) where
   number-tab : numberOf s ≡ Number.Malformed
   number-tab = go (numberOf s) refl
     where
       go : (r : Number) → numberOf s ≡ r → r ≡ Number.Malformed
-      go (Number.Value n) e = absurd (tab (rw (number-one-spelling s n e, ← spelled-plain (pos n) (le-leb 0 n (omega arith))) (no-tab (pos n))))
+      go (Number.Value n) e = absurd (tab (index-lacks 9 s (number-lacks 9 (omega arith) s n e)))
       go Number.Malformed e = refl
 
   instant-tab : instantOf s ≡ Instant.Malformed
   instant-tab = go (instantOf s) refl
     where
       go : (r : Instant) → instantOf s ≡ r → r ≡ Instant.Malformed
-      go (Instant.Value z) e = absurd (tab (rw (instant-one-spelling s z e) (no-tab z)))
+      go (Instant.Value z) e = absurd (tab (index-lacks 9 s (instant-lacks 9 (omega arith) s z e)))
       go Instant.Malformed e = refl
 
   word-tab : (w : ℕ) → wordCall w s ≡ Call.Malformed

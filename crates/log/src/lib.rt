@@ -4,7 +4,7 @@ ghost use Rattle.log.specs.Log.{callOf, wordCall, placeAmongWords, answe
 use decimal::Instant;
 use decimal::Number;
 
-// What a line asks for. An instant may be out of the instants' range; the watch refuses it then.
+// What a line asks for. An instant is in tenths of a millisecond and may be out of the instants' range; the watch refuses it then.
 pub enum Call {
     Malformed,
     Open(i64),
@@ -30,7 +30,7 @@ const CLOCK: [u8; 6] = *b"clock\t";
 const FORGET: [u8; 7] = *b"forget\t";
 
 // The call of a line without its byte 10. The words differ in their first byte, so that only one is compared further; then one pass
-// over a number of at most 11 bytes. No second tab is looked for: what has a tab is no number.
+// over a number of at most 12 bytes. No second tab is looked for: what has a tab is no number.
 pub fn read_call(s: &[u8]) -> Call
     ensures { λ r. ⌜ (r ≡ callOf (now (s .entry))) × (answerOf r ≡ lineAnswer (now (s .entry))) ⌝ }
 {
@@ -84,7 +84,7 @@ fn read_event(s: &[u8]) -> Call
     Call::Event(code as u8)
 }
 
-// The call that a word asks for at the instant s. One pass over at most 11 bytes.
+// The call that a word asks for at the instant s. One pass over at most 12 bytes.
 fn read_at(word: Word, s: &[u8]) -> Call
     ensures { λ r. ⌜ r ≡ wordCall (placeAmongWords word) (now (s .entry)) ⌝ }
 {

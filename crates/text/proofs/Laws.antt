@@ -101,15 +101,23 @@ module _ (x : ℕ) where
       go true f = ([], split x s, refl)
       go false (p, ps, e) = (b ∷ p, ps, rw e)
 
+  -- the sizes of the parts, each with one byte behind it, are that of the text with one byte more
+  abbrev pub sizes : List (List ℕ) → ℕ
+  sizes [] = 0
+  sizes (p ∷ ps) = suc (length p) + sizes ps
+
+  pub split-sizes : (s : List ℕ) → sizes (split x s) ≡ suc (length s)
+  unfolding split
+  split-sizes [] = refl
+  split-sizes (b ∷ s) = go (eqb b x) (split-some s) (split-sizes s)
+    where
+      go : (t : Bool) → (p : List ℕ) × (ps : List (List ℕ)) × (split x s ≡ p ∷ ps) → sizes (split x s) ≡ suc (length s) → sizes (cond t ([] ∷ split x s) (inFront b (split x s))) ≡ suc (suc (length s))
+      go true f h = omega arith
+      go false (p, ps, e) h = let h₁ = rw e at h in rw e (omega arith)
+
 -- where x is
 module _ (x : ℕ) where
-  -- a text with no x
-  pub index-without : (s : List ℕ) → ((i : ℕ) → i < length s → getD s i 0 ≡ x → ⊥) → indexOf x s ≡ length s
-  unfolding indexOf
-  index-without [] h = refl
-  index-without (b ∷ s) h = rw (ne-eqb b x (h 0 (omega arith))) (ap suc (index-without s (λ i k. h (suc i) (omega arith))))
-
-  -- the same by a test that computes
+  -- a text with no x, by a test that computes
   abbrev pub lacks : List ℕ → Bool
   lacks [] = true
   lacks (b ∷ s) = cond (eqb b x) false (lacks s)
@@ -122,6 +130,19 @@ module _ (x : ℕ) where
       go : (t : Bool) → cond t false (lacks s) ≡ true → (lacks s ≡ true → indexOf x s ≡ length s) → cond t 0 (suc (indexOf x s)) ≡ suc (length s)
       go true d f = let z : _≡_ {A = ℕ} 0 1 = cc in absurd (omega arith)
       go false d f = ap suc (f d)
+
+  -- two texts one behind the other
+  lacks-more : (u : Bool) {r t : Bool} → cond u false r ≡ true → (r ≡ true → t ≡ true) → cond u false t ≡ true
+  lacks-more true e f = e
+  lacks-more false e f = f e
+
+  pub lacks-append : (s t : List ℕ) → lacks s ≡ true → lacks t ≡ true → lacks (s ++ t) ≡ true
+  lacks-append [] t a b = b
+  lacks-append (y ∷ s) t a b = lacks-more (eqb y x) a (λ e. lacks-append s t e b)
+
+  pub lacks-front : (s t : List ℕ) → lacks (s ++ t) ≡ true → lacks s ≡ true
+  lacks-front [] t a = refl
+  lacks-front (y ∷ s) t a = lacks-more (eqb y x) a (lacks-front s t)
 
   -- the byte at the place of the first x is x
   pub index-cut : (s : List ℕ) → indexOf x s < length s → s ≡ take (indexOf x s) s ++ (x ∷ drop (suc (indexOf x s)) s)

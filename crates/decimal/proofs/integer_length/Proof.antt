@@ -6,7 +6,7 @@ use lib.IntN.{natAbs}
 use lib.ListN.{length}
 use Rattle.decimal.specs.Spelling.{spelledNumber}
 use Rattle.interval.proofs.Machine.{same32}
-use Rattle.decimal.proofs.Laws.{spelled-plain, spelled-minus, number-digits-most, fits-below}
+use Rattle.decimal.proofs.Laws.{signed-plain, signed-minus, number-digits-most, fits-below}
 use borrow.Author.Needs.{needs}
 use Rattle.decimal.proofs.integer_length.Statement.{statement}
 use Rattle.decimal.proofs.integer_length.Tie as tie
@@ -18,7 +18,7 @@ digits c = c .digit-count .ensures ∙ simp (same32, c .before .before .fits .x)
 returns : tie.Need-returns
 returns c =
     let f = c .before .before .before .fits .x in
-    digits (c .before) ∙ sym (ap length (spelled-plain _ (simp (same32, f) at (c .if1 .taken))))
+    digits (c .before) ∙ sym (ap length (signed-plain spelledNumber _ (simp (same32, f) at (c .if1 .taken))))
 
 add-result : tie.Need-add-result
 add-result c =
@@ -28,7 +28,7 @@ add-result c =
 returns-2 : tie.Need-returns-2
 returns-2 c =
     let s = c .before .before .before in
-    omega (arith, digits (c .before), ap length (spelled-minus (s .args .x) (simp (same32, s .fits .x) at (c .if1 .left))))
+    omega (arith, digits (c .before), ap length (signed-minus spelledNumber (s .args .x) (simp (same32, s .fits .x) at (c .if1 .left))))
 
 pub integer-length-spec : {M : Type 1} → statement M
 integer-length-spec = tie.close (tie.spec (λ c κs. search needs) (λ c κs. search needs) returns add-result returns-2)

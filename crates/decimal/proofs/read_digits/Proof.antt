@@ -10,28 +10,15 @@ use native.Mathlib.Nat.{lt-of-lt-of-le, pow-le-pow-right}
 use lib.ListN.{length, getD, drop, drop-of-length-le}
 use lib.Seq.{drop-cons}
 use borrow.Author.Needs.{needs}
-use borrow.Author.Tests.{le-leb, lt-leb}
 use Rattle.decimal.specs.declared.Number.{Number}
 use Rattle.decimal.specs.Spelling.{isDigit, allDigits, valueFrom}
-use Rattle.decimal.proofs.Digits.{digit-below}
+use Rattle.decimal.proofs.Digits.{digit-below, below-digits, above-digits, in-digits}
 use Rattle.decimal.proofs.read_digits.Statement.{statement}
 use Rattle.decimal.proofs.read_digits.Tie as tie
 
 -- what digits after a value n give
 abbrev carried : ℕ → List ℕ → Number
 carried n s = cond (allDigits s) (Number.Value (valueFrom n s)) Number.Malformed
-
-below-digits : (b : ℕ) → b < 48 → isDigit b ≡ false
-unfolding isDigit
-below-digits b h = simp (lt-leb 48 b h)
-
-above-digits : (b : ℕ) → 48 ≤ b → 57 < b → isDigit b ≡ false
-unfolding isDigit
-above-digits b h l = simp (le-leb 48 b h, lt-leb b 57 l)
-
-in-digits : (b : ℕ) → 48 ≤ b → b ≤ 57 → isDigit b ≡ true
-unfolding isDigit
-in-digits b h l = simp (le-leb 48 b h, le-leb b 57 l)
 
 module _ (s : List ℕ) (i n : ℕ) where
   stop : i < length s → isDigit (getD s i 0) ≡ false → carried n (drop i s) ≡ Number.Malformed

@@ -53,6 +53,12 @@ byte-part-written s out n b room told =
     let w = part-written s (set out n b) (n + 1) (simp length-set room) told in
     (w .0, w .1 ∙ ap (λ k. sets (set out n b) k s) (add-one n))
 
+-- the same where k bytes have room, of which b and the spelling take some: the place behind them, and the output
+pub field-written : (s out : List ℕ) (n b k : ℕ) {r : ℕ} {p : List ℕ} → length s + 1 ≤ k → n + k ≤ length out → PartTold s (set out n b) (n + 1) r p → (n + 1 + r ≡ n + length (b ∷ s)) × (withPart (set out n b) (n + 1) p ≡ sets out n (b ∷ s)) × (n + 1 + r ≤ n + k)
+field-written s out n b k few room told =
+    let w = byte-part-written s out n b (omega arith) told in
+    (omega (arith, w .0), w .1, omega (arith, w .0))
+
 -- What is left to write: the output `out` with `rest` written at `place` is the output `out₀` with `whole` written at `at`.
 pub record Remaining (out₀ : List ℕ) (at : ℕ) (whole out : List ℕ) (place : ℕ) (rest : List ℕ) : Type 0 where
   pub same : length out ≡ length out₀

@@ -5,29 +5,32 @@ use mathlib.Core.Path.{_≡_, refl}
 use mathlib.Core.List.{List, [], _∷_}
 use lib.IntN.{pos, negsuc}
 use Rattle.text.specs.Quoted.{bytes, tabbed, unended, text}
-use Rattle.decimal.specs.Spelling.{digitsWithin, spelledNumber, spelled}
+use Rattle.decimal.specs.Spelling.{digitsWithin, spelledNumber, spelledLength, signed}
 use Rattle.model.specs.Order.{Row, row, none}
 use Rattle.text.specs.Text.{split, lines}
-use Rattle.printing.specs.Listing.{numbersText, rowTexts, listingText, rowsListed, refusalText}
+use Rattle.printing.specs.Listing.{rowTexts, listingText, rowsListed, refusalText}
 use Rattle.printing.specs.Report.{tallyTexts, reportText}
 
--- an event, the first and the last instant, and an `or` with its right arm
+-- an event, the first and the last instant, an `or` with its right arm, and half a millisecond on either side of the trigger
 abbrev rows : List Row
 rows =
-    row 0 (pos 1) none (negsuc 1) (negsuc 1) ∷
+    row 0 (pos 1) none (negsuc 19) (negsuc 19) ∷
     row 31 (pos 1000000) none (negsuc 999999999) (pos 1000000000) ∷
-    row 5 none (pos 65534) (pos 0) (pos 10) ∷ []
+    row 5 none (pos 65534) (pos 0) (pos 10) ∷
+    row 6 (pos 0) (pos 1) (negsuc 4) (pos 5) ∷ []
 
 -- "tabs shown as spaces"
 abbrev printed : List ℕ
 printed = text (
     "row entry left right start end" ∷
-    "0 0 1 -1 -2 -2" ∷
-    "1 31 1000000 -1 -1000000000 1000000000" ∷
-    "2 5 -1 65534 0 10" ∷ [])
+    "0 0 1 -1 -2.0 -2.0" ∷
+    "1 31 1000000 -1 -100000000.0 100000000.0" ∷
+    "2 5 -1 65534 0.0 1.0" ∷
+    "3 6 0 1 -0.5 0.5" ∷ [])
 
+-- "P1's `-2` becomes `-2.0`"
 listing : listingText rows ∷ listingText [] ∷ [] ≡ printed ∷ text ("row entry left right start end" ∷ []) ∷ []
-unfolding bytes tabbed unended text digitsWithin spelledNumber spelled numbersText rowTexts
+unfolding bytes tabbed unended text digitsWithin spelledNumber spelledLength signed rowTexts
 listing = refl
 
 -- "`refused`, number, line of the whole input"
@@ -42,6 +45,6 @@ unfolding bytes tabbed unended text digitsWithin spelledNumber tallyTexts
 report = refl
 
 -- "the rows that a listing prints": the first line is none of them
-listed : rowsListed printed ∷ rowsListed (text ("row entry left right start end" ∷ [])) ∷ [] ≡ 3 ∷ 0 ∷ []
+listed : rowsListed printed ∷ rowsListed (text ("row entry left right start end" ∷ [])) ∷ [] ≡ 4 ∷ 0 ∷ []
 unfolding bytes tabbed unended text split lines
 listed = refl

@@ -6,24 +6,24 @@ use native.Mathlib.Numerals.{add-one}
 use mathlib.Core.Path.{_≡_, refl, sym, ap, _∙_}
 use mathlib.Core.Bool.{Bool, true, false}
 use mathlib.Core.List.{List, [], _∷_, _++_}
-use lib.IntN.{ℤ, pos}
+use lib.IntN.{ℤ}
 use lib.ListN.{length, getD, take, drop, length-append, drop-of-length-le}
-use lib.Seq.{sets, drop-cons, drop-drop, take-append-seam}
+use lib.Seq.{sets, drop-cons, drop-drop, take-append-seam, getD-drop}
 use borrow.Author.Tests.{le-leb, lt-leb}
-use Rattle.decimal.specs.Spelling.{spelledNumber, spelled}
+use Rattle.decimal.specs.Spelling.{spelledNumber}
 use Rattle.decimal.proofs.Laws.{wide-digits-most}
 use Rattle.decimal.proofs.Written.{front-written}
 use Rattle.model.specs.Order.{Row}
-use Rattle.table.specs.Table.{cellsOf, flat}
+use Rattle.table.specs.Table.{storedRow, flat}
 use Rattle.table.proofs.Rows.{flat-on}
-use Rattle.printing.specs.Listing.{title, numbersText, rowText, rowTexts, listingText, tableRows, tableText, lastField, lengthWhere, outputWhere, listingFits, refusalFits}
-use Rattle.printing.specs.Report.{tallyTexts, reportFits}
+use Rattle.printing.specs.Listing.{title, rowText, storedOf, rowTexts, listingText, tableRows, tableText, lastField, titleBytes, rowBytes, refusalBytes, lengthWhere, outputWhere, listingFits, refusalFits}
+use Rattle.printing.specs.Report.{tallyTexts, tallyBytes, totalBytes, reportFits}
 
 -- For callers. The rows of a table, and numbers behind them that are not printed.
 table-rows : (n : ℕ) (rs : List Row) (u : List ℤ) → tableRows n (length rs) (flat rs ++ u) ≡ rowTexts n rs
 unfolding tableRows rowTexts
 table-rows n [] u = refl
-table-rows n (r ∷ rs) u = rw (flat-on r rs) (ap (λ (l : List ℕ). rowText n (cellsOf r) ++ l) (table-rows (suc n) rs u))
+table-rows n (r ∷ rs) u = rw (flat-on r rs) (ap (λ (l : List ℕ). rowText n (storedOf r) ++ l) (table-rows (suc n) rs u))
 
 pub table-listing : (rs : List Row) (u : List ℤ) → tableText (length rs) (flat rs ++ u) ≡ listingText rs
 table-listing rs u = ap (λ (l : List ℕ). title ++ l) (table-rows _ rs u)
@@ -64,33 +64,33 @@ front-within false s out e = omega arith
 
 -- When there is room.
 module _ (rows : ℕ) (t : List ℤ) (out : List ℕ) where
-  pub listing-fits : rows * 5 ≤ length t → 31 + rows * 81 ≤ length out → listingFits rows t out ≡ true
+  pub listing-fits : rows * 5 ≤ length t → titleBytes + rows * rowBytes ≤ length out → listingFits rows t out ≡ true
   unfolding listingFits
-  listing-fits h k = rw (le-leb (rows * 5) (length t) h, le-leb (31 + rows * 81) (length out) k)
+  listing-fits h k = rw (le-leb (rows * 5) (length t) h, le-leb (titleBytes + rows * rowBytes) (length out) k)
 
   pub listing-few-rows : length t < rows * 5 → listingFits rows t out ≡ false
   unfolding listingFits
   listing-few-rows h = rw (lt-leb (rows * 5) (length t) h)
 
-  pub listing-short : rows * 5 ≤ length t → length out < 31 + rows * 81 → listingFits rows t out ≡ false
+  pub listing-short : rows * 5 ≤ length t → length out < titleBytes + rows * rowBytes → listingFits rows t out ≡ false
   unfolding listingFits
-  listing-short h k = rw (le-leb (rows * 5) (length t) h, lt-leb (31 + rows * 81) (length out) k)
+  listing-short h k = rw (le-leb (rows * 5) (length t) h, lt-leb (titleBytes + rows * rowBytes) (length out) k)
 
-pub refusal-fits : (out : List ℕ) → 40 ≤ length out → refusalFits out ≡ true
+pub refusal-fits : (out : List ℕ) → refusalBytes ≤ length out → refusalFits out ≡ true
 unfolding refusalFits
-refusal-fits out h = le-leb 40 (length out) h
+refusal-fits out h = le-leb refusalBytes (length out) h
 
-pub refusal-short : (out : List ℕ) → length out < 40 → refusalFits out ≡ false
+pub refusal-short : (out : List ℕ) → length out < refusalBytes → refusalFits out ≡ false
 unfolding refusalFits
-refusal-short out h = lt-leb 40 (length out) h
+refusal-short out h = lt-leb refusalBytes (length out) h
 
-pub report-fits : (tallies out : List ℕ) → 27 + length tallies * 42 ≤ length out → reportFits tallies out ≡ true
+pub report-fits : (tallies out : List ℕ) → totalBytes + length tallies * tallyBytes ≤ length out → reportFits tallies out ≡ true
 unfolding reportFits
-report-fits tallies out h = le-leb (27 + length tallies * 42) (length out) h
+report-fits tallies out h = le-leb (totalBytes + length tallies * tallyBytes) (length out) h
 
-pub report-short : (tallies out : List ℕ) → length out < 27 + length tallies * 42 → reportFits tallies out ≡ false
+pub report-short : (tallies out : List ℕ) → length out < totalBytes + length tallies * tallyBytes → reportFits tallies out ≡ false
 unfolding reportFits
-report-short tallies out h = lt-leb (27 + length tallies * 42) (length out) h
+report-short tallies out h = lt-leb (totalBytes + length tallies * tallyBytes) (length out) h
 
 -- a number of 64 bits that ends its line
 pub last-field-most : (n : ℕ) → n < 2 ^ 64 → length (lastField n) ≤ 22
@@ -105,28 +105,24 @@ pub tallies-done : (ns : List ℕ) (e : ℕ) → length ns ≤ e → tallyTexts 
 unfolding tallyTexts
 tallies-done ns e h = rw (drop-of-length-le ns h)
 
--- What is left of the numbers of a line, and of the rows of a table, from place i on.
-pub numbers-more : (xs : List ℤ) (i : ℕ) → i < length xs → numbersText (drop i xs) ≡ (9 ∷ spelled (getD xs i (pos 0))) ++ numbersText (drop (i + 1) xs)
-unfolding numbersText
-numbers-more xs i h = rw (add-one i, drop-cons xs i (pos 0) h)
-
-pub numbers-done : (xs : List ℤ) (i : ℕ) → length xs ≤ i → numbersText (drop i xs) ≡ 10 ∷ []
-unfolding numbersText
-numbers-done xs i h = rw (drop-of-length-le xs h)
-
+-- What is left of the rows of a table from row i on.
 module _ (rows : ℕ) (t : List ℤ) (i : ℕ) where
   -- the lines of the rows from row i on
   abbrev pub rowsFrom : List ℕ
   rowsFrom = tableRows i (rows - i) (drop (i * 5) t)
 
-rows-step : (n m k : ℕ) (t : List ℤ) (a : ℕ) → m ≡ suc k → tableRows n m (drop a t) ≡ rowText n (take 5 (drop a t)) ++ tableRows (suc n) k (drop (a + 5) t)
+rows-step : (n m k : ℕ) (t : List ℤ) (a : ℕ) → m ≡ suc k → tableRows n m (drop a t) ≡ rowText n (storedRow (drop a t) 0) ++ tableRows (suc n) k (drop (a + 5) t)
 unfolding tableRows
 rows-step n m k t a e = rw (e, ← drop-drop 5 a t)
 
-pub rows-more : (rows : ℕ) (t : List ℤ) (i : ℕ) → i < rows → rowsFrom rows t i ≡ rowText i (take 5 (drop (i * 5) t)) ++ rowsFrom rows t (i + 1)
+row-there : (t : List ℤ) (i : ℕ) → storedRow (drop (i * 5) t) 0 ≡ storedRow t i
+row-there t i = simp getD-drop
+
+pub rows-more : (rows : ℕ) (t : List ℤ) (i : ℕ) → i < rows → rowsFrom rows t i ≡ rowText i (storedRow t i) ++ rowsFrom rows t (i + 1)
 rows-more rows t i h =
     let next : i * 5 + 5 ≡ suc i * 5 = omega arith in
-    rows-step i (rows - i) (rows - suc i) t (i * 5) (omega arith) ∙ rw (next, add-one i)
+    rows-step i (rows - i) (rows - suc i) t (i * 5) (omega arith)
+    ∙ rw (next, add-one i) (ap (λ r. rowText i r ++ tableRows (suc i) (rows - suc i) (drop (suc i * 5) t)) (row-there t i))
 
 rows-none : (n m : ℕ) (t : List ℤ) → m ≡ 0 → tableRows n m t ≡ []
 unfolding tableRows

@@ -4,12 +4,13 @@ use Prim.Native.Nat.{ℕ, zero, suc, _+_, _*_}
 use mathlib.Core.Bool.{Bool, cond, _&&_}
 use mathlib.Core.List.{List, [], _∷_, _++_}
 use lib.Dec.{leb}
-use lib.IntN.{ℤ}
-use lib.ListN.{length, take, drop}
+use lib.IntN.{ℤ, pos}
+use lib.ListN.{length, drop}
 use Rattle.text.specs.Text.{lines}
-use Rattle.decimal.specs.Spelling.{spelledNumber, spelled}
+use Rattle.decimal.specs.Spelling.{spelledNumber, spelled, spelledInstant}
 use Rattle.model.specs.Order.{Row}
-use Rattle.table.specs.Table.{cellsOf}
+use Rattle.table.specs.Table.{storedRow}
+use Rattle.table.specs.declared.Row as stored
 
 -- the first line: `row`, `entry`, `left`, `right`, `start`, `end`
 abbrev pub title : List ℕ
@@ -21,19 +22,24 @@ title =
     115 ∷ 116 ∷ 97 ∷ 114 ∷ 116 ∷ 9 ∷
     101 ∷ 110 ∷ 100 ∷ 10 ∷ []
 
--- the numbers of a line behind the first, each with its tab before it, and the end of the line
-unfoldable pub numbersText : List ℤ → List ℕ
-numbersText [] = 10 ∷ []
-numbersText (z ∷ zs) = (9 ∷ spelled z) ++ numbersText zs
+-- the line of a row: its number; entry, left and right, whole numbers; start and end, instants with "one digit after" the point (request N11)
+abbrev pub rowText : ℕ → stored.Row → List ℕ
+rowText n r =
+    spelledNumber n ++
+    ((9 ∷ spelled (r .entry)) ++
+    ((9 ∷ spelled (r .left)) ++
+    ((9 ∷ spelled (r .right)) ++
+    ((9 ∷ spelledInstant (r .start)) ++
+    ((9 ∷ spelledInstant (r .end)) ++ (10 ∷ []))))))
 
--- the line of a row: its number and the numbers it has
-abbrev pub rowText : ℕ → List ℤ → List ℕ
-rowText n zs = spelledNumber n ++ numbersText zs
+-- a row of the model as a table has it
+abbrev pub storedOf : Row → stored.Row
+storedOf r = record { entry = pos (r .entry); left = r .left; right = r .right; start = r .start; end = r .end }
 
 -- the lines of rows, numbered from n on
 unfoldable pub rowTexts : ℕ → List Row → List ℕ
 rowTexts n [] = []
-rowTexts n (r ∷ rs) = rowText n (cellsOf r) ++ rowTexts (suc n) rs
+rowTexts n (r ∷ rs) = rowText n (storedOf r) ++ rowTexts (suc n) rs
 
 -- the listing of rows
 abbrev pub listingText : List Row → List ℕ
@@ -42,7 +48,7 @@ listingText rs = title ++ rowTexts 0 rs
 -- The same from a table: the lines of its first k rows, numbered from n on, and the listing of its first rows.
 unfoldable pub tableRows : ℕ → ℕ → List ℤ → List ℕ
 tableRows n zero t = []
-tableRows n (suc k) t = rowText n (take 5 t) ++ tableRows (suc n) k (drop 5 t)
+tableRows n (suc k) t = rowText n (storedRow t 0) ++ tableRows (suc n) k (drop 5 t)
 
 abbrev pub tableText : ℕ → List ℤ → List ℕ
 tableText rows t = title ++ tableRows 0 rows t
@@ -71,10 +77,21 @@ lengthWhere room s = cond room (length s) 0
 unfoldable pub outputWhere : Bool → List ℕ → List ℕ → List ℕ
 outputWhere room s out = cond room (s ++ drop (length s) out) out
 
--- A listing is written where the table has the rows and the output has room for them however large their numbers are: 31 bytes for the
--- first line, and 81 for each row, of which its number takes 20, each of its five numbers 12 with the tab, and the end of the line 1.
+-- The most bytes that a line takes, however large its numbers are: the first line; a row, of which its number takes 20, each of the three whole numbers 12 with
+-- its tab, each of the two instants 13, and the end of the line 1; and the line of a refusal, 7 for the word, 11 for the number and 21 for the line with their
+-- tabs, and 1 for its end.
+abbrev pub titleBytes : ℕ
+titleBytes = 31
+
+abbrev pub rowBytes : ℕ
+rowBytes = 20 + 3 * 12 + 2 * 13 + 1
+
+abbrev pub refusalBytes : ℕ
+refusalBytes = 7 + 11 + 21 + 1
+
+-- A listing is written where the table has the rows and the output has room for the longest of as many.
 unfoldable pub listingFits : ℕ → List ℤ → List ℕ → Bool
-listingFits rows t out = leb (rows * 5) (length t) && leb (31 + rows * 81) (length out)
+listingFits rows t out = leb (rows * 5) (length t) && leb (titleBytes + rows * rowBytes) (length out)
 
 abbrev pub listingLength : ℕ → List ℤ → List ℕ → ℕ
 listingLength rows t out = lengthWhere (listingFits rows t out) (tableText rows t)
@@ -82,10 +99,9 @@ listingLength rows t out = lengthWhere (listingFits rows t out) (tableText rows 
 abbrev pub listingOutput : ℕ → List ℤ → List ℕ → List ℕ
 listingOutput rows t out = outputWhere (listingFits rows t out) (tableText rows t) out
 
--- A refusal is written where the output has room for the longest: 7 bytes for the word, 11 for the number and 21 for the line with their
--- tabs, and 1 for the end of the line.
+-- A refusal is written where the output has room for the longest.
 unfoldable pub refusalFits : List ℕ → Bool
-refusalFits out = leb 40 (length out)
+refusalFits out = leb refusalBytes (length out)
 
 abbrev pub refusalLength : ℕ → ℕ → List ℕ → ℕ
 refusalLength number line out = lengthWhere (refusalFits out) (refusalText number line)

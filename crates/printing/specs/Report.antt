@@ -20,10 +20,16 @@ totalWord = 116 ∷ 111 ∷ 116 ∷ 97 ∷ 108 ∷ []
 abbrev pub reportText : List ℕ → ℕ → List ℕ
 reportText tallies total = tallyTexts 0 tallies ++ (totalWord ++ lastField total)
 
--- A report is written where the output has room for it however large its numbers are: 42 bytes for each entry, of which its number takes 20, its rows' 21 with
--- the tab and the end of the line 1, and 27 for the total: 5 for the word, 21 and 1.
+-- The most bytes that a line takes: of an entry, its number 20, its rows' 21 with the tab and the end of the line 1; of the total 5 for the word, 21 and 1.
+abbrev pub tallyBytes : ℕ
+tallyBytes = 20 + 21 + 1
+
+abbrev pub totalBytes : ℕ
+totalBytes = 5 + 21 + 1
+
+-- A report is written where the output has room for the longest of as many entries.
 unfoldable pub reportFits : List ℕ → List ℕ → Bool
-reportFits tallies out = leb (27 + length tallies * 42) (length out)
+reportFits tallies out = leb (totalBytes + length tallies * tallyBytes) (length out)
 
 abbrev pub reportLength : List ℕ → ℕ → List ℕ → ℕ
 reportLength tallies total out = lengthWhere (reportFits tallies out) (reportText tallies total)

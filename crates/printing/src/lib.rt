@@ -3,11 +3,23 @@
 ghost use mathlib.Core.Path.{_≡_};
 ghost use mathlib.Core.List.{_∷_, _++_};
 ghost use Prim.Native.Nat.{_+_, _*_, _≤_};
-ghost use lib.ListN.{length, take, drop};
+ghost use lib.ListN.{length};
 ghost use lib.Seq.{sets};
-ghost use Rattle.decimal.specs.Spelling.{spelledNumber, spelled};
-ghost use Rattle.printing.specs.Listing.{numbersText, rowText, tableRows, lastField, listingLength, listingOutput, refusalLength, refusalOutput};
-ghost use Rattle.printing.specs.Report.{tallyTexts, reportLength, reportOutput};
+ghost use Rattle.decimal.specs.Spelling.{spelledNumber, spelled, spelledInstant};
+ghost use Rattle.printing.specs.Listing.{rowText, tableRows, lastField, rowBytes, listingLength, listingOutput, refusalLength, refusalOutput};
+ghost use Rattle.printing.specs.Report.{tallyTexts, tallyBytes, reportLength, reportOutput};
+use table::Row;
+
+// The most bytes that the lines of a listing, of a report and of a refusal take, however large their numbers are: what an output needs follows from these.
+pub const TITLE_BYTES: usize = 31;
+
+pub const ROW_BYTES: usize = 83;
+
+pub const TALLY_BYTES: usize = 42;
+
+pub const TOTAL_BYTES: usize = 27;
+
+pub const REFUSAL_BYTES: usize = 40;
 
 // The first line of a listing.
 const TITLE: [u8; 31] = *b"row\tentry\tleft\tright\tstart\tend\n";
@@ -19,18 +31,18 @@ const TOTAL: [u8; 5] = *b"total";
 const REFUSED: [u8; 7] = *b"refused";
 
 // Writes the listing of the table's first rows at the front of the output and returns the number of bytes. Where the table has fewer
-// rows, or the output less than 31 bytes and 81 for each row, it writes nothing and returns 0. Each byte is written once, with one
-// division by 10 for each digit but the first of a number.
+// rows, or the output no room for the first line and the longest of each row, it writes nothing and returns 0. Each byte is written
+// once, with one division by 10 for each digit but the first of a number.
 pub fn write_listing(table: &[i32], rows: usize, out: &mut [u8]) -> usize
     ensures { λ r. ⌜ (r ≡ listingLength rows (now (table .entry)) (now (out .entry))) × (now (out .exit) ≡ listingOutput rows (now (table .entry)) (now (out .entry))) ⌝ }
 {
     if table.len() / 5 < rows {
         return 0;
     }
-    if out.len() < 31 {
+    if out.len() < TITLE_BYTES {
         return 0;
     }
-    if (out.len() - 31) / 81 < rows {
+    if (out.len() - TITLE_BYTES) / ROW_BYTES < rows {
         return 0;
     }
     let title = TITLE;
@@ -38,12 +50,12 @@ pub fn write_listing(table: &[i32], rows: usize, out: &mut [u8]) -> usize
     write_rows(table, rows, out, at)
 }
 
-// Writes the line of a refusal at the front of the output and returns the number of bytes. Where the output has less than 40 bytes it
-// writes nothing and returns 0. Each byte is written once, with one division by 10 for each digit but the first of a number.
+// Writes the line of a refusal at the front of the output and returns the number of bytes. Where the output has no room for
+// the longest it writes nothing and returns 0. Each byte is written once, with one division by 10 for each digit but the first of a number.
 pub fn write_refusal(number: u32, line: u64, out: &mut [u8]) -> usize
     ensures { λ r. ⌜ (r ≡ refusalLength number line (now (out .entry))) × (now (out .exit) ≡ refusalOutput number line (now (out .entry))) ⌝ }
 {
-    if out.len() < 40 {
+    if out.len() < REFUSAL_BYTES {
         return 0;
     }
     let word = REFUSED;
@@ -53,15 +65,15 @@ pub fn write_refusal(number: u32, line: u64, out: &mut [u8]) -> usize
 }
 
 // Writes the lines of a report at the front of the output and returns the number of bytes: of each entry, which has so many rows, and of the total. Where the
-// output has less than 27 bytes and 42 for each entry, it writes nothing and returns 0. Each byte is written once, with one division by 10 for each digit but
+// output has no room for the longest line of each entry and of the total, it writes nothing and returns 0. Each byte is written once, with one division by 10 for each digit but
 // the first of a number.
 pub fn write_report(tallies: &[usize], total: usize, out: &mut [u8]) -> usize
     ensures { λ r. ⌜ (r ≡ reportLength (now (tallies .entry)) total (now (out .entry))) × (now (out .exit) ≡ reportOutput (now (tallies .entry)) total (now (out .entry))) ⌝ }
 {
-    if out.len() < 27 {
+    if out.len() < TOTAL_BYTES {
         return 0;
     }
-    if (out.len() - 27) / 42 < tallies.len() {
+    if (out.len() - TOTAL_BYTES) / TALLY_BYTES < tallies.len() {
         return 0;
     }
     let a = write_tallies(tallies, out);
@@ -72,8 +84,8 @@ pub fn write_report(tallies: &[usize], total: usize, out: &mut [u8]) -> usize
 
 // Writes the lines of the entries at the front of the output. Each byte is written once.
 fn write_tallies(tallies: &[usize], out: &mut [u8]) -> usize
-    requires { ⌜ length (now tallies) * 42 ≤ length (now out) ⌝ }
-    ensures { λ r. ⌜ (r ≡ length (tallyTexts 0 (now (tallies .entry)))) × (now (out .exit) ≡ sets (now (out .entry)) 0 (tallyTexts 0 (now (tallies .entry)))) × (r ≤ length (now (tallies .entry)) * 42) ⌝ }
+    requires { ⌜ length (now tallies) * tallyBytes ≤ length (now out) ⌝ }
+    ensures { λ r. ⌜ (r ≡ length (tallyTexts 0 (now (tallies .entry)))) × (now (out .exit) ≡ sets (now (out .entry)) 0 (tallyTexts 0 (now (tallies .entry)))) × (r ≤ length (now (tallies .entry)) * tallyBytes) ⌝ }
 {
     let mut place: usize = 0;
     let mut e: usize = 0;
@@ -87,8 +99,8 @@ fn write_tallies(tallies: &[usize], out: &mut [u8]) -> usize
 
 // Writes the line of entry e, which has n rows. Each byte is written once.
 fn write_tally(e: usize, n: usize, out: &mut [u8], at: usize) -> usize
-    requires { ⌜ at + 42 ≤ length (now out) ⌝ }
-    ensures { λ r. ⌜ (r ≡ at + length (spelledNumber e ++ lastField n)) × (now (out .exit) ≡ sets (now (out .entry)) at (spelledNumber e ++ lastField n)) × (r ≤ at + 42) ⌝ }
+    requires { ⌜ at + tallyBytes ≤ length (now out) ⌝ }
+    ensures { λ r. ⌜ (r ≡ at + length (spelledNumber e ++ lastField n)) × (now (out .exit) ≡ sets (now (out .entry)) at (spelledNumber e ++ lastField n)) × (r ≤ at + tallyBytes) ⌝ }
 {
     let behind = write_number(e as u64, out, at);
     write_last_field(n as u64, out, behind)
@@ -96,43 +108,32 @@ fn write_tally(e: usize, n: usize, out: &mut [u8], at: usize) -> usize
 
 // Writes the lines of the first rows. Each byte is written once.
 fn write_rows(table: &[i32], rows: usize, out: &mut [u8], at: usize) -> usize
-    requires { ⌜ (rows * 5 ≤ length (now table)) × (at + rows * 81 ≤ length (now out)) ⌝ }
-    ensures { λ r. ⌜ (r ≡ at + length (tableRows 0 rows (now (table .entry)))) × (now (out .exit) ≡ sets (now (out .entry)) at (tableRows 0 rows (now (table .entry)))) × (r ≤ at + rows * 81) ⌝ }
+    requires { ⌜ (rows * 5 ≤ length (now table)) × (at + rows * rowBytes ≤ length (now out)) ⌝ }
+    ensures { λ r. ⌜ (r ≡ at + length (tableRows 0 rows (now (table .entry)))) × (now (out .exit) ≡ sets (now (out .entry)) at (tableRows 0 rows (now (table .entry)))) × (r ≤ at + rows * rowBytes) ⌝ }
 {
     let mut place = at;
     let mut i: usize = 0;
     while i < rows {
-        place = write_row(table, i, out, place);
+        let row = table::row_at(table, i);
+        place = write_row(row, i, out, place);
         i += 1;
     }
     place
 }
 
-// Writes the line of row i: its number and its five numbers. Each byte is written once.
-fn write_row(table: &[i32], i: usize, out: &mut [u8], at: usize) -> usize
-    requires { ⌜ (i * 5 + 5 ≤ length (now table)) × (at + 81 ≤ length (now out)) ⌝ }
-    ensures { λ r. ⌜ (r ≡ at + length (rowText i (take 5 (drop (i * 5) (now (table .entry)))))) × (now (out .exit) ≡ sets (now (out .entry)) at (rowText i (take 5 (drop (i * 5) (now (table .entry)))))) × (r ≤ at + 81) ⌝ }
+// Writes the line of row i. Each byte is written once.
+fn write_row(row: Row, i: usize, out: &mut [u8], at: usize) -> usize
+    requires { ⌜ at + rowBytes ≤ length (now out) ⌝ }
+    ensures { λ r. ⌜ (r ≡ at + length (rowText i row)) × (now (out .exit) ≡ sets (now (out .entry)) at (rowText i row)) × (r ≤ at + rowBytes) ⌝ }
 {
-    let from = i * 5;
-    let end = from + 5;
-    let behind = write_number(i as u64, out, at);
-    write_numbers(&table[from..end], out, behind)
-}
-
-// Writes each number behind a tab, and then the end of the line. Each byte is written once.
-fn write_numbers(xs: &[i32], out: &mut [u8], at: usize) -> usize
-    requires { ⌜ at + length (now xs) * 12 + 1 ≤ length (now out) ⌝ }
-    ensures { λ r. ⌜ (r ≡ at + length (numbersText (now (xs .entry)))) × (now (out .exit) ≡ sets (now (out .entry)) at (numbersText (now (xs .entry)))) × (r ≤ at + length (now (xs .entry)) * 12 + 1) ⌝ }
-{
-    let mut place = at;
-    let mut i: usize = 0;
-    while i < xs.len() {
-        let x = xs[i];
-        place = write_integer_field(x, out, place);
-        i += 1;
-    }
-    out[place] = b'\n';
-    place + 1
+    let number = write_number(i as u64, out, at);
+    let entry = write_integer_field(row.entry, out, number);
+    let left = write_integer_field(row.left, out, entry);
+    let right = write_integer_field(row.right, out, left);
+    let start = write_instant_field(row.start, out, right);
+    let end = write_instant_field(row.end, out, start);
+    out[end] = b'\n';
+    end + 1
 }
 
 // Writes a tab and x. Each byte is written once.
@@ -143,6 +144,17 @@ fn write_integer_field(x: i32, out: &mut [u8], at: usize) -> usize
     out[at] = b'\t';
     let from = at + 1;
     let n = decimal::write_integer(x, &mut out[from..]);
+    from + n
+}
+
+// Writes a tab and the instant x. Each byte is written once.
+fn write_instant_field(x: i32, out: &mut [u8], at: usize) -> usize
+    requires { ⌜ at + 13 ≤ length (now out) ⌝ }
+    ensures { λ r. ⌜ (r ≡ at + length (9 ∷ spelledInstant x)) × (now (out .exit) ≡ sets (now (out .entry)) at (9 ∷ spelledInstant x)) × (r ≤ at + 13) ⌝ }
+{
+    out[at] = b'\t';
+    let from = at + 1;
+    let n = decimal::write_instant(x, &mut out[from..]);
     from + n
 }
 

@@ -4,18 +4,19 @@
 use Prim.Native.Nat.{ℕ, _-_}
 use Prim.Native.String.{String}
 use mathlib.Core.Path.{_≡_, refl}
-use mathlib.Core.Bool.{Bool, true, false}
+use mathlib.Core.Bool.{Bool, true, false, cond}
 use mathlib.Core.List.{List, [], _∷_, _++_, map}
 use lib.IntN.{ℤ, pos, negℤ}
-use lib.ListN.{length, replicate}
+use lib.Dec.{eqb}
+use lib.ListN.{length, getD, drop, replicate}
 use Rattle.interval.specs.Instants.{isInstant, isLength, firstFloor}
 use Rattle.interval.specs.Conditions.{isRelated, hasLength}
 use Rattle.text.specs.Text.{split, lines}
 use Rattle.text.specs.Quoted.{bytes, tabbed, unended, text}
-use Rattle.decimal.specs.Spelling.{isDigit, allDigits, valueFrom, hasLeadingZero, isNumber, numberOf, withoutMinus, withMinus, instantOf}
-use Rattle.decimal.specs.declared.Instant.{Instant}
+use Rattle.decimal.specs.Spelling.{isDigit, allDigits, valueFrom, hasLeadingZero, isNumber, numberOf, millisecondsOf, inTenths, hasPoint, lengthOf}
+use Rattle.decimal.specs.declared.Number.{Number}
 use Rattle.chart.specs.Operators.{words, sameBytes, placeOf, operatorOf, edgesOf, relationOf, lengthTestOf, kindOf, inRange, areLower}
-use Rattle.chart.specs.Records.{withCode, eventLine, withOperands, secondOperand, operandsLine, byOperator, operatorLine, numbered, parsedLine, checkedEntry, checkedLine, answerTo}
+use Rattle.chart.specs.Records.{withCode, eventLine, withOperands, secondOf, secondOperand, operandsLine, byOperator, operatorLine, numbered, parsedLine, checkedEntry, checkedLine, answerTo}
 use Rattle.chart.specs.Charts.{noEntries, withEntry, refusedChart, readLines, orNoLine, readChart, allBelow}
 use Rattle.chart.specs.declared.Chart.{Chart}
 use Rattle.state.specs.declared.WatchState.{WatchState}
@@ -30,13 +31,16 @@ use Rattle.consistency.specs.Consistency.{isWatchInRange, isTableRowCons
 abbrev pub chartOf : List String → Chart
 chartOf ls = (readChart (text ls)) .chart
 
--- a table, from its rows as document 01 shows them
-abbrev pub numberIn : Instant → ℤ
-numberIn (Instant.Value z) = z
-numberIn Instant.Malformed = pos 0
+-- a table, from its rows' numbers, of which start and end are tenths
+abbrev pub numberIn : Number → ℤ
+numberIn (Number.Value n) = pos n
+numberIn Number.Malformed = pos 0
+
+abbrev pub integerIn : List ℕ → ℤ
+integerIn s = cond (eqb (getD s 0 0) 45) (negℤ (numberIn (numberOf (drop 1 s)))) (numberIn (numberOf s))
 
 abbrev pub table : List String → List ℤ
-table rs = each (λ (r : String). map (λ (f : List ℕ). numberIn (instantOf f)) (split 9 (unended r))) rs
+table rs = each (λ (r : String). map integerIn (split 9 (unended r))) rs
 
 abbrev pub minus : ℕ → ℤ
 minus n = negℤ (pos n)
@@ -110,7 +114,7 @@ entries =
     counting : ℕ → String → Bool → Case
     counting n s b = record { chart = chartOf ("0 event 1" ∷ "1 event 2" ∷ "2 seq 0 1" ∷ []); state = stateOf (pos 3) (pos 0) 0 0 0 n (table (s ∷ [])); table = []; consistent = b }
 
--- Rows. There are four events, of codes 1 and 2 at 0 and again at 5; the floor is -1 and the open instant 7. Five rows stand in front of the one that is
+-- Rows. Instants and lengths are in tenths. There are four events, of codes 1 and 2 at 0 and again at 5; the floor is -1 and the open instant 7. Five rows stand in front of the one that is
 -- looked at: four of events, and one of `seq`, from 0 to 5. Behind it is an unused one.
 abbrev chart12 : Chart
 chart12 = chartOf (
@@ -119,11 +123,11 @@ chart12 = chartOf (
     "2 seq 0 1" ∷
     "3 or 0 1" ∷
     "4 -[] 2 1" ∷
-    "5 atmost 2 5" ∷
-    "6 atmost 2 4" ∷
+    "5 atmost 2 0.5" ∷
+    "6 atmost 2 0.4" ∷
     "7 after 2 0" ∷
-    "8 after 2 1" ∷
-    "9 after 0 5" ∷
+    "8 after 2 0.1" ∷
+    "9 after 0 0.5" ∷
     "10 cut 0 1" ∷
     "11 change 0 1" ∷ [])
 
@@ -211,5 +215,5 @@ unfoldable pub cases : List Case
 cases = watches ++ sizes ++ entries ++ rows
 
 pub examples : map (λ (c : Case). areConsistent (c .chart) (c .state) (c .table)) cases ≡ map (λ (c : Case). c .consistent) cases
-unfolding cases isInstant isLength firstFloor isRelated hasLength split lines bytes tabbed unended text isDigit allDigits valueFrom hasLeadingZero isNumber numberOf withoutMinus withMinus instantOf words sameBytes placeOf operatorOf edgesOf relationOf lengthTestOf kindOf inRange areLower withCode eventLine withOperands secondOperand operandsLine byOperator operatorLine numbered parsedLine checkedEntry checkedLine answerTo noEntries withEntry refusedChart readLines orNoLine readChart allBelow capacity isRising rowsIn areZeros operatorBy operatorsOf isWatchInRange isTableRowConsistent areConsistent
+unfolding cases isInstant isLength firstFloor isRelated hasLength split lines bytes tabbed unended text isDigit allDigits valueFrom hasLeadingZero isNumber numberOf millisecondsOf inTenths hasPoint lengthOf words sameBytes placeOf operatorOf edgesOf relationOf lengthTestOf kindOf inRange areLower withCode eventLine withOperands secondOf secondOperand operandsLine byOperator operatorLine numbered parsedLine checkedEntry checkedLine answerTo noEntries withEntry refusedChart readLines orNoLine readChart allBelow capacity isRising rowsIn areZeros operatorBy operatorsOf isWatchInRange isTableRowConsistent areConsistent
 examples = refl

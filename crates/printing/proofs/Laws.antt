@@ -16,8 +16,8 @@ use Rattle.decimal.proofs.Written.{front-written}
 use Rattle.model.specs.Order.{Row}
 use Rattle.table.specs.Table.{storedRow, flat}
 use Rattle.table.proofs.Rows.{flat-on}
-use Rattle.printing.specs.Listing.{title, rowText, storedOf, rowTexts, listingText, tableRows, tableText, lastField, titleBytes, rowBytes, refusalBytes, lengthWhere, outputWhere, listingFits, refusalFits}
-use Rattle.printing.specs.Report.{tallyTexts, tallyBytes, totalBytes, reportFits}
+use Rattle.printing.specs.Listing.{title, rowText, storedOf, rowTexts, listingText, tableRows, tableText, lastField, titleSize, rowSize, refusalSize, lengthWhere, outputWhere, listingFits, refusalFits}
+use Rattle.printing.specs.Report.{tallyTexts, tallySize, totalSize, reportFits}
 
 -- For callers. The rows of a table, and numbers behind them that are not printed.
 table-rows : (n : ℕ) (rs : List Row) (u : List ℤ) → tableRows n (length rs) (flat rs ++ u) ≡ rowTexts n rs
@@ -64,33 +64,33 @@ front-within false s out e = omega arith
 
 -- When there is room.
 module _ (rows : ℕ) (t : List ℤ) (out : List ℕ) where
-  pub listing-fits : rows * 5 ≤ length t → titleBytes + rows * rowBytes ≤ length out → listingFits rows t out ≡ true
+  pub listing-fits : rows * 5 ≤ length t → titleSize + rows * rowSize ≤ length out → listingFits rows t out ≡ true
   unfolding listingFits
-  listing-fits h k = rw (le-leb (rows * 5) (length t) h, le-leb (titleBytes + rows * rowBytes) (length out) k)
+  listing-fits h k = rw (le-leb (rows * 5) (length t) h, le-leb (titleSize + rows * rowSize) (length out) k)
 
   pub listing-few-rows : length t < rows * 5 → listingFits rows t out ≡ false
   unfolding listingFits
   listing-few-rows h = rw (lt-leb (rows * 5) (length t) h)
 
-  pub listing-short : rows * 5 ≤ length t → length out < titleBytes + rows * rowBytes → listingFits rows t out ≡ false
+  pub listing-short : rows * 5 ≤ length t → length out < titleSize + rows * rowSize → listingFits rows t out ≡ false
   unfolding listingFits
-  listing-short h k = rw (le-leb (rows * 5) (length t) h, lt-leb (titleBytes + rows * rowBytes) (length out) k)
+  listing-short h k = rw (le-leb (rows * 5) (length t) h, lt-leb (titleSize + rows * rowSize) (length out) k)
 
-pub refusal-fits : (out : List ℕ) → refusalBytes ≤ length out → refusalFits out ≡ true
+pub refusal-fits : (out : List ℕ) → refusalSize ≤ length out → refusalFits out ≡ true
 unfolding refusalFits
-refusal-fits out h = le-leb refusalBytes (length out) h
+refusal-fits out h = le-leb refusalSize (length out) h
 
-pub refusal-short : (out : List ℕ) → length out < refusalBytes → refusalFits out ≡ false
+pub refusal-short : (out : List ℕ) → length out < refusalSize → refusalFits out ≡ false
 unfolding refusalFits
-refusal-short out h = lt-leb refusalBytes (length out) h
+refusal-short out h = lt-leb refusalSize (length out) h
 
-pub report-fits : (tallies out : List ℕ) → totalBytes + length tallies * tallyBytes ≤ length out → reportFits tallies out ≡ true
+pub report-fits : (tallies out : List ℕ) → totalSize + length tallies * tallySize ≤ length out → reportFits tallies out ≡ true
 unfolding reportFits
-report-fits tallies out h = le-leb (totalBytes + length tallies * tallyBytes) (length out) h
+report-fits tallies out h = le-leb (totalSize + length tallies * tallySize) (length out) h
 
-pub report-short : (tallies out : List ℕ) → length out < totalBytes + length tallies * tallyBytes → reportFits tallies out ≡ false
+pub report-short : (tallies out : List ℕ) → length out < totalSize + length tallies * tallySize → reportFits tallies out ≡ false
 unfolding reportFits
-report-short tallies out h = lt-leb (totalBytes + length tallies * tallyBytes) (length out) h
+report-short tallies out h = lt-leb (totalSize + length tallies * tallySize) (length out) h
 
 -- a number of 64 bits that ends its line
 pub last-field-most : (n : ℕ) → n < 2 ^ 64 → length (lastField n) ≤ 22

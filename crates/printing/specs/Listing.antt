@@ -80,18 +80,18 @@ outputWhere room s out = cond room (s ++ drop (length s) out) out
 -- The most bytes that a line takes, however large its numbers are: the first line; a row, of which its number takes 20, each of the three whole numbers 12 with
 -- its tab, each of the two instants 13, and the end of the line 1; and the line of a refusal, 7 for the word, 11 for the number and 21 for the line with their
 -- tabs, and 1 for its end.
-abbrev pub titleBytes : ℕ
-titleBytes = 31
+abbrev pub titleSize : ℕ
+titleSize = 31
 
-abbrev pub rowBytes : ℕ
-rowBytes = 20 + 3 * 12 + 2 * 13 + 1
+abbrev pub rowSize : ℕ
+rowSize = 20 + 3 * 12 + 2 * 13 + 1
 
-abbrev pub refusalBytes : ℕ
-refusalBytes = 7 + 11 + 21 + 1
+abbrev pub refusalSize : ℕ
+refusalSize = 7 + 11 + 21 + 1
 
 -- A listing is written where the table has the rows and the output has room for the longest of as many.
 unfoldable pub listingFits : ℕ → List ℤ → List ℕ → Bool
-listingFits rows t out = leb (rows * 5) (length t) && leb (titleBytes + rows * rowBytes) (length out)
+listingFits rows t out = leb (rows * 5) (length t) && leb (titleSize + rows * rowSize) (length out)
 
 abbrev pub listingLength : ℕ → List ℤ → List ℕ → ℕ
 listingLength rows t out = lengthWhere (listingFits rows t out) (tableText rows t)
@@ -101,7 +101,7 @@ listingOutput rows t out = outputWhere (listingFits rows t out) (tableText rows 
 
 -- A refusal is written where the output has room for the longest.
 unfoldable pub refusalFits : List ℕ → Bool
-refusalFits out = leb refusalBytes (length out)
+refusalFits out = leb refusalSize (length out)
 
 abbrev pub refusalLength : ℕ → ℕ → List ℕ → ℕ
 refusalLength number line out = lengthWhere (refusalFits out) (refusalText number line)

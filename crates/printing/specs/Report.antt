@@ -21,15 +21,15 @@ abbrev pub reportText : List ℕ → ℕ → List ℕ
 reportText tallies total = tallyTexts 0 tallies ++ (totalWord ++ lastField total)
 
 -- The most bytes that a line takes: of an entry, its number 20, its rows' 21 with the tab and the end of the line 1; of the total 5 for the word, 21 and 1.
-abbrev pub tallyBytes : ℕ
-tallyBytes = 20 + 21 + 1
+abbrev pub tallySize : ℕ
+tallySize = 20 + 21 + 1
 
-abbrev pub totalBytes : ℕ
-totalBytes = 5 + 21 + 1
+abbrev pub totalSize : ℕ
+totalSize = 5 + 21 + 1
 
 -- A report is written where the output has room for the longest of as many entries.
 unfoldable pub reportFits : List ℕ → List ℕ → Bool
-reportFits tallies out = leb (totalBytes + length tallies * tallyBytes) (length out)
+reportFits tallies out = leb (totalSize + length tallies * tallySize) (length out)
 
 abbrev pub reportLength : List ℕ → ℕ → List ℕ → ℕ
 reportLength tallies total out = lengthWhere (reportFits tallies out) (reportText tallies total)

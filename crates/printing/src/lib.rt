@@ -6,20 +6,20 @@ ghost use Prim.Native.Nat.{_+_, _*_, _≤_};
 ghost use lib.ListN.{length};
 ghost use lib.Seq.{sets};
 ghost use Rattle.decimal.specs.Spelling.{spelledNumber, spelled, spelledInstant};
-ghost use Rattle.printing.specs.Listing.{rowText, tableRows, lastField, rowBytes, listingLength, listingOutput, refusalLength, refusalOutput};
-ghost use Rattle.printing.specs.Report.{tallyTexts, tallyBytes, reportLength, reportOutput};
+ghost use Rattle.printing.specs.Listing.{rowText, tableRows, lastField, rowSize, listingLength, listingOutput, refusalLength, refusalOutput};
+ghost use Rattle.printing.specs.Report.{tallyTexts, tallySize, reportLength, reportOutput};
 use table::Row;
 
 // The most bytes that the lines of a listing, of a report and of a refusal take, however large their numbers are: what an output needs follows from these.
-pub const TITLE_BYTES: usize = 31;
+pub const TITLE_SIZE: usize = 31;
 
-pub const ROW_BYTES: usize = 83;
+pub const ROW_SIZE: usize = 83;
 
-pub const TALLY_BYTES: usize = 42;
+pub const TALLY_SIZE: usize = 42;
 
-pub const TOTAL_BYTES: usize = 27;
+pub const TOTAL_SIZE: usize = 27;
 
-pub const REFUSAL_BYTES: usize = 40;
+pub const REFUSAL_SIZE: usize = 40;
 
 // The first line of a listing.
 const TITLE: [u8; 31] = *b"row\tentry\tleft\tright\tstart\tend\n";
@@ -39,10 +39,10 @@ pub fn write_listing(table: &[i32], rows: usize, out: &mut [u8]) -> usize
     if table.len() / 5 < rows {
         return 0;
     }
-    if out.len() < TITLE_BYTES {
+    if out.len() < TITLE_SIZE {
         return 0;
     }
-    if (out.len() - TITLE_BYTES) / ROW_BYTES < rows {
+    if (out.len() - TITLE_SIZE) / ROW_SIZE < rows {
         return 0;
     }
     let title = TITLE;
@@ -55,7 +55,7 @@ pub fn write_listing(table: &[i32], rows: usize, out: &mut [u8]) -> usize
 pub fn write_refusal(number: u32, line: u64, out: &mut [u8]) -> usize
     ensures { λ r. ⌜ (r ≡ refusalLength number line (now (out .entry))) × (now (out .exit) ≡ refusalOutput number line (now (out .entry))) ⌝ }
 {
-    if out.len() < REFUSAL_BYTES {
+    if out.len() < REFUSAL_SIZE {
         return 0;
     }
     let word = REFUSED;
@@ -70,10 +70,10 @@ pub fn write_refusal(number: u32, line: u64, out: &mut [u8]) -> usize
 pub fn write_report(tallies: &[usize], total: usize, out: &mut [u8]) -> usize
     ensures { λ r. ⌜ (r ≡ reportLength (now (tallies .entry)) total (now (out .entry))) × (now (out .exit) ≡ reportOutput (now (tallies .entry)) total (now (out .entry))) ⌝ }
 {
-    if out.len() < TOTAL_BYTES {
+    if out.len() < TOTAL_SIZE {
         return 0;
     }
-    if (out.len() - TOTAL_BYTES) / TALLY_BYTES < tallies.len() {
+    if (out.len() - TOTAL_SIZE) / TALLY_SIZE < tallies.len() {
         return 0;
     }
     let a = write_tallies(tallies, out);
@@ -84,8 +84,8 @@ pub fn write_report(tallies: &[usize], total: usize, out: &mut [u8]) -> usize
 
 // Writes the lines of the entries at the front of the output. Each byte is written once.
 fn write_tallies(tallies: &[usize], out: &mut [u8]) -> usize
-    requires { ⌜ length (now tallies) * tallyBytes ≤ length (now out) ⌝ }
-    ensures { λ r. ⌜ (r ≡ length (tallyTexts 0 (now (tallies .entry)))) × (now (out .exit) ≡ sets (now (out .entry)) 0 (tallyTexts 0 (now (tallies .entry)))) × (r ≤ length (now (tallies .entry)) * tallyBytes) ⌝ }
+    requires { ⌜ length (now tallies) * tallySize ≤ length (now out) ⌝ }
+    ensures { λ r. ⌜ (r ≡ length (tallyTexts 0 (now (tallies .entry)))) × (now (out .exit) ≡ sets (now (out .entry)) 0 (tallyTexts 0 (now (tallies .entry)))) × (r ≤ length (now (tallies .entry)) * tallySize) ⌝ }
 {
     let mut place: usize = 0;
     let mut e: usize = 0;
@@ -99,8 +99,8 @@ fn write_tallies(tallies: &[usize], out: &mut [u8]) -> usize
 
 // Writes the line of entry e, which has n rows. Each byte is written once.
 fn write_tally(e: usize, n: usize, out: &mut [u8], at: usize) -> usize
-    requires { ⌜ at + tallyBytes ≤ length (now out) ⌝ }
-    ensures { λ r. ⌜ (r ≡ at + length (spelledNumber e ++ lastField n)) × (now (out .exit) ≡ sets (now (out .entry)) at (spelledNumber e ++ lastField n)) × (r ≤ at + tallyBytes) ⌝ }
+    requires { ⌜ at + tallySize ≤ length (now out) ⌝ }
+    ensures { λ r. ⌜ (r ≡ at + length (spelledNumber e ++ lastField n)) × (now (out .exit) ≡ sets (now (out .entry)) at (spelledNumber e ++ lastField n)) × (r ≤ at + tallySize) ⌝ }
 {
     let behind = write_number(e as u64, out, at);
     write_last_field(n as u64, out, behind)
@@ -108,8 +108,8 @@ fn write_tally(e: usize, n: usize, out: &mut [u8], at: usize) -> usize
 
 // Writes the lines of the first rows. Each byte is written once.
 fn write_rows(table: &[i32], rows: usize, out: &mut [u8], at: usize) -> usize
-    requires { ⌜ (rows * 5 ≤ length (now table)) × (at + rows * rowBytes ≤ length (now out)) ⌝ }
-    ensures { λ r. ⌜ (r ≡ at + length (tableRows 0 rows (now (table .entry)))) × (now (out .exit) ≡ sets (now (out .entry)) at (tableRows 0 rows (now (table .entry)))) × (r ≤ at + rows * rowBytes) ⌝ }
+    requires { ⌜ (rows * 5 ≤ length (now table)) × (at + rows * rowSize ≤ length (now out)) ⌝ }
+    ensures { λ r. ⌜ (r ≡ at + length (tableRows 0 rows (now (table .entry)))) × (now (out .exit) ≡ sets (now (out .entry)) at (tableRows 0 rows (now (table .entry)))) × (r ≤ at + rows * rowSize) ⌝ }
 {
     let mut place = at;
     let mut i: usize = 0;
@@ -123,8 +123,8 @@ fn write_rows(table: &[i32], rows: usize, out: &mut [u8], at: usize) -> usize
 
 // Writes the line of row i. Each byte is written once.
 fn write_row(row: Row, i: usize, out: &mut [u8], at: usize) -> usize
-    requires { ⌜ at + rowBytes ≤ length (now out) ⌝ }
-    ensures { λ r. ⌜ (r ≡ at + length (rowText i row)) × (now (out .exit) ≡ sets (now (out .entry)) at (rowText i row)) × (r ≤ at + rowBytes) ⌝ }
+    requires { ⌜ at + rowSize ≤ length (now out) ⌝ }
+    ensures { λ r. ⌜ (r ≡ at + length (rowText i row)) × (now (out .exit) ≡ sets (now (out .entry)) at (rowText i row)) × (r ≤ at + rowSize) ⌝ }
 {
     let number = write_number(i as u64, out, at);
     let entry = write_integer_field(row.entry, out, number);

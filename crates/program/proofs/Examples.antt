@@ -1,6 +1,7 @@
--- What the listing program and the report program print, from text to text: P1 to P8, the four absences, the tightest match first, delays, first after and last before, the ends of the
--- range of instants, and refusals. One list of cases, one theorem that the checker computes by the definition alone. What must be printed stands in document
--- 01 or request N2 or was found by hand from them and requests N7, N1 and N5. P1 to P8 stand here only; behind the list is the tree of P1's row 7.
+-- What the listing program and the report program print, from text to text: P1 to P8, the four absences, the tightest match first, delays, first after and last before, tenths,
+-- the ends of the range of instants, and refusals. One list of cases, one theorem that the checker computes by the definition alone. What must be printed stands in document
+-- 01 or request N2 or was found by hand from them and requests N7, N1, N5 and
+-- N11: all of them print instants with one digit after the point. P1 to P8 stand here only; behind the list is the tree of P1's row 7.
 use Prim.Native.Nat.{ℕ}
 use Prim.Native.String.{String}
 use mathlib.Core.Path.{_≡_, refl}
@@ -10,9 +11,9 @@ use Rattle.interval.specs.Instants.{isInstant, isLength, firstFloor, isMarkRefu
 use Rattle.interval.specs.Conditions.{isRelated, isForbidding, hasLength, isRivalOfSecond, isRivalOfFirst}
 use Rattle.text.specs.Text.{split, lines}
 use Rattle.text.specs.Quoted.{bytes, tabbed, unended, text}
-use Rattle.decimal.specs.Spelling.{isDigit, allDigits, valueFrom, hasLeadingZero, isNumber, numberOf, withoutMinus, withMinus, instantOf, digitsWithin, spelledNumber, spelled}
+use Rattle.decimal.specs.Spelling.{isDigit, allDigits, valueFrom, hasLeadingZero, isNumber, numberOf, millisecondsOf, inTenths, hasPoint, lengthOf, withoutMinus, withMinus, instantOf, digitsWithin, spelledNumber, spelledLength, signed}
 use Rattle.chart.specs.Operators.{words, sameBytes, placeOf, operatorOf, edgesOf, relationOf, lengthTestOf, kindOf, inRange, areLower}
-use Rattle.chart.specs.Records.{withCode, eventLine, withOperands, secondOperand, operandsLine, byOperator, operatorLine, numbered, parsedLine, checkedEntry, checkedLine, answerTo}
+use Rattle.chart.specs.Records.{withCode, eventLine, withOperands, secondOf, secondOperand, operandsLine, byOperator, operatorLine, numbered, parsedLine, checkedEntry, checkedLine, answerTo}
 use Rattle.chart.specs.Charts.{noEntries, withEntry, refusedChart, readLines, orNoLine}
 use Rattle.model.specs.Recognitions.{Operator, recognitionsOf, withEntries, recognitions}
 use Rattle.model.specs.Order.{compare, listing}
@@ -22,7 +23,7 @@ use Rattle.table.specs.Operators.{operatorBy, operatorsOf, arityOf}
 use Rattle.tree.specs.Tree.{rowBytes, referenceBytes, treeWithin, treeBytes}
 use Rattle.log.specs.Log.{callWords, eventCall, instantCall, wordCall, fieldsCall, callOf}
 use Rattle.tally.specs.Tally.{tally, tallies}
-use Rattle.printing.specs.Listing.{numbersText, rowTexts}
+use Rattle.printing.specs.Listing.{rowTexts}
 use Rattle.printing.specs.Report.{tallyTexts}
 use Rattle.program.specs.declared.Format.{Format}
 use Rattle.program.specs.declared.Format.the-variants.{Listing, Report}
@@ -65,16 +66,16 @@ log1 =
 
 abbrev rows1-7 : List String
 rows1-7 =
-    "0 0 1 -1 -2 -2" ∷
-    "1 1 2 -1 0 0" ∷
-    "2 3 0 1 -2 0" ∷
-    "3 4 2 -1 -2 0" ∷
-    "4 1 4 -1 3 3" ∷
-    "5 2 3 -1 3 3" ∷
-    "6 3 0 4 -2 3" ∷ []
+    "0 0 1 -1 -2.0 -2.0" ∷
+    "1 1 2 -1 0.0 0.0" ∷
+    "2 3 0 1 -2.0 0.0" ∷
+    "3 4 2 -1 -2.0 0.0" ∷
+    "4 1 4 -1 3.0 3.0" ∷
+    "5 2 3 -1 3.0 3.0" ∷
+    "6 3 0 4 -2.0 3.0" ∷ []
 
 abbrev rows1 : List String
-rows1 = rows1-7 ++ "7 4 6 -1 -2 3" ∷ []
+rows1 = rows1-7 ++ "7 4 6 -1 -2.0 3.0" ∷ []
 
 abbrev P1-P8 : List Case
 P1-P8 =
@@ -83,20 +84,20 @@ P1-P8 =
     -- "P2 with `-[]` row 7 is gone"
     lists 3000 (chart1 "4 -[] 3 2") log1 rows1-7 ∷
     -- "P3 with `forget 0` last, three rows stay: `1 2 -1 0 0`, `1 4 -1 3 3`, `2 3 -1 3 3`"
-    lists 3000 (chart1 "4 -[[ 3 2") (log1 ++ "forget 0" ∷ []) ("0 1 2 -1 0 0" ∷ "1 1 4 -1 3 3" ∷ "2 2 3 -1 3 3" ∷ []) ∷
+    lists 3000 (chart1 "4 -[[ 3 2") (log1 ++ "forget 0" ∷ []) ("0 1 2 -1 0.0 0.0" ∷ "1 1 4 -1 3.0 3.0" ∷ "2 2 3 -1 3.0 3.0" ∷ []) ∷
     -- "P4 `meets 0 0` on one event gives a row"
-    lists 3000 ("0 event 1" ∷ "1 meets 0 0" ∷ []) ("open 0" ∷ "event 1" ∷ "clock 1" ∷ []) ("0 0 1 -1 0 0" ∷ "1 1 0 0 0 0" ∷ []) ∷
+    lists 3000 ("0 event 1" ∷ "1 meets 0 0" ∷ []) ("open 0" ∷ "event 1" ∷ "clock 1" ∷ []) ("0 0 1 -1 0.0 0.0" ∷ "1 1 0 0 0.0 0.0" ∷ []) ∷
     -- "P5 `seq 0 0` on two events of one instant gives none"
-    lists 3000 ("0 event 1" ∷ "1 seq 0 0" ∷ []) ("open 0" ∷ "event 1" ∷ "event 1" ∷ "clock 1" ∷ []) ("0 0 1 -1 0 0" ∷ "1 0 2 -1 0 0" ∷ []) ∷
+    lists 3000 ("0 event 1" ∷ "1 seq 0 0" ∷ []) ("open 0" ∷ "event 1" ∷ "event 1" ∷ "clock 1" ∷ []) ("0 0 1 -1 0.0 0.0" ∷ "1 0 2 -1 0.0 0.0" ∷ []) ∷
     -- "P6 `or 0 0` gives two per event"
-    lists 3000 ("0 event 1" ∷ "1 or 0 0" ∷ []) ("open 0" ∷ "event 1" ∷ "clock 1" ∷ []) ("0 0 1 -1 0 0" ∷ "1 1 0 -1 0 0" ∷ "2 1 -1 0 0 0" ∷ []) ∷
+    lists 3000 ("0 event 1" ∷ "1 or 0 0" ∷ []) ("open 0" ∷ "event 1" ∷ "clock 1" ∷ []) ("0 0 1 -1 0.0 0.0" ∷ "1 1 0 -1 0.0 0.0" ∷ "2 1 -1 0 0.0 0.0" ∷ []) ∷
     -- "P7 turns round: length 5 stays" (request N2). Of lengths 4, 5 and 6 `atmost` 5 keeps 4 and 5, `atleast` 5 keeps 5 and 6
     lists 3000 ("0 event 1" ∷ "1 event 2" ∷ "2 seq 0 1" ∷ "3 atmost 2 5" ∷ "4 atleast 2 5" ∷ [])
     ("open 0" ∷ "event 1" ∷ "clock 4" ∷ "event 2" ∷ "clock 5" ∷ "event 2" ∷ "clock 6" ∷ "event 2" ∷ "clock 7" ∷ [])
-    ("0 0 1 -1 0 0" ∷
-    "1 1 2 -1 4 4" ∷ "2 2 0 1 0 4" ∷ "3 3 2 -1 0 4" ∷
-    "4 1 3 -1 5 5" ∷ "5 2 0 4 0 5" ∷ "6 3 5 -1 0 5" ∷ "7 4 5 -1 0 5" ∷
-    "8 1 4 -1 6 6" ∷ "9 2 0 8 0 6" ∷ "10 4 9 -1 0 6" ∷ []) ∷
+    ("0 0 1 -1 0.0 0.0" ∷
+    "1 1 2 -1 4.0 4.0" ∷ "2 2 0 1 0.0 4.0" ∷ "3 3 2 -1 0.0 4.0" ∷
+    "4 1 3 -1 5.0 5.0" ∷ "5 2 0 4 0.0 5.0" ∷ "6 3 5 -1 0.0 5.0" ∷ "7 4 5 -1 0.0 5.0" ∷
+    "8 1 4 -1 6.0 6.0" ∷ "9 2 0 8 0.0 6.0" ∷ "10 4 9 -1 0.0 6.0" ∷ []) ∷
     -- "P8 a table of 7 rows refuses P1's last mark with 12, one of 8 takes it"
     prints 7 (chart1 "4 -[[ 3 2") log1 ("refused 12 14" ∷ []) ∷
     lists 8 (chart1 "4 -[[ 3 2") log1 rows1 ∷ []
@@ -106,13 +107,13 @@ P1-P8 =
 abbrev absences : List Case
 absences =
     -- the edges included: s forbids each r
-    edges "3 -[] 2 1" ("0 0 1 -1 1 1" ∷ "1 0 2 -1 2 2" ∷ "2 1 3 -1 2 2" ∷ "3 2 0 1 1 2" ∷ "4 0 4 -1 3 3" ∷ "5 2 1 4 2 3" ∷ "6 2 0 4 1 3" ∷ []) ∷
+    edges "3 -[] 2 1" ("0 0 1 -1 1.0 1.0" ∷ "1 0 2 -1 2.0 2.0" ∷ "2 1 3 -1 2.0 2.0" ∷ "3 2 0 1 1.0 2.0" ∷ "4 0 4 -1 3.0 3.0" ∷ "5 2 1 4 2.0 3.0" ∷ "6 2 0 4 1.0 3.0" ∷ []) ∷
     -- neither edge: it forbids only the r from 1 to 3
-    edges "3 -][ 2 1" ("0 0 1 -1 1 1" ∷ "1 0 2 -1 2 2" ∷ "2 1 3 -1 2 2" ∷ "3 2 0 1 1 2" ∷ "4 3 3 -1 1 2" ∷ "5 0 4 -1 3 3" ∷ "6 2 1 5 2 3" ∷ "7 2 0 5 1 3" ∷ "8 3 6 -1 2 3" ∷ []) ∷
+    edges "3 -][ 2 1" ("0 0 1 -1 1.0 1.0" ∷ "1 0 2 -1 2.0 2.0" ∷ "2 1 3 -1 2.0 2.0" ∷ "3 2 0 1 1.0 2.0" ∷ "4 3 3 -1 1.0 2.0" ∷ "5 0 4 -1 3.0 3.0" ∷ "6 2 1 5 2.0 3.0" ∷ "7 2 0 5 1.0 3.0" ∷ "8 3 6 -1 2.0 3.0" ∷ []) ∷
     -- the early edge only: the r from 1 to 2 stays
-    edges "3 -[[ 2 1" ("0 0 1 -1 1 1" ∷ "1 0 2 -1 2 2" ∷ "2 1 3 -1 2 2" ∷ "3 2 0 1 1 2" ∷ "4 3 3 -1 1 2" ∷ "5 0 4 -1 3 3" ∷ "6 2 1 5 2 3" ∷ "7 2 0 5 1 3" ∷ []) ∷
+    edges "3 -[[ 2 1" ("0 0 1 -1 1.0 1.0" ∷ "1 0 2 -1 2.0 2.0" ∷ "2 1 3 -1 2.0 2.0" ∷ "3 2 0 1 1.0 2.0" ∷ "4 3 3 -1 1.0 2.0" ∷ "5 0 4 -1 3.0 3.0" ∷ "6 2 1 5 2.0 3.0" ∷ "7 2 0 5 1.0 3.0" ∷ []) ∷
     -- the late edge only: the r from 2 to 3 stays
-    edges "3 -]] 2 1" ("0 0 1 -1 1 1" ∷ "1 0 2 -1 2 2" ∷ "2 1 3 -1 2 2" ∷ "3 2 0 1 1 2" ∷ "4 0 4 -1 3 3" ∷ "5 2 1 4 2 3" ∷ "6 2 0 4 1 3" ∷ "7 3 5 -1 2 3" ∷ []) ∷ []
+    edges "3 -]] 2 1" ("0 0 1 -1 1.0 1.0" ∷ "1 0 2 -1 2.0 2.0" ∷ "2 1 3 -1 2.0 2.0" ∷ "3 2 0 1 1.0 2.0" ∷ "4 0 4 -1 3.0 3.0" ∷ "5 2 1 4 2.0 3.0" ∷ "6 2 0 4 1.0 3.0" ∷ "7 3 5 -1 2.0 3.0" ∷ []) ∷ []
   where
     edges : String → List String → Case
     edges last rows = lists 3000 ("0 event 1" ∷ "1 event 2" ∷ "2 seq 0 0" ∷ last ∷ []) ("open 1" ∷ "event 1" ∷ "clock 2" ∷ "event 1" ∷ "event 2" ∷ "clock 3" ∷ "event 1" ∷ "clock 4" ∷ []) rows
@@ -122,10 +123,10 @@ absences =
 abbrev tightest : List Case
 tightest =
     lists 3000 chart7 log7
-    ("0 0 1 -1 0 0" ∷ "1 0 2 -1 1 1" ∷ "2 0 3 -1 1 1" ∷ "3 1 4 -1 2 2" ∷ "4 2 1 3 1 2" ∷ "5 2 2 3 1 2" ∷ "6 2 0 3 0 2" ∷
-    "7 3 4 -1 1 2" ∷ "8 3 5 -1 1 2" ∷ "9 3 -1 4 1 2" ∷ "10 3 -1 5 1 2" ∷ "11 3 6 -1 0 2" ∷ "12 3 -1 6 0 2" ∷ []) ∷
+    ("0 0 1 -1 0.0 0.0" ∷ "1 0 2 -1 1.0 1.0" ∷ "2 0 3 -1 1.0 1.0" ∷ "3 1 4 -1 2.0 2.0" ∷ "4 2 1 3 1.0 2.0" ∷ "5 2 2 3 1.0 2.0" ∷ "6 2 0 3 0.0 2.0" ∷
+    "7 3 4 -1 1.0 2.0" ∷ "8 3 5 -1 1.0 2.0" ∷ "9 3 -1 4 1.0 2.0" ∷ "10 3 -1 5 1.0 2.0" ∷ "11 3 6 -1 0.0 2.0" ∷ "12 3 -1 6 0.0 2.0" ∷ []) ∷
     lists 3000 chart7 (log7 ++ "forget 1" ∷ [])
-    ("0 0 2 -1 1 1" ∷ "1 0 3 -1 1 1" ∷ "2 1 4 -1 2 2" ∷ "3 2 0 2 1 2" ∷ "4 2 1 2 1 2" ∷ "5 3 3 -1 1 2" ∷ "6 3 4 -1 1 2" ∷ "7 3 -1 3 1 2" ∷ "8 3 -1 4 1 2" ∷ []) ∷ []
+    ("0 0 2 -1 1.0 1.0" ∷ "1 0 3 -1 1.0 1.0" ∷ "2 1 4 -1 2.0 2.0" ∷ "3 2 0 2 1.0 2.0" ∷ "4 2 1 2 1.0 2.0" ∷ "5 3 3 -1 1.0 2.0" ∷ "6 3 4 -1 1.0 2.0" ∷ "7 3 -1 3 1.0 2.0" ∷ "8 3 -1 4 1.0 2.0" ∷ []) ∷ []
   where
     chart7 : List String
     chart7 = "0 event 1" ∷ "1 event 2" ∷ "2 seq 0 1" ∷ "3 or 2 2" ∷ []
@@ -141,19 +142,19 @@ delays =
     -- from 0 and from 500; all three end in one jump of the clock.
     lists 3000 ("0 event 1" ∷ "1 event 2" ∷ "2 event 3" ∷ "3 after 0 2000" ∷ "4 -[] 3 1" ∷ "5 seq 4 2" ∷ [])
     ("open 0" ∷ "event 1" ∷ "clock 500" ∷ "event 1" ∷ "clock 900" ∷ "event 2" ∷ "clock 1000" ∷ "event 1" ∷ "clock 4000" ∷ "event 3" ∷ "clock 4001" ∷ [])
-    ("0 0 1 -1 0 0" ∷ "1 0 2 -1 500 500" ∷ "2 1 3 -1 900 900" ∷ "3 0 4 -1 1000 1000" ∷ "4 3 0 -1 0 2000" ∷ "5 3 1 -1 500 2500" ∷
-    "6 3 3 -1 1000 3000" ∷ "7 4 6 -1 1000 3000" ∷ "8 2 5 -1 4000 4000" ∷ "9 5 7 8 1000 4000" ∷ []) ∷
+    ("0 0 1 -1 0.0 0.0" ∷ "1 0 2 -1 500.0 500.0" ∷ "2 1 3 -1 900.0 900.0" ∷ "3 0 4 -1 1000.0 1000.0" ∷ "4 3 0 -1 0.0 2000.0" ∷ "5 3 1 -1 500.0 2500.0" ∷
+    "6 3 3 -1 1000.0 3000.0" ∷ "7 4 6 -1 1000.0 3000.0" ∷ "8 2 5 -1 4000.0 4000.0" ∷ "9 5 7 8 1000.0 4000.0" ∷ []) ∷
     -- "The table must be complete across a jump over several due ends, each in order of end, delays of delays included"; a delay of 0
     lists 3000 ("0 event 1" ∷ "1 after 0 2" ∷ "2 after 1 3" ∷ "3 after 0 0" ∷ []) ("open 0" ∷ "event 1" ∷ "clock 1" ∷ "event 1" ∷ "clock 10" ∷ [])
-    ("0 0 1 -1 0 0" ∷ "1 3 0 -1 0 0" ∷ "2 0 2 -1 1 1" ∷ "3 3 2 -1 1 1" ∷ "4 1 0 -1 0 2" ∷ "5 1 2 -1 1 3" ∷ "6 2 4 -1 0 5" ∷ "7 2 5 -1 1 6" ∷ []) ∷
-    -- "An end at 1,000,000,000 or later is never closed"
-    lists 3000 ("0 event 1" ∷ "1 after 0 9" ∷ "2 after 0 10" ∷ "3 after 0 2000000000" ∷ []) ("open 999999990" ∷ "event 1" ∷ "clock 1000000000" ∷ [])
-    ("0 0 1 -1 999999990 999999990" ∷ "1 1 0 -1 999999990 999999999" ∷ []) ∷
+    ("0 0 1 -1 0.0 0.0" ∷ "1 3 0 -1 0.0 0.0" ∷ "2 0 2 -1 1.0 1.0" ∷ "3 3 2 -1 1.0 1.0" ∷ "4 1 0 -1 0.0 2.0" ∷ "5 1 2 -1 1.0 3.0" ∷ "6 2 4 -1 0.0 5.0" ∷ "7 2 5 -1 1.0 6.0" ∷ []) ∷
+    -- "An end at 1,000,000,000 or later is never closed"; on paper 100000000.0
+    lists 3000 ("0 event 1" ∷ "1 after 0 0.9" ∷ "2 after 0 1" ∷ "3 after 0 200000000" ∷ []) ("open 99999999" ∷ "event 1" ∷ "clock 100000000" ∷ [])
+    ("0 0 1 -1 99999999.0 99999999.0" ∷ "1 1 0 -1 99999999.0 99999999.9" ∷ []) ∷
     -- 12 counts all that the jump makes due; an end at the mark is not
     prints 2 again ("open 0" ∷ "event 1" ∷ "clock 6" ∷ []) ("refused 12 7" ∷ []) ∷
-    lists 2 again ("open 0" ∷ "event 1" ∷ "clock 5" ∷ []) ("0 0 1 -1 0 0" ∷ "1 1 0 -1 0 2" ∷ []) ∷
+    lists 2 again ("open 0" ∷ "event 1" ∷ "clock 5" ∷ []) ("0 0 1 -1 0.0 0.0" ∷ "1 1 0 -1 0.0 2.0" ∷ []) ∷
     -- what is forgotten takes its delayed row along
-    lists 3000 again ("open 0" ∷ "event 1" ∷ "clock 1" ∷ "event 1" ∷ "forget 1" ∷ "clock 4" ∷ []) ("0 0 2 -1 1 1" ∷ "1 1 0 -1 1 3" ∷ []) ∷ []
+    lists 3000 again ("open 0" ∷ "event 1" ∷ "clock 1" ∷ "event 1" ∷ "forget 1" ∷ "clock 4" ∷ []) ("0 0 2 -1 1.0 1.0" ∷ "1 1 0 -1 1.0 3.0" ∷ []) ∷ []
   where
     again : List String
     again = "0 event 1" ∷ "1 after 0 2" ∷ "2 after 1 3" ∷ []
@@ -164,25 +165,40 @@ abbrev nearests : List Case
 nearests =
     -- "the first exposure after a settling", for each settling, and the last settling before an exposure: 1 is a settling, 2 an exposure
     lists 3000 nearest ("open 0" ∷ "event 1" ∷ "clock 400" ∷ "event 1" ∷ "clock 900" ∷ "event 2" ∷ "clock 1300" ∷ "event 2" ∷ "clock 1301" ∷ [])
-    ("0 0 1 -1 0 0" ∷ "1 0 2 -1 400 400" ∷ "2 1 3 -1 900 900" ∷ "3 2 1 2 400 900" ∷ "4 2 0 2 0 900" ∷ "5 3 1 2 400 900" ∷ "6 1 4 -1 1300 1300" ∷ []) ∷
+    ("0 0 1 -1 0.0 0.0" ∷ "1 0 2 -1 400.0 400.0" ∷ "2 1 3 -1 900.0 900.0" ∷ "3 2 1 2 400.0 900.0" ∷ "4 2 0 2 0.0 900.0" ∷ "5 3 1 2 400.0 900.0" ∷ "6 1 4 -1 1300.0 1300.0" ∷ []) ∷
     -- "Document 003 ranks the first by start, which lets a late arrival withdraw a row already shown": row 4 stands at 3, and stays
     lists 3000 ("0 event 1" ∷ "1 event 2" ∷ "2 event 3" ∷ "3 event 4" ∷ "4 seq 1 3" ∷ "5 or 4 2" ∷ "6 cut 0 5" ∷ [])
     ("open 1" ∷ "event 1" ∷ "clock 2" ∷ "event 2" ∷ "clock 3" ∷ "event 3" ∷ "clock 4" ∷ "event 4" ∷ "clock 5" ∷ [])
-    ("0 0 1 -1 1 1" ∷ "1 1 2 -1 2 2" ∷ "2 2 3 -1 3 3" ∷ "3 5 -1 2 3 3" ∷ "4 6 0 3 1 3" ∷ "5 3 4 -1 4 4" ∷ "6 4 1 5 2 4" ∷ "7 5 6 -1 2 4" ∷ []) ∷
+    ("0 0 1 -1 1.0 1.0" ∷ "1 1 2 -1 2.0 2.0" ∷ "2 2 3 -1 3.0 3.0" ∷ "3 5 -1 2 3.0 3.0" ∷ "4 6 0 3 1.0 3.0" ∷ "5 3 4 -1 4.0 4.0" ∷ "6 4 1 5 2.0 4.0" ∷ "7 5 6 -1 2.0 4.0" ∷ []) ∷
     -- "ties all count"; a floor between two settlings
     lists 3000 nearest ("open 0" ∷ "event 1" ∷ "clock 5" ∷ "event 1" ∷ "clock 9" ∷ "event 2" ∷ "event 2" ∷ "forget 5" ∷ "clock 10" ∷ [])
-    ("0 0 2 -1 5 5" ∷ "1 1 3 -1 9 9" ∷ "2 1 4 -1 9 9" ∷ "3 2 0 1 5 9" ∷ "4 2 0 2 5 9" ∷ "5 3 0 1 5 9" ∷ "6 3 0 2 5 9" ∷ []) ∷
+    ("0 0 2 -1 5.0 5.0" ∷ "1 1 3 -1 9.0 9.0" ∷ "2 1 4 -1 9.0 9.0" ∷ "3 2 0 1 5.0 9.0" ∷ "4 2 0 2 5.0 9.0" ∷ "5 3 0 1 5.0 9.0" ∷ "6 3 0 2 5.0 9.0" ∷ []) ∷
     -- one entry as both operands: from each event to the next
     lists 3000 ("0 event 1" ∷ "1 cut 0 0" ∷ "2 change 0 0" ∷ []) ("open 0" ∷ "event 1" ∷ "clock 1" ∷ "event 1" ∷ "clock 2" ∷ "event 1" ∷ "clock 3" ∷ [])
-    ("0 0 1 -1 0 0" ∷ "1 0 2 -1 1 1" ∷ "2 1 0 1 0 1" ∷ "3 2 0 1 0 1" ∷ "4 0 3 -1 2 2" ∷ "5 1 1 4 1 2" ∷ "6 2 1 4 1 2" ∷ []) ∷ []
+    ("0 0 1 -1 0.0 0.0" ∷ "1 0 2 -1 1.0 1.0" ∷ "2 1 0 1 0.0 1.0" ∷ "3 2 0 1 0.0 1.0" ∷ "4 0 3 -1 2.0 2.0" ∷ "5 1 1 4 1.0 2.0" ∷ "6 2 1 4 1.0 2.0" ∷ []) ∷ []
   where
     nearest : List String
     nearest = "0 event 1" ∷ "1 event 2" ∷ "2 cut 0 1" ∷ "3 change 0 1" ∷ []
 
+-- "Instants and lengths on paper may have a point and one digit, as `-0.5`; without a point they are whole milliseconds"; "Listings ... print one digit after it"
+-- (request N11). The recognition of half a millisecond stays under `atmost` 0.5, that of 0.6 does not; the wait of 0.3 ends before the trigger. The same log in
+-- other spellings gives the same listing.
+abbrev tenths : List Case
+tenths =
+    lists 3000 ("0 event 1" ∷ "1 event 2" ∷ "2 seq 0 1" ∷ "3 atmost 2 0.5" ∷ "4 after 0 0.3" ∷ [])
+    ("open -0.5" ∷ "event 1" ∷ "clock 0" ∷ "event 2" ∷ "clock 0.1" ∷ "event 2" ∷ "clock 1" ∷ []) halves ∷
+    lists 3000 ("0 event 1" ∷ "1 event 2" ∷ "2 seq 0 1" ∷ "3 atmost 2 0.5" ∷ "4 after 0 0.3" ∷ [])
+    ("open -0.5" ∷ "event 1" ∷ "clock 0.0" ∷ "event 2" ∷ "clock 0.1" ∷ "event 2" ∷ "clock 1.0" ∷ []) halves ∷ []
+  where
+    halves : List String
+    halves =
+        "0 0 1 -1 -0.5 -0.5" ∷ "1 4 0 -1 -0.5 -0.2" ∷ "2 1 2 -1 0.0 0.0" ∷ "3 2 0 2 -0.5 0.0" ∷ "4 3 3 -1 -0.5 0.0" ∷
+        "5 1 3 -1 0.1 0.1" ∷ "6 2 0 5 -0.5 0.1" ∷ []
+
 -- the first and the last instant; a log that has only its opening; a table of no rows
 abbrev ends : List Case
 ends =
-    lists 3000 ("0 event 255" ∷ []) ("open -1000000000" ∷ "event 255" ∷ "clock 1000000000" ∷ []) ("0 0 1 -1 -1000000000 -1000000000" ∷ []) ∷
+    lists 3000 ("0 event 255" ∷ []) ("open -100000000" ∷ "event 255" ∷ "clock 100000000.0" ∷ []) ("0 0 1 -1 -100000000.0 -100000000.0" ∷ []) ∷
     lists 3000 ("0 event 1" ∷ []) ("open 0" ∷ []) [] ∷
     lists 0 ("0 event 1" ∷ []) ("open 0" ∷ "event 0" ∷ "clock 1" ∷ []) [] ∷ []
 
@@ -212,20 +228,23 @@ refusals =
     log ("clock 0" ∷ []) "refused 7 3" ∷
     log ("open 0" ∷ "open 1" ∷ []) "refused 7 4" ∷
     log ("open -0" ∷ []) "refused 7 3" ∷
+    log ("open -0.0" ∷ []) "refused 7 3" ∷
+    log ("open 1000000000" ∷ []) "refused 7 3" ∷
+    log ("open 0" ∷ "clock 1.55" ∷ []) "refused 7 4" ∷
     -- "8 an opening instant out of range, or a clock mark out of range or not after the open instant"
-    log ("open -1000000001" ∷ []) "refused 8 3" ∷
-    log ("open 1000000001" ∷ []) "refused 8 3" ∷
+    log ("open -100000000.1" ∷ []) "refused 8 3" ∷
+    log ("open 999999999" ∷ []) "refused 8 3" ∷
     log ("open 0" ∷ "clock 0" ∷ []) "refused 8 4" ∷
-    log ("open 0" ∷ "clock 1000000001" ∷ []) "refused 8 4" ∷
+    log ("open 0" ∷ "clock 100000000.1" ∷ []) "refused 8 4" ∷
     -- "9 a 65th event in one instant"
     log ("open 0" ∷ replicate 65 "event 1") "refused 9 68" ∷
     -- "11 a forget below the floor, above the open instant or out of range"
     log ("open 0" ∷ "forget -1" ∷ "forget -2" ∷ []) "refused 11 5" ∷
     log ("open 0" ∷ "forget 1" ∷ []) "refused 11 4" ∷
-    log ("open 0" ∷ "forget -1000000001" ∷ []) "refused 11 4" ∷
+    log ("open 0" ∷ "forget -100000000.1" ∷ []) "refused 11 4" ∷
     -- "8 before 12": on a table too full a mark in range is refused with 12, one out of range or not after the open instant with 8
-    prints 0 ("0 event 1" ∷ []) ("open 0" ∷ "event 1" ∷ "clock 1000000000" ∷ []) ("refused 12 5" ∷ []) ∷
-    prints 0 ("0 event 1" ∷ []) ("open 0" ∷ "event 1" ∷ "clock 1000000001" ∷ []) ("refused 8 5" ∷ []) ∷
+    prints 0 ("0 event 1" ∷ []) ("open 0" ∷ "event 1" ∷ "clock 100000000" ∷ []) ("refused 12 5" ∷ []) ∷
+    prints 0 ("0 event 1" ∷ []) ("open 0" ∷ "event 1" ∷ "clock 100000001" ∷ []) ("refused 8 5" ∷ []) ∷
     prints 0 ("0 event 1" ∷ []) ("open 0" ∷ "event 1" ∷ "clock 0" ∷ []) ("refused 8 5" ∷ []) ∷ []
   where
     input : List ℕ → String → Case
@@ -248,10 +267,10 @@ reports =
     report room chart log printed = record { format = Report; room = room; input = text (chart ++ "" ∷ log); printed = text printed }
 
 pub cases : List Case
-cases = P1-P8 ++ absences ++ tightest ++ delays ++ nearests ++ ends ++ refusals ++ reports
+cases = P1-P8 ++ absences ++ tightest ++ delays ++ nearests ++ tenths ++ ends ++ refusals ++ reports
 
 pub examples : map (λ (c : Case). printedFor (c .format) (c .room) (c .input)) cases ≡ map (λ (c : Case). c .printed) cases
-unfolding cases bytes tabbed unended text split lines isInstant isLength firstFloor isMarkRefused isForgetRefused isRelated isForbidding hasLength isRivalOfSecond isRivalOfFirst isDigit allDigits valueFrom hasLeadingZero isNumber numberOf withoutMinus withMinus instantOf digitsWithin spelledNumber spelled words sameBytes placeOf operatorOf edgesOf relationOf lengthTestOf kindOf inRange areLower withCode eventLine withOperands secondOperand operandsLine byOperator operatorLine numbered parsedLine checkedEntry checkedLine answerTo noEntries withEntry refusedChart readLines orNoLine recognitionsOf withEntries recognitions compare listing opening eventStep clockStep forgetStep operatorBy operatorsOf callWords eventCall instantCall wordCall fieldsCall callOf tally tallies numbersText rowTexts tallyTexts callIn openingAnswer callAnswer playCalls playLog chartLines logLines playLines outcomeText printedFor
+unfolding cases bytes tabbed unended text split lines isInstant isLength firstFloor isMarkRefused isForgetRefused isRelated isForbidding hasLength isRivalOfSecond isRivalOfFirst isDigit allDigits valueFrom hasLeadingZero isNumber numberOf millisecondsOf inTenths hasPoint lengthOf withoutMinus withMinus instantOf digitsWithin spelledNumber spelledLength signed words sameBytes placeOf operatorOf edgesOf relationOf lengthTestOf kindOf inRange areLower withCode eventLine withOperands secondOf secondOperand operandsLine byOperator operatorLine numbered parsedLine checkedEntry checkedLine answerTo noEntries withEntry refusedChart readLines orNoLine recognitionsOf withEntries recognitions compare listing opening eventStep clockStep forgetStep operatorBy operatorsOf callWords eventCall instantCall wordCall fieldsCall callOf tally tallies rowTexts tallyTexts callIn openingAnswer callAnswer playCalls playLog chartLines logLines playLines outcomeText printedFor
 examples = refl
 
 -- the tree of row i of those that an input comes to, its references followed down
@@ -264,5 +283,5 @@ treeFor room input i = rowTree (operatorsOf ((orNoLine (chartLines (lines input)
 
 -- "Row 7's tree is `<<e1,e4>>`."
 pub tree-of-row-7 : treeFor 3000 (text (chart1 "4 -[[ 3 2" ++ "" ∷ log1)) 7 ≡ bytes "<<e1,e4>>"
-unfolding bytes tabbed unended text split lines isInstant isLength firstFloor isMarkRefused isForgetRefused isRelated isForbidding isDigit allDigits valueFrom hasLeadingZero isNumber numberOf withoutMinus withMinus instantOf digitsWithin spelledNumber spelled words sameBytes placeOf operatorOf edgesOf relationOf lengthTestOf kindOf inRange areLower withCode eventLine withOperands secondOperand operandsLine byOperator operatorLine numbered parsedLine checkedEntry checkedLine answerTo noEntries withEntry refusedChart readLines orNoLine recognitionsOf withEntries recognitions compare listing opening eventStep clockStep operatorBy operatorsOf callWords eventCall instantCall wordCall fieldsCall callOf callIn openingAnswer callAnswer playCalls playLog chartLines logLines playLines flat arityOf rowBytes referenceBytes treeWithin treeBytes
+unfolding bytes tabbed unended text split lines isInstant isLength firstFloor isMarkRefused isForgetRefused isRelated isForbidding isDigit allDigits valueFrom hasLeadingZero isNumber numberOf millisecondsOf inTenths hasPoint lengthOf withoutMinus withMinus instantOf digitsWithin spelledNumber spelledLength signed words sameBytes placeOf operatorOf edgesOf relationOf lengthTestOf kindOf inRange areLower withCode eventLine withOperands secondOf secondOperand operandsLine byOperator operatorLine numbered parsedLine checkedEntry checkedLine answerTo noEntries withEntry refusedChart readLines orNoLine recognitionsOf withEntries recognitions compare listing opening eventStep clockStep operatorBy operatorsOf callWords eventCall instantCall wordCall fieldsCall callOf callIn openingAnswer callAnswer playCalls playLog chartLines logLines playLines flat arityOf rowBytes referenceBytes treeWithin treeBytes
 tree-of-row-7 = refl

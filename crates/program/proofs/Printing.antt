@@ -35,7 +35,7 @@ use Rattle.watch.proofs.Shown.{Shows}
 use Rattle.watch.proofs.Steps.{opening-length, event-call, clock-call, forget-call}
 use Rattle.log.specs.declared.Call.{Call}
 use Rattle.log.specs.declared.Call.the-variants as log
-use Rattle.printing.specs.Listing.{listingText, tableText, refusalText, listingLength, listingOutput, refusalLength, refusalOutput, lengthWhere, outputWhere, listingFits, refusalFits}
+use Rattle.printing.specs.Listing.{listingText, tableText, refusalText, refusalSize, listingLength, listingOutput, refusalLength, refusalOutput, lengthWhere, outputWhere, listingFits, refusalFits}
 use Rattle.printing.specs.Report.{reportText, reportFits}
 use Rattle.printing.proofs.Laws as printing
 use Rattle.printing.proofs.Laws.{report-fits, table-listing, length-room, output-room, front-within, refusal-fits}
@@ -159,15 +159,15 @@ Prints f q out text = (printedLength f (q .run) (q .table) out ≡ length text) 
 fits-front : (room : Bool) (s out : List ℕ) → room ≡ true → (lengthWhere room s ≡ length s) × (outputWhere room s out ≡ s ++ drop (length s) out)
 fits-front room s out fits = (length-room room s out fits, output-room room s out fits)
 
-refusal-front : (n line : ℕ) (out : List ℕ) → 40 ≤ length out → (refusalLength n line out ≡ length (refusalText n line)) × (refusalOutput n line out ≡ refusalText n line ++ drop (length (refusalText n line)) out)
+refusal-front : (n line : ℕ) (out : List ℕ) → refusalSize ≤ length out → (refusalLength n line out ≡ length (refusalText n line)) × (refusalOutput n line out ≡ refusalText n line ++ drop (length (refusalText n line)) out)
 refusal-front n line out h = fits-front (refusalFits out) (refusalText n line) out (refusal-fits out h)
 
 -- in each format there is room for a refusal
-refusal-room : (f : Format) (rows : ℕ) (out : List ℕ) → bytesFor f rows ≤ length out → 40 ≤ length out
+refusal-room : (f : Format) (rows : ℕ) (out : List ℕ) → bytesFor f rows ≤ length out → refusalSize ≤ length out
 refusal-room Listing rows out h = omega (arith, h)
 refusal-room Report rows out h = omega (arith, h)
 
-refusal-prints : (f : Format) (r : Run) (t : List ℤ) (n line : ℕ) (out : List ℕ) → 40 ≤ length out → Prints f (record { run = refusedRun r n line; table = t }) out (outcomeText f (resultOf (record { run = refusedRun r n line; table = t })))
+refusal-prints : (f : Format) (r : Run) (t : List ℤ) (n line : ℕ) (out : List ℕ) → refusalSize ≤ length out → Prints f (record { run = refusedRun r n line; table = t }) out (outcomeText f (resultOf (record { run = refusedRun r n line; table = t })))
 unfolding refusedRun lengthAt outputAt outcomeOf
 refusal-prints f r t n line out h = rw (refused-text f n line) (refusal-front n line out h)
 
@@ -198,7 +198,7 @@ end-prints f p out h g = go (p .run .stage) refl h
     t : List ℤ
     t = p .table
 
-    room : 40 ≤ length out
+    room : refusalSize ≤ length out
     room = refusal-room f (roomIn (p .table)) out g
 
     at-once : (b : Bool) (n line k below : ℕ) → Prints f (record { run = cond b (refusedRun r n line) (refusedRun r k below); table = t }) out (outcomeText f (resultOf (record { run = cond b (refusedRun r n line) (refusedRun r k below); table = t })))

@@ -6,7 +6,8 @@ use mathlib.Core.List.{List, [], _∷_, _++_}
 use lib.Dec.{leb}
 use lib.IntN.{ℤ}
 use lib.ListN.{length, drop}
-use Rattle.printing.specs.Listing.{lengthWhere, outputWhere}
+use Rattle.printing.specs.Listing.{rowSize, refusalSize, lengthWhere, outputWhere}
+use Rattle.printing.specs.Report.{tallySize}
 use Rattle.table.specs.Table.{roomIn}
 use Rattle.program.specs.declared.Format.{Format}
 use Rattle.program.specs.declared.Format.the-variants.{Listing, Report}
@@ -25,11 +26,11 @@ fedRun t pieces = fedAll (record { progress = record { run = startRun; table = t
 abbrev pub wholeRun : List ℤ → List (List ℕ) → Progress
 wholeRun t pieces = finished (fedRun t pieces .progress) (fedRun t pieces .kept)
 
--- an output with room for what is printed of a table of so many rows, and for every refusal: 40 bytes, and 81 for each row of a listing or 42 for each of the 32
--- entries that a report may have
+-- an output with room for every refusal, and besides for the longest listing of so many rows, or for the longest report on the 32 entries that a chart may
+-- have; the heading of a listing and the total of a report are shorter than a refusal
 abbrev pub bytesFor : Format → ℕ → ℕ
-bytesFor Listing rows = 40 + rows * 81
-bytesFor Report rows = 1384
+bytesFor Listing rows = refusalSize + rows * rowSize
+bytesFor Report rows = refusalSize + 32 * tallySize
 
 unfoldable pub hasRoom : Format → List ℤ → List ℕ → Bool
 hasRoom f t out = leb (bytesFor f (roomIn t)) (length out)

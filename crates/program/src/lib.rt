@@ -17,6 +17,9 @@ ghost use Rattle.program.specs.Statements.{bytesFor, wholeLength, wholeT
 ghost use Rattle.program.specs.Runs.{startRun, refusedRun, nextRun, entryRun, chartEnd, unformedRun, stepped, openingLine, callStep, narrowed, callsRun, afterLine, afterBytes, isEarly, isRefused, keptOf, endRun, finishedRun, Reached, Read, HasLines, HasFew, settledAt, settledGoing, restLength, restMoved, Printable, reportedLength, reportedOutput, printedLength, printedOutput};
 use chart::Chart;
 use log::Call;
+use printing::REFUSAL_SIZE;
+use printing::ROW_SIZE;
+use printing::TALLY_SIZE;
 use watch::Answer;
 use watch::Watch;
 
@@ -63,14 +66,14 @@ pub fn start() -> Run
     }
 }
 
-// How many bytes an output needs for what is printed in a format, with a table of so many numbers: 40, and 81 for each row that it can hold or 42 for each of 32
-// entries. Constant time, and that of finding how many rows fit.
+// How many bytes an output needs for what is printed in a format, with a table of so many numbers: those of a refusal, and of each row that it can hold or of
+// each of 32 entries. Constant time, and that of finding how many rows fit.
 pub fn bytes_for(format: Format, numbers: usize) -> usize
     ensures { λ r. ⌜ r ≡ bytesFor format (capacity numbers) ⌝ }
 {
     match format {
-        Format::Listing => 40 + table::rows_that_fit(numbers) * 81,
-        Format::Report => 1384,
+        Format::Listing => REFUSAL_SIZE + table::rows_that_fit(numbers) * ROW_SIZE,
+        Format::Report => REFUSAL_SIZE + 32 * TALLY_SIZE,
     }
 }
 

@@ -1,13 +1,17 @@
 // The report program: the listing program's input on standard input; on standard output a line for each entry of the chart, with its number of rows, and the total,
 // or one line `refused`, number, line. What is read, played and written is in crate `input`, which the listing program has too; here is only the memory: a table of
-// 3,000 rows of five numbers, and an output with the 40 bytes and 42 for each of 32 entries that the end-to-end theorem asks for.
+// 3,000 rows of five numbers, and an output with the bytes of a refusal and of each of 32 entries that the end-to-end theorem asks for.
 ghost use Prim.Native.Nat.{_≤_};
 ghost use mathlib.Core.Path.{_≡_};
 ghost use lib.ListN.{length};
 ghost use Rattle.input.specs.Inputs.{PrintsInput};
 ghost use Rattle.program.specs.Statements.{bytesFor};
 use input::Printed;
+use printing::REFUSAL_SIZE;
+use printing::TALLY_SIZE;
 use program::Format;
+
+const OUTPUT_BYTES: usize = REFUSAL_SIZE + 32 * TALLY_SIZE;
 
 // What this program prints is a report.
 fn run(table: &mut [i32], out: &mut [u8])
@@ -19,6 +23,6 @@ fn run(table: &mut [i32], out: &mut [u8])
 
 fn main() {
     let mut table = [0i32; 15000];
-    let mut out = [0u8; 1384];
+    let mut out = [0u8; OUTPUT_BYTES];
     run(&mut table, &mut out);
 }

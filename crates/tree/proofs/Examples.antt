@@ -3,7 +3,7 @@ use mathlib.Core.Path.{_≡_, refl}
 use mathlib.Core.List.{List, [], _∷_, _++_, map}
 use lib.IntN.{ℤ, pos}
 use Rattle.text.specs.Quoted.{bytes}
-use Rattle.decimal.specs.Spelling.{spelled, spelledNumber, digitsWithin}
+use Rattle.decimal.specs.Spelling.{signed, spelledNumber, digitsWithin}
 use Rattle.interval.specs.declared.Relation.{Relation}
 use Rattle.interval.specs.declared.Edges.{Edges}
 use Rattle.interval.specs.declared.LengthTest.{LengthTest}
@@ -48,5 +48,5 @@ trees : map (treeBytes ops table) (numbers 0 11) ≡
     bytes "<<<e1,e1000000>>>" ∷
     bytes "<e1000000,<<e1,e1000000>>>" ∷
     bytes "<<e1000000,<<e1,e1000000>>>,e1>" ∷ []
-unfolding bytes ops row table arityOf rowBytes referenceBytes treeWithin treeBytes spelled spelledNumber digitsWithin
+unfolding bytes ops row table arityOf rowBytes referenceBytes treeWithin treeBytes signed spelledNumber digitsWithin
 trees = refl

@@ -11,9 +11,9 @@ use Rattle.interval.specs.Instants.{isInstant, isLength, firstFloor, isMarkRefu
 use Rattle.interval.specs.Conditions.{isRelated, isForbidding, hasLength}
 use Rattle.text.specs.Text.{split, lines}
 use Rattle.text.specs.Quoted.{bytes, tabbed, unended, text}
-use Rattle.decimal.specs.Spelling.{isDigit, allDigits, valueFrom, hasLeadingZero, isNumber, numberOf, withoutMinus, withMinus, instantOf, digitsWithin, spelledNumber, spelled}
+use Rattle.decimal.specs.Spelling.{isDigit, allDigits, valueFrom, hasLeadingZero, isNumber, numberOf, millisecondsOf, inTenths, hasPoint, lengthOf, digitsWithin, spelledNumber, signed}
 use Rattle.chart.specs.Operators.{words, sameBytes, placeOf, operatorOf, edgesOf, relationOf, lengthTestOf, kindOf, inRange, areLower}
-use Rattle.chart.specs.Records.{entry, withCode, eventLine, withOperands, secondOperand, operandsLine, byOperator, operatorLine, numbered, parsedLine, checkedEntry, checkedLine, answerTo}
+use Rattle.chart.specs.Records.{entry, withCode, eventLine, withOperands, secondOf, secondOperand, operandsLine, byOperator, operatorLine, numbered, parsedLine, checkedEntry, checkedLine, answerTo}
 use Rattle.chart.specs.Charts.{noEntries, withEntry, refusedChart, readLines, orNoLine, readChart, faultIn, entriesOf, addedVerdict, withEntries, readAdded, entryFits, allBelow, isUsable}
 use Rattle.chart.specs.declared.Chart.{Chart}
 use Rattle.chart.specs.declared.Entry.{Entry}
@@ -107,7 +107,7 @@ pub checkCases : List Check
 checkCases = charts ++ firstChart ++ outOfJoint
 
 pub checks : map (λ (c : Check). checkNumber (c .chart) (c .watch) (c .table)) checkCases ≡ map (λ (c : Check). c .number) checkCases
-unfolding checkCases consistency.cases isInstant firstFloor isLength isRelated hasLength split lines bytes tabbed unended text isDigit allDigits valueFrom hasLeadingZero isNumber numberOf withoutMinus withMinus instantOf words sameBytes placeOf operatorOf edgesOf relationOf lengthTestOf kindOf inRange areLower withCode eventLine withOperands secondOperand operandsLine byOperator operatorLine numbered parsedLine checkedEntry checkedLine answerTo noEntries withEntry refusedChart readLines orNoLine readChart entryFits allBelow isUsable capacity rowsIn areZeros operatorBy operatorsOf isRising isWatchInRange isTableRowConsistent areConsistent checkNumber
+unfolding checkCases consistency.cases isInstant firstFloor isLength isRelated hasLength split lines bytes tabbed unended text isDigit allDigits valueFrom hasLeadingZero isNumber numberOf millisecondsOf inTenths hasPoint lengthOf words sameBytes placeOf operatorOf edgesOf relationOf lengthTestOf kindOf inRange areLower withCode eventLine withOperands secondOf secondOperand operandsLine byOperator operatorLine numbered parsedLine checkedEntry checkedLine answerTo noEntries withEntry refusedChart readLines orNoLine readChart entryFits allBelow isUsable capacity rowsIn areZeros operatorBy operatorsOf isRising isWatchInRange isTableRowConsistent areConsistent checkNumber
 checks = refl
 
 -- What a call hands back: its number, the watch and the table after it.
@@ -155,7 +155,7 @@ openingCases =
     opens noEntry used (pos 1000000001) (outcome 14 (emptyAt (pos 0)) used) ∷ []
 
 pub openings : map (λ (c : Opening). ofStep (openingStep (c .chart) (c .table) (c .instant))) openingCases ≡ map (λ (c : Opening). c .expected) openingCases
-unfolding openingCases isInstant firstFloor split lines bytes tabbed unended text isDigit allDigits valueFrom hasLeadingZero isNumber numberOf withoutMinus withMinus instantOf words sameBytes placeOf operatorOf kindOf inRange areLower withCode eventLine byOperator operatorLine numbered parsedLine checkedEntry checkedLine answerTo noEntries withEntry refusedChart readLines orNoLine readChart entryFits allBelow isUsable capacity zeroed openingStep
+unfolding openingCases isInstant firstFloor split lines bytes tabbed unended text isDigit allDigits valueFrom hasLeadingZero isNumber numberOf millisecondsOf inTenths hasPoint lengthOf words sameBytes placeOf operatorOf kindOf inRange areLower withCode eventLine byOperator operatorLine numbered parsedLine checkedEntry checkedLine answerTo noEntries withEntry refusedChart readLines orNoLine readChart entryFits allBelow isUsable capacity zeroed openingStep
 openings = refl
 
 -- Events, clock marks and forgets: chart, watch, table and call, and what is handed back.
@@ -234,7 +234,7 @@ marks =
 
     -- The same with two events at 3, and an entry that refers to the rows in sequence: of two that start alike, the one with the lower left row stands first.
     inSequenceShort : Chart
-    inSequenceShort = chartOf ("0 event 1" ∷ "1 event 2" ∷ "2 seq 0 1" ∷ "3 atmost 2 4" ∷ [])
+    inSequenceShort = chartOf ("0 event 1" ∷ "1 event 2" ∷ "2 seq 0 1" ∷ "3 atmost 2 0.4" ∷ [])
 
     threeRows : List String
     threeRows = "0 1 -1 1 1" ∷ "0 2 -1 3 3" ∷ "0 3 -1 3 3" ∷ []
@@ -252,7 +252,7 @@ jumps =
     takes delays (watch (pos 1) (pos 0) 1 1 []) (table ("0 1 -1 0 0" ∷ replicate 2 "0 0 0 0 0")) (clock (pos 6)) (watch (pos 6) (pos 0) 1 3 []) (table ("0 1 -1 0 0" ∷ "1 0 -1 0 2" ∷ "2 1 -1 0 5" ∷ [])) ∷ []
   where
     delays : Chart
-    delays = chartOf ("0 event 1" ∷ "1 after 0 2" ∷ "2 after 1 3" ∷ [])
+    delays = chartOf ("0 event 1" ∷ "1 after 0 0.2" ∷ "2 after 1 0.3" ∷ [])
 
     opened : WatchState
     opened = watch (pos 0) (pos 0) 1 0 (1 ∷ [])
@@ -303,7 +303,7 @@ pub callCases : List Called
 callCases = firstChecks ++ eventCalls ++ markOrder ++ marks ++ jumps ++ forgets ++ laterEntries
 
 pub calls : map (λ (c : Called). ofCall (call (record { watch = c .watch; table = c .table; chart = c .chart }) (c .call))) callCases ≡ map (λ (c : Called). c .expected) callCases
-unfolding callCases isInstant firstFloor isLength isMarkRefused isForgetRefused isRelated isForbidding hasLength split lines bytes tabbed unended text isDigit allDigits valueFrom hasLeadingZero isNumber numberOf withoutMinus withMinus instantOf words sameBytes placeOf operatorOf lengthTestOf kindOf inRange areLower withCode eventLine withOperands secondOperand operandsLine byOperator operatorLine numbered parsedLine checkedEntry checkedLine answerTo noEntries withEntry refusedChart readLines orNoLine readChart entryFits allBelow isUsable capacity extendRows closeRows closeInstants keepRows forgetRows rowsIn putRow putRows areZeros zeroed operatorBy operatorsOf isRising isWatchInRange isTableRowConsistent areConsistent checked eventOwn eventStep closedRows clockOwn clockStep keptRows forgottenTable forgetOwn forgetStep call
+unfolding callCases isInstant firstFloor isLength isMarkRefused isForgetRefused isRelated isForbidding hasLength split lines bytes tabbed unended text isDigit allDigits valueFrom hasLeadingZero isNumber numberOf millisecondsOf inTenths hasPoint lengthOf words sameBytes placeOf operatorOf lengthTestOf kindOf inRange areLower withCode eventLine withOperands secondOf secondOperand operandsLine byOperator operatorLine numbered parsedLine checkedEntry checkedLine answerTo noEntries withEntry refusedChart readLines orNoLine readChart entryFits allBelow isUsable capacity extendRows closeRows closeInstants keepRows forgetRows rowsIn putRow putRows areZeros zeroed operatorBy operatorsOf isRising isWatchInRange isTableRowConsistent areConsistent checked eventOwn eventStep closedRows clockOwn clockStep keptRows forgottenTable forgetOwn forgetStep call
 calls = refl
 
 -- Additions (request N13): chart, watch, table and lines, and the whole answer.
@@ -335,7 +335,7 @@ thirtyTwo = record { count = 32; entries = replicate 32 (entry 0 1 0) }
 pub addingCases : List Adding
 addingCases =
     adds ("0 event 1" ∷ []) (minus 1000000000 ∷ []) ("1 event 2" ∷ "2 seq 0 1" ∷ []) (minus 1000000000 ∷ pos 5 ∷ pos 5 ∷ []) ∷
-    adds ("0 event 1" ∷ "1 or 0 0" ∷ []) (minus 1000000000 ∷ pos 3 ∷ []) ("2 after 1 4" ∷ []) (minus 1000000000 ∷ pos 3 ∷ pos 5 ∷ []) ∷
+    adds ("0 event 1" ∷ "1 or 0 0" ∷ []) (minus 1000000000 ∷ pos 3 ∷ []) ("2 after 1 0.4" ∷ []) (minus 1000000000 ∷ pos 3 ∷ pos 5 ∷ []) ∷
     -- "1 at line 1 for none"; the second line bad, and the chart's own line before it is not counted
     turnsBack oneEntry (on oneEntry (emptyAt (pos 5))) [] 1 1 ∷
     turnsBack oneEntry (on oneEntry (emptyAt (pos 5))) ("1 event 2" ∷ "1 event 2" ∷ []) 4 2 ∷
@@ -348,7 +348,7 @@ addingCases =
     turnsBack oneEntry (emptyAt (pos 5)) ("1 event 2" ∷ []) 13 0 ∷ []
 
 pub additions : map (λ (c : Adding). addStep (c .chart) (c .watch) (c .table) (c .lines)) addingCases ≡ map (λ (c : Adding). c .expected) addingCases
-unfolding addingCases isInstant firstFloor isLength split lines bytes tabbed unended text isDigit allDigits valueFrom hasLeadingZero isNumber numberOf withoutMinus withMinus instantOf words sameBytes placeOf operatorOf edgesOf relationOf lengthTestOf kindOf inRange areLower withCode eventLine withOperands secondOperand operandsLine byOperator operatorLine numbered parsedLine checkedEntry checkedLine answerTo noEntries withEntry refusedChart readLines orNoLine readChart faultIn entriesOf addedVerdict withEntries readAdded entryFits allBelow isUsable capacity rowsIn areZeros operatorBy operatorsOf isRising isWatchInRange isTableRowConsistent areConsistent checkNumber addOwn addStep
+unfolding addingCases isInstant firstFloor isLength split lines bytes tabbed unended text isDigit allDigits valueFrom hasLeadingZero isNumber numberOf millisecondsOf inTenths hasPoint lengthOf words sameBytes placeOf operatorOf edgesOf relationOf lengthTestOf kindOf inRange areLower withCode eventLine withOperands secondOf secondOperand operandsLine byOperator operatorLine numbered parsedLine checkedEntry checkedLine answerTo noEntries withEntry refusedChart readLines orNoLine readChart faultIn entriesOf addedVerdict withEntries readAdded entryFits allBelow isUsable capacity rowsIn areZeros operatorBy operatorsOf isRising isWatchInRange isTableRowConsistent areConsistent checkNumber addOwn addStep
 additions = refl
 
 -- Trees of the five rows: chart, watch, row and output lent; the number, the length and the output after it.
@@ -388,7 +388,7 @@ treeCases =
     tree noEntry (five (pos 7) 5) 5 "" (written 14 0 "") ∷ []
 
 pub trees : map (λ (c : Tree). ofTree (treeStep (c .chart) (c .watch) (table fiveRows) (c .row) (c .out))) treeCases ≡ map (λ (c : Tree). c .expected) treeCases
-unfolding treeCases isInstant firstFloor isRelated split lines bytes tabbed unended text isDigit allDigits valueFrom hasLeadingZero isNumber numberOf withoutMinus withMinus instantOf digitsWithin spelledNumber spelled words sameBytes placeOf operatorOf kindOf inRange areLower withCode eventLine withOperands secondOperand operandsLine byOperator operatorLine numbered parsedLine checkedEntry checkedLine answerTo noEntries withEntry refusedChart readLines orNoLine readChart entryFits allBelow isUsable capacity rowsIn areZeros operatorBy operatorsOf isRising isWatchInRange isTableRowConsistent areConsistent arityOf rowBytes referenceBytes treeWithin treeBytes checkNumber treeOwn treeStep
+unfolding treeCases isInstant firstFloor isRelated split lines bytes tabbed unended text isDigit allDigits valueFrom hasLeadingZero isNumber numberOf millisecondsOf inTenths hasPoint lengthOf digitsWithin spelledNumber signed words sameBytes placeOf operatorOf kindOf inRange areLower withCode eventLine withOperands secondOf secondOperand operandsLine byOperator operatorLine numbered parsedLine checkedEntry checkedLine answerTo noEntries withEntry refusedChart readLines orNoLine readChart entryFits allBelow isUsable capacity rowsIn areZeros operatorBy operatorsOf isRising isWatchInRange isTableRowConsistent areConsistent arityOf rowBytes referenceBytes treeWithin treeBytes checkNumber treeOwn treeStep
 trees = refl
 
 -- Reads of the five rows: chart, watch and end; the first row of the part, how many rows it has, and the part.
@@ -420,7 +420,7 @@ readCases =
     reads noEntry (five (pos 0) 5) (pos 5) (found 0 0 []) ∷ []
 
 pub parts : map (λ (c : Read). record { rows = endRows (c .chart) (c .watch) (table fiveRows) (c .end); part = endPart (c .chart) (c .watch) (table fiveRows) (c .end) }) readCases ≡ map (λ (c : Read). c .expected) readCases
-unfolding readCases isInstant firstFloor isRelated split lines bytes tabbed unended text isDigit allDigits valueFrom hasLeadingZero isNumber numberOf withoutMinus withMinus instantOf words sameBytes placeOf operatorOf kindOf inRange areLower withCode eventLine withOperands secondOperand operandsLine byOperator operatorLine numbered parsedLine checkedEntry checkedLine answerTo noEntries withEntry refusedChart readLines orNoLine readChart entryFits allBelow isUsable capacity rowsIn areZeros operatorBy operatorsOf isRising isWatchInRange isTableRowConsistent areConsistent checkNumber endPart endRows
+unfolding readCases isInstant firstFloor isRelated split lines bytes tabbed unended text isDigit allDigits valueFrom hasLeadingZero isNumber numberOf millisecondsOf inTenths hasPoint lengthOf words sameBytes placeOf operatorOf kindOf inRange areLower withCode eventLine withOperands secondOf secondOperand operandsLine byOperator operatorLine numbered parsedLine checkedEntry checkedLine answerTo noEntries withEntry refusedChart readLines orNoLine readChart entryFits allBelow isUsable capacity rowsIn areZeros operatorBy operatorsOf isRising isWatchInRange isTableRowConsistent areConsistent checkNumber endPart endRows
 parts = refl
 
 -- Reports on the five rows (request N3): chart and watch; the report.
@@ -449,5 +449,5 @@ reportCases =
     reports noEntry (five (pos 7) 5) (onlyNumber 14) ∷ []
 
 pub reported : map (λ (c : Reporting). reportStep (c .chart) (c .watch) (table fiveRows)) reportCases ≡ map (λ (c : Reporting). c .expected) reportCases
-unfolding reportCases isInstant firstFloor isRelated split lines bytes tabbed unended text isDigit allDigits valueFrom hasLeadingZero isNumber numberOf withoutMinus withMinus instantOf words sameBytes placeOf operatorOf kindOf inRange areLower withCode eventLine withOperands secondOperand operandsLine byOperator operatorLine numbered parsedLine checkedEntry checkedLine answerTo noEntries withEntry refusedChart readLines orNoLine readChart entryFits allBelow isUsable capacity rowsIn areZeros operatorBy operatorsOf isRising isWatchInRange isTableRowConsistent areConsistent checkNumber tally tallies counts reportOf refusedReport reportStep
+unfolding reportCases isInstant firstFloor isRelated split lines bytes tabbed unended text isDigit allDigits valueFrom hasLeadingZero isNumber numberOf millisecondsOf inTenths hasPoint lengthOf words sameBytes placeOf operatorOf kindOf inRange areLower withCode eventLine withOperands secondOf secondOperand operandsLine byOperator operatorLine numbered parsedLine checkedEntry checkedLine answerTo noEntries withEntry refusedChart readLines orNoLine readChart entryFits allBelow isUsable capacity rowsIn areZeros operatorBy operatorsOf isRising isWatchInRange isTableRowConsistent areConsistent checkNumber tally tallies counts reportOf refusedReport reportStep
 reported = refl

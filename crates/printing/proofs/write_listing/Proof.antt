@@ -5,7 +5,7 @@ use mathlib.Core.Path.{refl}
 use lib.ListN.{length}
 use borrow.Author.Needs.{needs}
 use Rattle.decimal.proofs.Written.{Remaining, remaining-all, remaining-less, remaining-last}
-use Rattle.printing.specs.Listing.{title, tableRows, tableText, titleBytes, rowBytes}
+use Rattle.printing.specs.Listing.{title, tableRows, tableText, titleSize, rowSize}
 use Rattle.printing.proofs.Laws.{none-where, text-where, listing-fits, listing-few-rows, listing-short}
 use Rattle.printing.proofs.write_listing.Statement.{statement}
 use Rattle.printing.proofs.write_listing.Tie as tie
@@ -33,6 +33,6 @@ write-listing-spec =
     let d = b .before .before .before in
     let g = d .before .before .before .before .args in
     let done = remaining-last (left-rows b) (w .write-rows .ensures .0) (w .write-rows .ensures .1) in
-    let room : titleBytes + g .rows * rowBytes ≤ length (g .out .now) = omega (arith, d .if3 .left, d .before .if2 .left) in
+    let room : titleSize + g .rows * rowSize ≤ length (g .out .now) = omega (arith, d .if3 .left, d .before .if2 .left) in
     let fits = listing-fits (g .rows) (g .table .now) (g .out .now) (omega (arith, d .before .before .if1 .left)) room in
     text-where (tableText (g .rows) (g .table .now)) (g .out .now) fits (omega (arith, done .0, room, w .write-rows .ensures .2, b .write-bytes .ensures .0)) done))

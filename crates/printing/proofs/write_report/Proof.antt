@@ -7,13 +7,13 @@ use lib.ListN.{length}
 use borrow.Author.Needs.{needs}
 use Rattle.decimal.proofs.Written.{Remaining, remaining-all, remaining-less, remaining-last}
 use Rattle.printing.specs.Listing.{lastField}
-use Rattle.printing.specs.Report.{tallyTexts, totalWord, reportText, tallyBytes, totalBytes}
+use Rattle.printing.specs.Report.{tallyTexts, totalWord, reportText, tallySize, totalSize}
 use Rattle.printing.proofs.Laws.{none-where, text-where, report-fits, report-short, last-field-most}
 use Rattle.printing.proofs.write_report.Statement.{statement}
 use Rattle.printing.proofs.write_report.Tie as tie
 
 -- there is room for the entries and the total
-room : (c : tie.Else2) → let g = c .before .before .before .before .args in totalBytes + length (g .tallies .now) * tallyBytes ≤ length (g .out .now)
+room : (c : tie.Else2) → let g = c .before .before .before .before .args in totalSize + length (g .tallies .now) * tallySize ≤ length (g .out .now)
 room c = omega (arith, c .if2 .left, c .before .if1 .left)
 
 left-total : (c : tie.After-write-tallies) →
@@ -34,7 +34,7 @@ left-number c =
 -- where the total is written there is room for it
 total-fits : (c : tie.After-write-bytes) →
     let s = c .before .before .before .before .before .before .before .before .before .before .before in
-    (c .write-bytes .result + length (lastField (s .args .total)) ≤ totalBytes + length (s .args .tallies .now) * tallyBytes) × (totalBytes + length (s .args .tallies .now) * tallyBytes ≤ length (s .args .out .now))
+    (c .write-bytes .result + length (lastField (s .args .total)) ≤ totalSize + length (s .args .tallies .now) * tallySize) × (totalSize + length (s .args .tallies .now) * tallySize ≤ length (s .args .out .now))
 total-fits c =
     let w = c .before .before .before .before .before in
     let s = w .before .before .before .before .before .before in

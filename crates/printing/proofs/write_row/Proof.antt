@@ -13,7 +13,7 @@ use Rattle.interval.proofs.Machine.{same32}
 use Rattle.decimal.specs.Spelling.{spelledNumber, spelled, spelledInstant}
 use Rattle.decimal.proofs.Laws.{wide-digits-most}
 use Rattle.decimal.proofs.Written.{Remaining, remaining-all, remaining-less, remaining-last}
-use Rattle.printing.specs.Listing.{rowText, rowBytes}
+use Rattle.printing.specs.Listing.{rowText, rowSize}
 use Rattle.printing.proofs.write_row.Statement.{statement}
 use Rattle.printing.proofs.write_row.Tie as tie
 
@@ -98,7 +98,7 @@ after-end c =
     next s 69 (after-start (atEnd c)) (9 ∷ spelledInstant (s .args .row .end)) (10 ∷ []) 13 refl (simp (same32, fit) at (c .write-instant-field2 .ensures))
 
 -- a part begins where there is room for what may still come
-room : (s : tie.Start) {out : List ℕ} {place : ℕ} {rest : List ℕ} (most k : ℕ) → Left s out place rest most → most + k ≤ rowBytes → place + k ≤ length out
+room : (s : tie.Start) {out : List ℕ} {place : ℕ} {rest : List ℕ} (most k : ℕ) → Left s out place rest most → most + k ≤ rowSize → place + k ≤ length out
 room s most k l h = omega (arith, l .0 .same, l .1, s .pre)
 
 pub write-row-spec : {M : Type 1} → statement M

@@ -6,7 +6,7 @@ use mathlib.Core.List.{List}
 use lib.IntN.{ℤ}
 use Rattle.table.specs.Table.{storedRow}
 use Rattle.decimal.proofs.Written.{Remaining, remaining-all, remaining-less, remaining-none}
-use Rattle.printing.specs.Listing.{rowText, tableRows, rowBytes}
+use Rattle.printing.specs.Listing.{rowText, tableRows, rowSize}
 use Rattle.printing.proofs.Laws.{rowsFrom, rows-more, rows-done}
 use Rattle.printing.proofs.write_rows.Statement.{statement}
 use Rattle.printing.proofs.write_rows.Tie as tie
@@ -17,7 +17,7 @@ all-rows out at rows t = let e : rows - 0 ≡ rows = omega arith in rw e (remain
 
 abbrev Inv-loop : tie.InvT-loop
 Inv-loop table rows out₀ at place₀ i₀ out place i =
-    (i ≤ rows) × (place ≤ at + i * rowBytes) × Remaining out₀ at (tableRows 0 rows table) out place (rowsFrom rows table i)
+    (i ≤ rows) × (place ≤ at + i * rowSize) × Remaining out₀ at (tableRows 0 rows table) out place (rowsFrom rows table i)
 
 abbrev μ-loop : tie.MeasureT-loop
 μ-loop table rows out₀ at place₀ i₀ out place i = rows - i

@@ -6,14 +6,14 @@ use lib.ListN.{length, getD, drop}
 use Rattle.decimal.specs.Spelling.{spelledNumber}
 use Rattle.decimal.proofs.Written.{Remaining, remaining-all, remaining-less, remaining-none}
 use Rattle.printing.specs.Listing.{lastField}
-use Rattle.printing.specs.Report.{tallyTexts, tallyBytes}
+use Rattle.printing.specs.Report.{tallyTexts, tallySize}
 use Rattle.printing.proofs.Laws.{tallies-more, tallies-done}
 use Rattle.printing.proofs.write_tallies.Statement.{statement}
 use Rattle.printing.proofs.write_tallies.Tie as tie
 
 abbrev Inv-loop : tie.InvT-loop
 Inv-loop tallies out₀ place₀ e₀ out place e =
-    (e ≤ length tallies) × (place ≤ e * tallyBytes) × Remaining out₀ 0 (tallyTexts 0 tallies) out place (tallyTexts e (drop e tallies))
+    (e ≤ length tallies) × (place ≤ e * tallySize) × Remaining out₀ 0 (tallyTexts 0 tallies) out place (tallyTexts e (drop e tallies))
 
 abbrev μ-loop : tie.MeasureT-loop
 μ-loop tallies out₀ place₀ e₀ out place e = length tallies - e

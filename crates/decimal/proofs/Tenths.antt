@@ -126,6 +126,15 @@ sound s n e = at (hasPoint s) refl e
     at true p q = subst (λ l. Sound l n) (sym (taken-apart s p)) (tenth-is w b n (millisecondsOf w) refl q)
     at false p q = alone-is s n (millisecondsOf s) refl q
 
+-- A length as an instant without a minus, for callers.
+pub length-instant : (s : List ℕ) (n : ℕ) → lengthOf s ≡ Number.Value n → withoutMinus (lengthOf s) ≡ Instant.Value (pos n)
+unfolding withoutMinus
+length-instant s n e = ap withoutMinus e
+
+pub no-length-instant : (s : List ℕ) → lengthOf s ≡ Number.Malformed → withoutMinus (lengthOf s) ≡ Instant.Malformed
+unfolding withoutMinus
+no-length-instant s e = ap withoutMinus e
+
 -- A length is below the tenth power of ten.
 pub length-below : (s : List ℕ) (n : ℕ) → lengthOf s ≡ Number.Value n → n < 10 ^ 10
 length-below s n e = at (sound s n e)

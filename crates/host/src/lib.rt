@@ -1,13 +1,18 @@
-// The C interface: each call of the watch, the chart reader, and the listing of and the report on a whole input, under the name and the layout that include/chronicle.h declares.
-// A call has the contract of the call that it makes. Costs are those of that call.
+// The C interface: each call of the watch, the chart reader, instants and lengths on paper, and the listing of and the report on a whole input, under the name and the
+// layout that include/chronicle.h declares. A call has the contract of the call that it makes. Costs are those of that call. Instants and lengths are in tenths of
+// a millisecond.
 ghost use mathlib.Core.Path.{_≡_};
 ghost use Rattle.chart.specs.Charts.{readChart, verdictOf};
+ghost use Rattle.decimal.specs.Spelling.{lengthOf, instantOf, withoutMinus, spelledInstant, writtenLength, writtenOutput};
+ghost use Rattle.host.specs.Tenths.{tenthsOf};
 ghost use Rattle.model.specs.Capacity.{capacity};
 ghost use Rattle.program.specs.Statements.{wholeLength, wholeTable, wholeOutput};
 ghost use Rattle.watch.specs.Steps.{openingStep, checkNumber, eventStep, clockStep, forgetStep, addStep, endRows, treeStep, reportStep};
 use chart::Chart;
 use chart::ChartAnswer;
 use chart::Verdict;
+use decimal::Instant;
+use decimal::Number;
 use program::Format;
 use tally::Report;
 use watch::Addition;
@@ -30,6 +35,58 @@ pub extern "C" fn chronicle_read_chart(bytes: &[u8]) -> ChartAnswer
     ensures { λ r. ⌜ r ≡ readChart (now (bytes .entry)) ⌝ }
 {
     chart::read(bytes)
+}
+
+// What an instant or a length on paper is: 1 and its tenths where it is well formed, else 0 and 0.
+#[repr(C)]
+pub struct TenthsAnswer {
+    pub formed: u32,
+    pub tenths: i64,
+}
+
+// The instant that all the bytes spell, in its range or not. Constant time.
+#[no_mangle]
+pub extern "C" fn chronicle_read_instant(bytes: &[u8]) -> TenthsAnswer
+    ensures { λ r. ⌜ r ≡ tenthsOf (instantOf (now (bytes .entry))) ⌝ }
+{
+    let i = decimal::read_instant(bytes);
+    answer_of(i)
+}
+
+// The length that all the bytes spell, in its range or not. Constant time.
+#[no_mangle]
+pub extern "C" fn chronicle_read_length(bytes: &[u8]) -> TenthsAnswer
+    ensures { λ r. ⌜ r ≡ tenthsOf (withoutMinus (lengthOf (now (bytes .entry)))) ⌝ }
+{
+    let n = decimal::read_length(bytes);
+    let Number::Value(v) = n else {
+        return answer_of(Instant::Malformed);
+    };
+    answer_of(Instant::Value(v as i64))
+}
+
+fn answer_of(i: Instant) -> TenthsAnswer
+    ensures { λ r. ⌜ r ≡ tenthsOf i ⌝ }
+{
+    match i {
+        Instant::Value(z) => TenthsAnswer {
+            formed: 1,
+            tenths: z,
+        },
+        Instant::Malformed => TenthsAnswer {
+            formed: 0,
+            tenths: 0,
+        },
+    }
+}
+
+// Writes an instant as listings have it at the front of the output: the number of bytes, or 0 and nothing written where the output is too short. One division for
+// each digit but one.
+#[no_mangle]
+pub extern "C" fn chronicle_write_instant(tenths: i32, out: &mut [u8]) -> usize
+    ensures { λ r. ⌜ (r ≡ writtenLength (spelledInstant tenths) (now (out .entry))) × (now (out .exit) ≡ writtenOutput (spelledInstant tenths) (now (out .entry))) ⌝ }
+{
+    decimal::write_instant(tenths, out)
 }
 
 // How many rows a table of so many numbers holds. 16 turns of a loop at most, and no division.

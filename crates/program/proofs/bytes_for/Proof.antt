@@ -16,6 +16,6 @@ bytes-for-spec =
     (λ c. search needs) (λ c κs. search needs)
     (λ c. omega (arith, few c))
     (λ c. omega (arith, few c))
-    (λ c. search needs)
+    (λ c. search needs) (λ c. omega arith) (λ c. omega arith)
     (λ c. simp (c .rows-that-fit .ensures, c .before .enum-told .given .1))
     (λ c. search needs))

@@ -7,7 +7,8 @@
  *     gcc -std=c11 -Iinclude examples/add_at_noon.c target/staticlib/libhost.a -o target/add_at_noon
  *     target/add_at_noon
  *
- * Codes: 1 stage settled, 2 shutter opened, 4 focus moved. Noon is the instant 60000. The morning's chart has
+ * Codes: 1 stage settled, 2 shutter opened, 4 focus moved. Noon is the instant 60000, in milliseconds; the calls take
+ * and give tenths of a millisecond. The morning's chart has
  *     0  the stage settled
  *     1  the shutter opened
  *     2  the stage settled and later the shutter opened
@@ -25,7 +26,8 @@
 
 enum { DONE = 0, REFUSED = 1, FAILED = 2 };
 
-enum { ROWS = 100, NUMBERS = 5 * ROWS, MORNING = 0, NOON = 60000 };
+/* MS is a millisecond in the unit of the calls. */
+enum { ROWS = 100, NUMBERS = 5 * ROWS, MS = 10, MORNING = 0, NOON = 60000 * MS };
 
 static const char morning_chart[] = "0\tevent\t1\n"
                                     "1\tevent\t2\n"
@@ -40,18 +42,20 @@ static const char noon_lines[] = "3\tevent\t4\n"
                                  "4\tcut\t0\t1\n"
                                  "5\t-[]\t4\t3\n";
 
-/* An event's code, or the instant of a clock mark. */
+/* An event's code, or the instant of a clock mark, in tenths of a millisecond. */
 struct step {
     enum { EVENT, CLOCK } call;
     int32_t number;
 };
 
 /* The last event happens at noon. */
-static const struct step morning[] = {{EVENT, 1},     {CLOCK, 800}, {EVENT, 2},    {CLOCK, 50000}, {EVENT, 4},
-                                      {CLOCK, 59000}, {EVENT, 1},   {CLOCK, NOON}, {EVENT, 1}};
+static const struct step morning[] = {{EVENT, 1},          {CLOCK, 800 * MS}, {EVENT, 2},
+                                      {CLOCK, 50000 * MS}, {EVENT, 4},        {CLOCK, 59000 * MS},
+                                      {EVENT, 1},          {CLOCK, NOON},     {EVENT, 1}};
 
-static const struct step afternoon[] = {{CLOCK, 60700}, {EVENT, 2},     {CLOCK, 65000}, {EVENT, 1},    {CLOCK, 65400},
-                                        {EVENT, 4},     {CLOCK, 66000}, {EVENT, 2},     {CLOCK, 70000}};
+static const struct step afternoon[] = {{CLOCK, 60700 * MS}, {EVENT, 2},          {CLOCK, 65000 * MS},
+                                        {EVENT, 1},          {CLOCK, 65400 * MS}, {EVENT, 4},
+                                        {CLOCK, 66000 * MS}, {EVENT, 2},          {CLOCK, 70000 * MS}};
 
 /* The bench's watch with all that its calls take. An addition gives it another watch and another chart. */
 struct bench {
@@ -114,13 +118,24 @@ static int add(struct bench *bench, const char *lines)
     return REFUSED;
 }
 
+/* Prints an instant in milliseconds, as listings have it. */
+static void print_instant(int32_t tenths)
+{
+    uint8_t text[CHRONICLE_INSTANT_BYTES];
+    size_t length = chronicle_write_instant(tenths, text, sizeof text);
+    printf("%.*s", (int)length, (char *)text);
+}
+
 static void print_table(const struct bench *bench)
 {
     printf("row\tentry\tleft\tright\tstart\tend\n");
     for (size_t row = 0; row < bench->watch.rows; row++) {
         const int32_t *numbers = bench->table + 5 * row;
-        printf("%zu\t%" PRId32 "\t%" PRId32 "\t%" PRId32 "\t%" PRId32 "\t%" PRId32 "\n", row, numbers[0], numbers[1],
-               numbers[2], numbers[3], numbers[4]);
+        printf("%zu\t%" PRId32 "\t%" PRId32 "\t%" PRId32 "\t", row, numbers[0], numbers[1], numbers[2]);
+        print_instant(numbers[3]);
+        putchar('\t');
+        print_instant(numbers[4]);
+        putchar('\n');
     }
 }
 

@@ -2,7 +2,8 @@
  * Runs a watch over a chart and a log, as an acquisition program would. Use: bench_morning CHART LOG
  *
  * Prints every recognition of the chart's last entry, as a tree, as soon as the instant that it ends at is closed, the
- * shortest of an instant first, and the table at the end. To build it and run it on a morning at the bench:
+ * shortest of an instant first, and the table at the end. Chart, log and output have milliseconds, with a point and one
+ * digit for tenths; the calls take and give tenths. To build it and run it on a morning at the bench:
  *     rt staticlib host
  *     gcc -std=c11 -Iinclude examples/bench_morning.c target/staticlib/libhost.a -o target/bench_morning
  *     target/bench_morning examples/morning.chart examples/morning.log
@@ -43,28 +44,33 @@ struct bench {
     int32_t table[NUMBERS];
 };
 
-/* A line of the log. */
+/* A line of the log: an event with its code, any other word with an instant, in tenths of a millisecond. */
 struct record {
     char word[8];
     int64_t number;
 };
 
-/* Reads 1 to 10 digits with no leading zero, and a minus, never before 0. Returns 0 where they are anything else. */
-static int read_number(const char *digits, int64_t *number)
+/* Reads a code, 1 to 10 digits with no leading zero. Returns 0 where it is anything else. */
+static int read_code(const char *digits, int64_t *code)
 {
-    int is_negative = *digits == '-';
-    digits += is_negative;
     size_t length = strspn(digits, "0123456789");
-    if (length < 1 || length > 10 || digits[length] != '\0' || (*digits == '0' && (length > 1 || is_negative)))
+    if (length < 1 || length > 10 || digits[length] != '\0' || (*digits == '0' && length > 1))
         return 0;
-    int64_t value = 0;
+    *code = 0;
     for (; *digits != '\0'; digits++)
-        value = value * 10 + (*digits - '0');
-    *number = is_negative ? -value : value;
+        *code = *code * 10 + (*digits - '0');
     return 1;
 }
 
-/* Reads a word, a tab, a number and the end of the line. Returns 0 where the line is anything else. */
+/* Reads an instant in milliseconds as its number of tenths. Returns 0 where it is anything else. */
+static int read_instant(const char *text, int64_t *tenths)
+{
+    struct chronicle_tenths read = chronicle_read_instant((const uint8_t *)text, strlen(text));
+    *tenths = read.tenths;
+    return read.well_formed != 0;
+}
+
+/* Reads a word, a tab, a code or an instant, and the end of the line. Returns 0 where the line is anything else. */
 static int read_record(char *line, struct record *record)
 {
     char *end = strchr(line, '\n');
@@ -74,15 +80,23 @@ static int read_record(char *line, struct record *record)
     *end = '\0';
     *tab = '\0';
     strcpy(record->word, line);
-    return read_number(tab + 1, &record->number);
+    return strcmp(line, "event") == 0 ? read_code(tab + 1, &record->number) : read_instant(tab + 1, &record->number);
 }
 
-/* An instant of ten digits may be more than 32 bits hold: the ends of their range are refused like it. */
-static int32_t instant_of(int64_t number)
+/* An instant of nine digits may have more tenths than 32 bits hold: the ends of their range are refused like it. */
+static int32_t instant_of(int64_t tenths)
 {
-    if (number < INT32_MIN)
+    if (tenths < INT32_MIN)
         return INT32_MIN;
-    return number > INT32_MAX ? INT32_MAX : (int32_t)number;
+    return tenths > INT32_MAX ? INT32_MAX : (int32_t)tenths;
+}
+
+/* Prints an instant in milliseconds, as listings have it. */
+static void print_instant(int32_t tenths)
+{
+    uint8_t text[CHRONICLE_INSTANT_BYTES];
+    size_t length = chronicle_write_instant(tenths, text, sizeof text);
+    printf("%.*s", (int)length, (char *)text);
 }
 
 /* Prints the recognitions of the last entry among the rows with this end. Returns 0 where printing fails. */
@@ -95,8 +109,10 @@ static int print_found(const struct bench *bench, int32_t end)
             continue;
         struct chronicle_tree_answer written =
             chronicle_tree(bench->watch, bench->chart, bench->table, NUMBERS, row, tree, TREE_BYTES);
+        fputs("found\t", stdout);
+        print_instant(end);
         /* Refused with 16, a tree has length 0 and nothing is printed of it. */
-        if (printf("found\t%" PRId32 "\t%.*s\n", end, (int)written.length, (char *)tree) < 0)
+        if (printf("\t%.*s\n", (int)written.length, (char *)tree) < 0)
             return 0;
     }
     return 1;
@@ -111,7 +127,7 @@ static uint32_t play(struct bench *bench, const struct record *record, int is_fi
         return 7;
     if (is_first)
         answer = chronicle_open(bench->chart, bench->table, NUMBERS, instant);
-    else if (strcmp(record->word, "event") == 0 && record->number >= 0 && record->number <= 255)
+    else if (strcmp(record->word, "event") == 0 && record->number <= 255)
         answer = chronicle_event(bench->watch, bench->chart, bench->table, NUMBERS, (uint8_t)record->number);
     else if (strcmp(record->word, "clock") == 0)
         answer = chronicle_clock(bench->watch, bench->chart, bench->table, NUMBERS, instant);
@@ -147,8 +163,11 @@ static void print_table(const struct bench *bench)
     printf("row\tentry\tleft\tright\tstart\tend\n");
     for (size_t row = 0; row < bench->watch.rows; row++) {
         const int32_t *numbers = bench->table + 5 * row;
-        printf("%zu\t%" PRId32 "\t%" PRId32 "\t%" PRId32 "\t%" PRId32 "\t%" PRId32 "\n", row, numbers[0], numbers[1],
-               numbers[2], numbers[3], numbers[4]);
+        printf("%zu\t%" PRId32 "\t%" PRId32 "\t%" PRId32 "\t", row, numbers[0], numbers[1], numbers[2]);
+        print_instant(numbers[3]);
+        putchar('\t');
+        print_instant(numbers[4]);
+        putchar('\n');
     }
 }
 

@@ -16,6 +16,52 @@
  * watch calls chronicle_read_chart, which says the same and gives the chart.
  *
  *
+ * TENTHS OF A MILLISECOND
+ *
+ * In every call, struct and table an instant or a length is a whole number of
+ * tenths of a millisecond. Instants count from the lamp trigger: -20 is 2 ms
+ * before it.
+ *
+ *     instant  -1000000000 to 1000000000; on paper -100000000.0 to 100000000.0
+ *     length   0 to 2000000000; on paper 0.0 to 200000000.0
+ *
+ * A program written for the header of before, when the unit was a millisecond,
+ * must multiply every instant and length that it hands over by 10, and take
+ * those that it gets as tenths. No type, no name and no size of a struct tells
+ * it so: it compiles and links unaltered, and its times then mean a tenth of
+ * what they did. chronicle_open(..., -2) of before is chronicle_open(..., -20)
+ * now. It must also lend chronicle_list a longer output: see
+ * CHRONICLE_LISTING_BYTES. A watch and a table that were stored before are in
+ * milliseconds: instant, floor and since of the watch and every start and end
+ * of the table are to be multiplied by 10, all but a floor or since of
+ * -1000000000, which stays as it is, and the chart is read anew from its text.
+ * Where an instant leaves the range by this, a new watch is to be opened.
+ *
+ *
+ * ON PAPER
+ *
+ * In charts, logs and listings instants and lengths are in milliseconds: 1 to 9
+ * decimal digits, alone or followed by a point and one digit. Without a point
+ * they are whole milliseconds: 5 and 5.0 are the same. What stands alone or
+ * before the point begins with the digit 0 only where it is 0 itself. An
+ * instant may carry a minus, never on the value zero; a length has no sign.
+ *
+ *     sound         0   0.0   5   5.0   0.5   -0.5   -100000000
+ *     out of range  100000000.1   -999999999   (well formed all the same)
+ *     malformed     -0   -0.0   .5   5.   5.25   05   00.5   1000000000   +5   5,0
+ *
+ * chronicle_read_instant and chronicle_read_length read one instant or length,
+ * chronicle_write_instant writes one as listings have it, always with one digit
+ * after the point:
+ *
+ *     struct chronicle_tenths at = chronicle_read_instant(bytes, size);
+ *     uint8_t out[CHRONICLE_INSTANT_BYTES];
+ *     size_t written = chronicle_write_instant(-20, out, sizeof out);
+ *
+ * (A program looks at at.well_formed, and compares at.tenths with the range
+ * before it makes an int32_t of it. Here out begins with the 4 bytes -2.0.)
+ *
+ *
  * CHARTS
  *
  * The text of a chart has one entry a line, 1 to 32 lines. Fields are parted by
@@ -26,7 +72,7 @@
  *
  *     number  event  code      number: the entry's own, from 0 upwards
  *     number  PAIR   a  b      a, b:   numbers of earlier entries
- *     number  LENGTH a  d      d:      a length, 0 to 2000000000 milliseconds
+ *     number  LENGTH a  d      d:      a length, 0 to 200000000.0 milliseconds
  *     number  after  a  d      code:   an event's code, 0 to 255
  *
  *     PAIR is one of    seq or and -[] -][ -[[ -]]
@@ -46,9 +92,11 @@
  * none starts before r: no later event withdraws a pair, and a forget drops one
  * only where it drops r. a and b may be the same entry.
  *
- * A number has 1 to 10 decimal digits and no sign; only 0 itself begins with
- * the digit 0. The text is bytes: it needs no byte 0 at its end, and a byte 0
- * in it is a byte like any other, which no line of the form above has.
+ * A number has 1 to 10 decimal digits, no sign and no point; only 0 itself
+ * begins with the digit 0. The length d is spelled as said above: 1 to 9 digits,
+ * alone or followed by a point and one digit. The text is bytes: it needs no
+ * byte 0 at its end, and a byte 0 in it is a byte like any other, which no line
+ * of the form above has.
  *
  *     refusal  line  meaning
  *     0        0     the chart is taken
@@ -57,7 +105,8 @@
  *     3        n     line n is not of the form above
  *     4        n     its entry number is not the next (0 in line 1, and so on)
  *     5        n     an operand is not lower than the entry's own number
- *     6        n     a code above 255 or a length above 2000000000
+ *     6        n     a code above 255, or a length above 2000000000 tenths,
+ *                    which is 200000000.0 on paper
  *
  * Lines are counted from 1. The first line with a fault is the one reported.
  * In a line the checks come in the order 2, 3, 4, 6, 5, and the first that
@@ -66,27 +115,28 @@
  *
  * A WATCH
  *
- * An instant is -1000000000 to 1000000000, in milliseconds from the lamp
- * trigger. A watch is always at one open instant. An event happens there and
- * gets the next serial, 1 for the first. A clock mark closes every instant from
- * the open one to the last before the mark, which writes the rows that end at
- * them, and opens the mark's own. The events belong to the open instant; at the
- * others only rows of after end, and rows made of these. A forget raises the
- * floor, which is -1000000000 at first, and drops every row that starts before
- * it; no such row is made any more, also where the wait of an after still runs.
+ * An instant is -1000000000 to 1000000000, in tenths of a millisecond from the
+ * lamp trigger. A watch is always at one open instant. An event happens there
+ * and gets the next serial, 1 for the first. A clock mark closes every instant
+ * from the open one to the last before the mark, a tenth earlier than it, which
+ * writes the rows that end at them, and opens the mark's own. The events belong
+ * to the open instant; at the others only rows of after end, and rows made of
+ * these. A forget raises the floor, which is -1000000000 tenths at first, and
+ * drops every row that starts before it; no such row is made any more, also
+ * where the wait of an after still runs.
  *
  * Events of the open instant are not in the table before it closes. A row of
  * after is there once a mark was later than its end. No mark is later than
- * 1000000000: a row that ends there or later is never written.
+ * 1000000000 tenths: a row that ends there or later is never written.
  *
  *     struct chronicle_chart_answer read = chronicle_read_chart(text, length);
  *     int32_t table[5 * 3000];
- *     struct chronicle_answer now = chronicle_open(read.chart, table, 5 * 3000, -2);
+ *     struct chronicle_answer now = chronicle_open(read.chart, table, 5 * 3000, -20);
  *     now = chronicle_event(now.watch, read.chart, table, 5 * 3000, 1);
  *     now = chronicle_clock(now.watch, read.chart, table, 5 * 3000, 0);
  *
- * (A program looks at read.refusal and now.refusal after each of these.)
- * examples/bench_morning.c is a whole program.
+ * (A program looks at read.refusal and now.refusal after each of these. The
+ * opening is at -2.0 ms.) examples/bench_morning.c is a whole program.
  *
  * Watch and chart are values. A call gets copies and hands the new watch back;
  * give it to the next call, with the same chart and the same table, of the same
@@ -114,9 +164,9 @@
  * none is. Lines may be added more than once, up to 32 entries in all.
  *
  * A watch holds for each entry the instant from which it counts. For the entries
- * of the opening it is -1000000000, for added ones the instant that was open at
- * the addition. A recognition becomes a row only if it starts no earlier than
- * its entry counts, and no earlier than the floor. So the events of the open
+ * of the opening it is -1000000000 tenths, for added ones the instant that was
+ * open at the addition. A recognition becomes a row only if it starts no earlier
+ * than its entry counts, and no earlier than the floor. So the events of the open
  * instant count for the new entries, whether they come before the addition or
  * after it, and what started before does not: not a pair of which a part did,
  * not a wait that was under way. No row of a new entry refers to a row that
@@ -154,8 +204,9 @@
  *                  Of an absence, a length test or after: the row of a, and
  *                  -1. Of or: a row and -1, or -1 and a row. Rows referred to
  *                  are lower.
- *     start, end   the least start and the greatest end of the rows referred
- *                  to; an event's are its instant; after ends d later
+ *     start, end   instants, in tenths of a millisecond: the least start and
+ *                  the greatest end of the rows referred to; an event's are
+ *                  its instant; after ends d later
  *
  * Rows stand by end, then by entry, then by start, the later start first: the
  * shortest recognition of an instant is the first of its entry. Rows that start
@@ -185,8 +236,8 @@
  *
  * REFUSALS
  *
- *     8   an opening instant out of range; a clock mark out of range or not
- *         after the open instant
+ *     8   an opening instant out of range, which is -1000000000 to 1000000000
+ *         tenths; a clock mark out of range or not after the open instant
  *     9   a 65th event in one instant
  *     10  an event after serial 1000000
  *     11  a forget below the floor, above the open instant or out of range
@@ -213,14 +264,14 @@
  * After a refusal all lent memory holds what it held before. A refused event,
  * mark, forget or addition returns the watch given, so the caller may go on:
  * after 12, forget and mark again. A refused opening returns an empty watch at
- * instant 0 with the floor at -1000000000 and no entries: with a usable chart,
- * every call on it is refused with 13. A refused tree returns the length 0, a
- * refused report zeros besides the number.
+ * instant 0 with the floor at -1000000000 tenths and no entries: with a usable
+ * chart, every call on it is refused with 13. A refused tree returns the length
+ * 0, a refused report zeros besides the number.
  *
  * Out of joint is a watch or table with: the open instant or the floor out of
  * range, or the floor above the open instant; another number of entries than
- * the chart's; an entry that counts from an instant below -1000000000, above
- * the open instant or before that of the entry above it; over 64 pending
+ * the chart's; an entry that counts from an instant below -1000000000 tenths,
+ * above the open instant or before that of the entry above it; over 64 pending
  * events, more of them than events counted, or over 1000000 events; more rows
  * than fit; a row not in use that is not all zeros; or a row in use whose entry
  * is not in the chart, whose start is below the floor or before the instant
@@ -264,6 +315,12 @@
 /* The bytes that chronicle_print_report asks for: 40, and 42 for each of the 32 entries that a chart may have. */
 #define CHRONICLE_REPORT_BYTES 1384
 
+/* The bytes that chronicle_list asks for, of a table that holds so many rows (chronicle_rows_that_fit). */
+#define CHRONICLE_LISTING_BYTES(rows) (40 + 83 * (size_t)(rows))
+
+/* The most bytes that chronicle_write_instant writes. */
+#define CHRONICLE_INSTANT_BYTES 12
+
 #ifdef __GNUC__
 #define CHRONICLE_CALL __attribute__((nonnull, warn_unused_result))
 #define CHRONICLE_NUMBER_CALL __attribute__((const, warn_unused_result))
@@ -287,7 +344,8 @@ struct chronicle_verdict {
  *     0 event   1 seq   2 or   3 and   4 -[]   5 -][   6 -[[   7 -]]
  *     8 meets   9 overlaps   10 starts   11 during   12 finishes   13 equals
  *     14 lasts   15 atmost   16 atleast   17 after   18 cut   19 change
- * An event has its code in a, and 0 in b; a length test and after have their length in b.
+ * An event has its code in a, and 0 in b; a length test and after have their length in b, in tenths of a millisecond, 0 to
+ * 2000000000: of a line `3 atmost 2 0.5` it is 5.
  */
 struct chronicle_entry {
     uint8_t op;
@@ -314,13 +372,13 @@ struct chronicle_chart_answer {
  * made. No call looks at them; an event, a forget and an addition leave them as they are, and a mark sets all codes to 0.
  * Then how many entries there are, as many as the chart has, and for each the instant from which it counts. The instants
  * behind these are zeros in a watch that calls have made. No call looks at them, and only an addition writes there, as
- * many as it adds entries.
+ * many as it adds entries. All instants, those of `instant`, `floor` and `since`, are in tenths of a millisecond.
  *
  * chronicle_open fills in every field: a program sets none of them. `entries` and `since` came later than the others and
  * made the struct longer, 232 bytes where it had 96: a program compiled with an earlier header must be compiled again,
  * not only linked. A watch that was stored before has neither; read back with zeros behind it, it has no entries and is
- * refused with 13. With the chart's count for `entries` and -1000000000 in that many places of `since`, it is the watch
- * that it was.
+ * refused with 13. With the chart's count for `entries` and -1000000000 in that many places of `since`, and its other
+ * instants made tenths as said above, it is the watch that it was.
  */
 struct chronicle_watch {
     int32_t instant;
@@ -380,6 +438,36 @@ struct chronicle_report_answer {
     size_t tallies[32];
 };
 
+/*
+ * An instant or a length that was read: 1 and its number of tenths of a millisecond, or 0 and 0 where it is malformed. The
+ * number may lie outside the range, up to 9999999999 tenths either way, which an int32_t does not hold: the caller
+ * compares it with -1000000000 and 1000000000 for an instant, with 2000000000 for a length.
+ */
+struct chronicle_tenths {
+    uint32_t well_formed;
+    int64_t tenths;
+};
+
+/*
+ * Reads an instant on paper. All of the bytes must be its spelling: no tab before it and no line end behind it. Time:
+ * constant; at most 12 bytes are looked at, of a text longer than that at most three.
+ */
+CHRONICLE_CALL
+struct chronicle_tenths chronicle_read_instant(const uint8_t *bytes, size_t length);
+
+/* Reads a length on paper: the same without a minus. Time: as chronicle_read_instant. */
+CHRONICLE_CALL
+struct chronicle_tenths chronicle_read_length(const uint8_t *bytes, size_t length);
+
+/*
+ * Writes a number of tenths of a millisecond into `out` as listings have it, any number that an int32_t holds, so a length
+ * too: a minus where it is negative, the whole milliseconds, a point and one digit; -20 is -2.0, 5 is 0.5. Returns how many
+ * bytes were written and leaves those past them; no byte 0 follows. Where the output is too short, nothing is written and 0
+ * is returned; CHRONICLE_INSTANT_BYTES are always enough. Time: one division by 10 for each digit but one.
+ */
+CHRONICLE_CALL
+size_t chronicle_write_instant(int32_t tenths, uint8_t *out, size_t out_length);
+
 /* Checks a chart on paper. Time: proportional to the bytes of its first 33 lines. */
 CHRONICLE_CALL
 struct chronicle_verdict chronicle_check_chart(const uint8_t *bytes, size_t length);
@@ -395,7 +483,10 @@ struct chronicle_chart_answer chronicle_read_chart(const uint8_t *bytes, size_t 
 CHRONICLE_NUMBER_CALL
 size_t chronicle_rows_that_fit(size_t length);
 
-/* Opens a watch at an instant and fills all rows of the table with zeros. Time: one pass over the table. */
+/*
+ * Opens a watch at an instant, in tenths of a millisecond, and fills all rows of the table with zeros. Time: one pass over
+ * the table.
+ */
 CHRONICLE_CALL
 struct chronicle_answer chronicle_open(struct chronicle_chart chart, int32_t *table, size_t length, int32_t instant);
 
@@ -405,10 +496,11 @@ struct chronicle_answer chronicle_event(struct chronicle_watch watch, struct chr
                                         const int32_t *table, size_t length, uint8_t code);
 
 /*
- * A clock mark: closes every instant from the open one to the last before the mark, and opens the mark's own. Time: a
- * check and a search for new rows at the open instant and at each later one at which a row of after is due. The instants
- * between cost nothing, however many they are. New rows are those that end at the instant closed. For an added entry the
- * rows that started before it counts are looked at like the others, and give none. An entry looks
+ * A clock mark at an instant, in tenths of a millisecond: closes every instant from the open one to the last before the
+ * mark, and opens the mark's own. Time: a check and a search for new rows at the open instant and at each later one at
+ * which a row of after is due. The instants between cost nothing, however many they are. New rows are those that end at the
+ * instant closed. For an added entry the rows that started before it counts are looked at like the others, and give none.
+ * An entry looks
  *
  *     event                       at the pending events, at the open instant alone
  *     after                       at the rows, old or new, that ended d before, found by two
@@ -452,8 +544,8 @@ struct chronicle_answer chronicle_clock(struct chronicle_watch watch, struct chr
                                         size_t length, int32_t instant);
 
 /*
- * A forget: raises the floor and drops the rows that start before it. Time: a check, a second walk of the rows and, where
- * one is dropped, a third one of those kept.
+ * A forget: raises the floor, in tenths of a millisecond, and drops the rows that start before it. Time: a check, a second
+ * walk of the rows and, where one is dropped, a third one of those kept.
  */
 CHRONICLE_CALL
 struct chronicle_answer chronicle_forget(struct chronicle_watch watch, struct chronicle_chart chart, int32_t *table,
@@ -474,8 +566,8 @@ uint32_t chronicle_check(struct chronicle_watch watch, struct chronicle_chart ch
                          size_t length);
 
 /*
- * The rows that end at an instant: none where there is no such row or the call is refused. The end asked for may be any
- * number. Time: a check and two binary searches.
+ * The rows that end at an instant, in tenths of a millisecond: none where there is no such row or the call is refused. The
+ * end asked for may be any number. Time: a check and two binary searches.
  */
 CHRONICLE_CALL
 struct chronicle_rows chronicle_rows_ending(struct chronicle_watch watch, struct chronicle_chart chart,
@@ -504,9 +596,10 @@ struct chronicle_report_answer chronicle_report(struct chronicle_watch watch, st
  * Plays a whole input of the listing program, lying in memory: a chart, an empty line and a log, as examples/listing has
  * them. Writes what the program prints, the listing of the table or the one line of a refusal, and returns its length; no
  * byte 0 follows. The table's contents before the call do not matter; after it they are those of the input's last call, or
- * as before where the run was refused before its `open`. Where the output has less than 40 bytes and 81 for each row that
- * the table can hold, nothing is done and 0 is returned. Time: reading the bytes, and for each line its call without a
- * check.
+ * as before where the run was refused before its `open`. Instants and lengths are in milliseconds in the input and the
+ * output, as said above under "On paper", and in tenths in the table. Where the output has less than
+ * CHRONICLE_LISTING_BYTES of the rows that the table can hold, 40 and 83 for each row, nothing is done and 0 is returned.
+ * Time: reading the bytes, and for each line its call without a check.
  */
 CHRONICLE_CALL
 size_t chronicle_list(const uint8_t *input, size_t input_length, int32_t *table, size_t length, uint8_t *out,

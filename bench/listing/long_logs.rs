@@ -1,4 +1,5 @@
-//! Inputs of many events, drawn with a plain watch at hand so that the table stays about as full as asked for.
+//! Inputs of many events, drawn with a plain watch at hand so that the table stays about as full as asked for. Their
+//! instants and lengths are whole milliseconds.
 
 use crate::watch::Watch;
 use crate::TABLE_ROWS;
@@ -6,8 +7,10 @@ use common::plain_chart;
 use common::plain_watch::storage::START;
 use common::random::Random;
 
-/// Before the lamp trigger.
-const OPENING: i64 = -1_000;
+/// The tenths in which the watch counts.
+const MILLISECOND: i32 = 10;
+/// Before the lamp trigger, in milliseconds.
+const OPENING: i32 = -1_000;
 
 /// A chart, and the codes of the events that come in, each as often as it stands here.
 pub struct Workload {
@@ -84,7 +87,8 @@ impl Workload {
     /// fill the table.
     pub fn draw(&self, random: &mut Random, events: usize, rows: usize) -> Drawn {
         let entries = plain_chart::read(self.chart.as_bytes()).expect("the workload's chart is sound");
-        let mut watch = Watch::open(&entries, TABLE_ROWS, OPENING).expect("the instant is in range");
+        let opening = i64::from(OPENING * MILLISECOND);
+        let mut watch = Watch::open(&entries, TABLE_ROWS, opening).expect("the instant is in range");
         let mut text = format!("{}\nopen\t{OPENING}\n", self.chart);
         let (mut left, mut marks, mut most_rows, mut sum_of_rows) = (events, 0, 0, 0);
         while left > 0 {
@@ -104,9 +108,9 @@ impl Workload {
         if watch.rows().len() > rows.min(TABLE_ROWS - self.most_new_rows) {
             *text += &forget(watch, random.pick(self.one_forgotten_in));
         }
-        let instant = i64::from(watch.instant()) + 1 + random.below(3) as i64;
-        watch.clock(instant).expect("the workload's rows fit");
-        *text += &format!("clock\t{instant}\n");
+        let instant = watch.instant() + MILLISECOND * (1 + random.below(3) as i32);
+        watch.clock(instant.into()).expect("the workload's rows fit");
+        *text += &format!("clock\t{}\n", instant / MILLISECOND);
     }
 }
 
@@ -119,10 +123,10 @@ fn event(watch: &mut Watch, code: u8) -> String {
 fn forget(watch: &mut Watch, one_in: usize) -> String {
     let mut starts: Vec<i32> = watch.rows().iter().map(|row| row[START]).collect();
     starts.sort_unstable();
-    let floor = starts[starts.len() / one_in] + 1;
-    let floor = i64::from(floor.min(watch.instant()));
-    watch.forget(floor).expect("a floor at a row's start is taken");
-    format!("forget\t{floor}\n")
+    let floor = starts[starts.len() / one_in] + MILLISECOND;
+    let floor = floor.min(watch.instant());
+    watch.forget(floor.into()).expect("a floor at a row's start is taken");
+    format!("forget\t{}\n", floor / MILLISECOND)
 }
 
 /// One event more than there are serials: the last instant is full too, so that 9 and 10 both apply to it.

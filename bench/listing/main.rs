@@ -1,6 +1,7 @@
 //! Times the proved listing program beside the plain one, each as a process on the same files, in one run. The times
 //! are processor times, the start and the end of the process included. With --any-order the second may be a proved one
-//! from before request N7, which has rows of one end and entry in another order.
+//! from before request N7, which has rows of one end and entry in another order, or from before N11, which prints whole
+//! milliseconds without a point: the logs have no others.
 
 use common::paper::{fields, lines};
 use common::random::Random;
@@ -50,14 +51,22 @@ fn main() -> ExitCode {
 
 /// Whether two listings have as many rows of each entry, start and end.
 fn is_same_in_any_order(a: &[u8], b: &[u8]) -> bool {
-    let sorted = |listing| {
-        let mut rows: Vec<Vec<&[u8]>> =
-            lines(listing).map(|line| fields(line).map_or(Vec::new(), Iterator::collect)).collect();
-        rows.iter_mut().filter(|row| row.len() == 6).for_each(|row| *row = vec![row[1], row[4], row[5]]);
-        rows.sort();
-        rows
-    };
-    sorted(a) == sorted(b)
+    sorted_rows(a) == sorted_rows(b)
+}
+
+/// Entry, start and end of each row.
+fn sorted_rows(listing: &[u8]) -> Vec<Vec<&[u8]>> {
+    let mut rows: Vec<Vec<&[u8]>> =
+        lines(listing).map(|line| fields(line).map_or(Vec::new(), Iterator::collect)).collect();
+    let is_row = |row: &&mut Vec<&[u8]>| row.len() == 6;
+    rows.iter_mut().filter(is_row).for_each(|row| *row = vec![row[1], whole(row[4]), whole(row[5])]);
+    rows.sort();
+    rows
+}
+
+/// Whole milliseconds without their point.
+fn whole(instant: &[u8]) -> &[u8] {
+    instant.strip_suffix(b".0").unwrap_or(instant)
 }
 
 /// The best time of each program in seconds. Both must print what is the same.

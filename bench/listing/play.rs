@@ -5,6 +5,7 @@ use crate::watch::Watch;
 use common::plain_chart::{self, Entry, MOST_ENTRIES};
 use common::plain_watch::storage::Row;
 use common::plain_watch::{Refusal, Taken};
+use std::fmt;
 use std::io::{self, Read, Write};
 
 /// The rows of the listing program's table.
@@ -34,9 +35,22 @@ pub fn list(source: impl Read, table_rows: usize) -> io::Result<Vec<u8>> {
 fn table_text(rows: &[Row]) -> Vec<u8> {
     let mut text = b"row\tentry\tleft\tright\tstart\tend\n".to_vec();
     for (number, [entry, left, right, start, end]) in rows.iter().enumerate() {
+        let (start, end) = (Tenths(*start), Tenths(*end));
         writeln!(text, "{number}\t{entry}\t{left}\t{right}\t{start}\t{end}").expect("a vector takes all bytes");
     }
     text
+}
+
+/// An instant, printed with a point and one digit after it.
+struct Tenths(i32);
+
+impl fmt::Display for Tenths {
+    fn fmt(&self, out: &mut fmt::Formatter) -> fmt::Result {
+        let Tenths(tenths) = *self;
+        // Between -1 and 0 the whole part is 0, which has no minus of its own.
+        let sign = if (-9..0).contains(&tenths) { "-" } else { "" };
+        write!(out, "{sign}{}.{}", tenths / 10, (tenths % 10).unsigned_abs())
+    }
 }
 
 fn play<R: Read>(lines: &mut LineReader<R>, table_rows: usize) -> io::Result<Result<Watch, Refused>> {
@@ -130,10 +144,25 @@ fn number(field: &[u8]) -> Option<i64> {
     Some(value)
 }
 
-/// "An instant may carry a minus, never before 0."
+/// A length in tenths: 1 to 9 digits, which are whole milliseconds, and perhaps a point and a tenth.
+fn tenths(field: &[u8]) -> Option<i64> {
+    let point = field.iter().position(|byte| *byte == b'.').unwrap_or(field.len());
+    let (whole, behind) = field.split_at(point);
+    let tenth = match behind {
+        [] => 0,
+        [_, digit] if digit.is_ascii_digit() => i64::from(digit - b'0'),
+        _ => return None,
+    };
+    if whole.len() > 9 {
+        return None;
+    }
+    Some(number(whole)? * 10 + tenth)
+}
+
+/// "An instant may carry a minus", never where it is zero.
 fn instant(field: &[u8]) -> Option<i64> {
     match field.strip_prefix(b"-") {
-        None => number(field),
-        Some(digits) => number(digits).filter(|value| *value != 0).map(|value| -value),
+        None => tenths(field),
+        Some(digits) => tenths(digits).filter(|tenths| *tenths != 0).map(|tenths| -tenths),
     }
 }

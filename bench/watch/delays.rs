@@ -9,8 +9,8 @@ use common::plain_watch::{self, Plain, PlainWatch};
 const ROWS_IN_USE: [usize; 3] = [100, 3_000, 60_000];
 const LAST_INSTANT: i32 = 1_000_000_000;
 const NO_DELAY: &[u8] = b"0\tevent\t1\n1\tevent\t5\n2\tseq\t0\t0\n3\tseq\t2\t0\n";
-/// A wait, and one that begins when it ends.
-const DELAYS: &[u8] = b"0\tevent\t1\n1\tevent\t5\n2\tafter\t0\t500000\n3\tafter\t2\t7\n";
+/// A wait of 500,000 tenths, and one of 7 that begins when it ends.
+const DELAYS: &[u8] = b"0\tevent\t1\n1\tevent\t5\n2\tafter\t0\t50000\n3\tafter\t2\t0.7\n";
 
 /// By name: the chart, how many waits have begun, and whether the mark is the next instant or the last one.
 const MARKS: [(&str, &[u8], usize, bool); 7] = [

@@ -2,7 +2,8 @@
 //! --any-order the two may have the rows of one end and entry in different orders, as a proved watch from before
 //! request N7 has them, and marks that are to put many in order are left out. With --without WORDS, parted by commas,
 //! those under a chart with one of these are: `after` is not known to one from before request N1, `cut` and `change`
-//! not before N5.
+//! not before N5; and so are additions of lines with one of these, or with `.`, the point of a length, not known before
+//! N11.
 
 mod blocks;
 mod delays;
@@ -23,24 +24,26 @@ const CALLS: [&str; 9] = [
 
 /// Stage settled (1), shutter opened (2), focus moved (3), temperature sampled (4); and 5, which only fills the table.
 const CHART: &[u8] = b"0\tevent\t1\n1\tevent\t2\n2\tevent\t3\n3\tevent\t4\n4\tevent\t5\n\
-    5\tseq\t0\t1\n6\t-[]\t5\t2\n7\tor\t2\t3\n8\tatmost\t7\t5\n9\tequals\t0\t0\n";
+    5\tseq\t0\t1\n6\t-[]\t5\t2\n7\tor\t2\t3\n8\tatmost\t7\t0.5\n9\tequals\t0\t0\n";
 
 const LINE: &[u8] = b"10\tseq\t0\t7\n";
 /// As many as the chart has room for.
 const LINES: &[u8] =
-    b"10\tseq\t0\t7\n11\tcut\t0\t1\n12\tafter\t10\t5000\n13\t-[]\t12\t2\n14\tevent\t6\n15\tand\t14\t3\n\
+    b"10\tseq\t0\t7\n11\tcut\t0\t1\n12\tafter\t10\t500.0\n13\t-[]\t12\t2\n14\tevent\t6\n15\tand\t14\t3\n\
     16\tmeets\t12\t1\n17\toverlaps\t10\t11\n18\tstarts\t0\t5\n19\tduring\t2\t5\n20\tfinishes\t1\t5\n21\tequals\t2\t3\n\
-    22\tlasts\t20\t30\n23\tatmost\t5\t400\n24\tatleast\t5\t400\n25\t-][\t24\t0\n26\t-[[\t24\t1\n27\t-]]\t24\t2\n\
-    28\tchange\t5\t1\n29\tor\t28\t11\n30\tafter\t29\t2000000000\n31\tevent\t255\n";
+    22\tlasts\t20\t3.0\n23\tatmost\t5\t40\n24\tatleast\t5\t40\n25\t-][\t24\t0\n26\t-[[\t24\t1\n27\t-]]\t24\t2\n\
+    28\tchange\t5\t1\n29\tor\t28\t11\n30\tafter\t29\t200000000.0\n31\tevent\t255\n";
 
 fn main() {
     let has_argument = |wanted: &str| std::env::args().any(|argument| argument == wanted);
     let order = if has_argument("--any-order") { Order::Any } else { Order::Same };
+    let left_out = LeftOut::of_arguments();
     println!("                     rows     new    plain   proved          plain  proved");
     println!("call               in use    rows       us       us  ratio  ns/row  ns/row");
     for name in CALLS {
-        for rows in ROWS_IN_USE {
-            print_line(&workload(name, rows), order, |in_use, _| in_use);
+        let workloads = ROWS_IN_USE.map(|rows| workload(name, rows)).into_iter();
+        for workload in workloads.filter(|workload| !is_left_out(&left_out, workload.call)) {
+            print_line(&workload, order, |in_use, _| in_use);
         }
     }
     print_method();
@@ -48,9 +51,12 @@ fn main() {
     if order == Order::Same {
         blocks::time_marks();
     }
-    let left_out = LeftOut::of_arguments();
     delays::time_marks(order, &left_out);
     nearest::time_marks(order, &left_out);
+}
+
+fn is_left_out(left_out: &LeftOut, call: Call) -> bool {
+    matches!(call, Call::Add(lines) if left_out.is_on_paper(lines))
 }
 
 fn workload(name: &'static str, rows: usize) -> Workload {

@@ -2,13 +2,14 @@
 
 use common::plain_chart::WORDS;
 use common::random_charts::SPELLINGS;
+use common::texts;
 
 type Charts = Box<dyn Iterator<Item = Vec<u8>>>;
 
 /// All families, one after the other.
 pub fn all() -> impl Iterator<Item = Vec<u8>> {
-    let families: [fn() -> Charts; 7] =
-        [short_texts, line_counts, operands, entry_numbers, line_lengths, changed_bytes, cut_texts];
+    let families: [fn() -> Charts; 8] =
+        [short_texts, line_counts, operands, entry_numbers, lengths, line_lengths, changed_bytes, cut_texts];
     families.into_iter().flat_map(|family| family())
 }
 
@@ -45,12 +46,12 @@ fn entry_numbers() -> Charts {
             let rests = [
                 "event\t1\n",
                 "event\t256\n",
-                "lasts\t99\t5\n",
-                "lasts\t99\t2000000001\n",
+                "lasts\t99\t0.5\n",
+                "lasts\t99\t200000000.1\n",
                 "event\n",
                 "after\t0\n",
                 "after\t99\t5\n",
-                "after\t0\t2000000001\n",
+                "after\t0\t200000000.1\n",
                 "cut\t0\n",
                 "cut\t99\t0\n",
                 "change\t0\t99\n",
@@ -59,6 +60,13 @@ fn entry_numbers() -> Charts {
             rests.map(|rest| [events(index), format!("{number}\t{rest}").into_bytes()].concat())
         })
     }))
+}
+
+/// Every text of up to five of these bytes as a length, with each operator that has one, and as an operand.
+fn lengths() -> Charts {
+    let words = ["lasts", "atmost", "atleast", "after", "seq"];
+    let chart = |word: &str, text: &[u8]| [format!("0\tevent\t1\n1\t{word}\t0\t").as_bytes(), text, b"\n"].concat();
+    Box::new(texts::up_to(5, b"015.-").into_iter().flat_map(move |text| words.map(|word| chart(word, &text))))
 }
 
 /// Lines of 0 to 129 bytes filled with one byte, after 0, 1, 31 and 32 sound lines, with a byte 10 and without. The
@@ -77,8 +85,8 @@ fn line_lengths() -> Charts {
 
 /// A chart of every kind of operator with each byte in turn replaced by every other.
 fn changed_bytes() -> Charts {
-    let chart = b"0\tevent\t255\n1\tseq\t0\t0\n2\t-[]\t1\t0\n3\toverlaps\t2\t0\n4\tlasts\t3\t2000000000\n\
-        5\tafter\t4\t2000000000\n6\tcut\t5\t0\n7\tchange\t6\t6\n";
+    let chart = b"0\tevent\t255\n1\tseq\t0\t0\n2\t-[]\t1\t0\n3\toverlaps\t2\t0\n4\tlasts\t3\t200000000\n\
+        5\tafter\t4\t200000000.0\n6\tcut\t5\t0\n7\tchange\t6\t6\n8\tatmost\t7\t0.5\n";
     Box::new((0..chart.len()).flat_map(move |place| {
         (0..=u8::MAX).map(move |byte| {
             let mut changed = chart.to_vec();

@@ -13,4 +13,5 @@ pub mod plain_watch;
 pub mod random;
 pub mod random_charts;
 pub mod random_inputs;
+pub mod texts;
 pub mod timing;

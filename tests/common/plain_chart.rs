@@ -1,9 +1,10 @@
-//! A plain chart reader, written from document 01 alone: what the proved one is compared with.
+//! A plain chart reader, written from document 01 and the requests alone: what the proved one is compared with.
 
-use crate::paper::{fields, lines, number};
+use crate::paper::{fields, length, lines, number};
 
 pub const MOST_ENTRIES: usize = 32;
 const GREATEST_CODE: u64 = 255;
+/// In tenths of a millisecond.
 const GREATEST_LENGTH: u64 = 2_000_000_000;
 
 /// The operators that pair rows by a condition on both intervals.
@@ -52,7 +53,7 @@ pub enum Operator {
     Nearest(Nearest),
 }
 
-/// An entry: `first` is the code or the operand a, `second` the operand b or the length d, 0 for `event`.
+/// An entry: `first` is the code or the operand a, `second` the operand b or the length d in tenths, 0 for `event`.
 #[derive(Clone, Copy, Debug, PartialEq)]
 pub struct Entry {
     pub operator: Operator,
@@ -110,7 +111,11 @@ pub fn record(line: &[u8]) -> Option<(u64, Entry)> {
     let entry_number = number(fields.next()?)?;
     let operator = operator(fields.next()?)?;
     let first = number(fields.next()?)?;
-    let second = if operator == Operator::Event { 0 } else { number(fields.next()?)? };
+    let second = match operator {
+        Operator::Event => 0,
+        Operator::Length(_) | Operator::After => length(fields.next()?)?,
+        _ => number(fields.next()?)?,
+    };
     let entry = Entry { operator, first, second };
     fields.next().is_none().then_some((entry_number, entry))
 }

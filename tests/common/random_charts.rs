@@ -1,6 +1,6 @@
 //! Charts from a seed: valid ones, and ones damaged as a careless hand, a wrong editor or a broken line would.
 
-use crate::paper::number;
+use crate::paper::{any_spelling, number};
 use crate::plain_chart::{operator, Operator, WORDS};
 use crate::random::Random;
 
@@ -9,16 +9,20 @@ type Lines = Vec<Vec<u8>>;
 type Damage = fn(&mut Random, &mut Lines);
 
 const CODES: [u64; 5] = [0, 1, 99, 254, 255];
-const LENGTHS: [u64; 6] = [0, 1, 5, 1_000_000, 1_999_999_999, 2_000_000_000];
+/// In tenths of a millisecond.
+const LENGTHS: [i64; 7] = [0, 1, 5, 10, 1_000_000, 1_999_999_999, 2_000_000_000];
 const LINE_COUNTS: [usize; 14] = [0, 1, 2, 3, 4, 5, 8, 16, 30, 31, 32, 32, 33, 34];
 /// Two more than a chart may have.
 const MOST_LINES: usize = 34;
 
-/// Spellings that are no number, and numbers at the edges of a range or of a machine word.
-pub const SPELLINGS: [&str; 30] = [
-    "", "0", "1", "9", "10", "31", "32", "33", "255", "256", "65536", "1999999999", "2000000000", "2000000001",
-    "4294967295", "4294967296", "4294967297", "6294967296", "9999999999", "00", "01", "0000000001", "10000000000",
-    "18446744073709551616", "-1", "-0", "+1", " 1", "1 ", "1.0",
+/// Spellings that are no number, and numbers at the edges of a range or of a machine word: whole ones, and with a point
+/// such as only a length may have.
+pub const SPELLINGS: [&str; 52] = [
+    "", "0", "1", "9", "10", "31", "32", "33", "255", "256", "65536", "199999999", "200000000", "200000001",
+    "999999999", "1000000000", "2000000000", "2000000001", "4294967295", "4294967296", "4294967297", "6294967296",
+    "9999999999", "00", "01", "0000000001", "10000000000", "18446744073709551616", "-1", "-0", "+1", " 1", "1 ", "0.0",
+    "0.5", "1.0", "9.9", "199999999.9", "200000000.0", "200000000.1", "429496729.6", "629496729.6", "999999999.9",
+    "1000000000.0", ".5", "1.", "1.55", "00.5", "-0.5", "-0.0", "0,5", "1.x",
 ];
 
 /// Words that are no operator, most of them close to one.
@@ -29,18 +33,26 @@ const WRONG_WORDS: [&str; 29] = [
 ];
 
 /// Bytes that mean something to a reader of text, or that a careless one takes for something else.
-const TELLING_BYTES: [u8; 20] =
-    [0, 1, 8, 9, 10, 11, 13, 32, b'-', b'+', b'0', b'1', b'9', b'/', b':', b'[', b']', b'e', 0x7f, 0xff];
+const TELLING_BYTES: [u8; 22] =
+    [0, 1, 8, 9, 10, 11, 13, 32, b'-', b'+', b'.', b',', b'0', b'1', b'9', b'/', b':', b'[', b']', b'e', 0x7f, 0xff];
 
-const DAMAGES: [Damage; 21] = [
-    change_byte, insert_byte, delete_byte, drop_line, double_line, swap_lines, cut_text, cut_last_byte, use_crlf,
-    fill_line, insert_empty_line, change_separator, change_number, change_number, change_word, change_operator,
-    drop_field, add_field, misnumber, raise_operand, exceed_range,
+/// Codes and lengths above their range, some of them in range when cut to a machine word. Of ten digits only a code is
+/// a number, with a point only a length.
+const ABOVE_RANGE: [&str; 11] = [
+    "256", "511", "65536", "200000001", "4294967296", "9999999999", "200000000.1", "429496729.6", "629496729.6",
+    "999999999", "999999999.9",
 ];
 
-/// A chart of so many lines, 1 to 32, that every reader must take.
-pub fn valid(random: &mut Random, line_count: usize) -> Vec<u8> {
-    (0..line_count).flat_map(|index| valid_line(random, index)).collect()
+const DAMAGES: [Damage; 23] = [
+    change_byte, insert_byte, delete_byte, drop_line, double_line, swap_lines, cut_text, cut_last_byte, use_crlf,
+    fill_line, insert_empty_line, change_separator, change_number, change_number, add_point, change_word,
+    change_operator, drop_field, add_field, misnumber, raise_operand, exceed_range, exceed_range,
+];
+
+/// A chart of so many lines, 1 to 32, that every reader must take, each of them one that is wanted.
+pub fn valid(random: &mut Random, line_count: usize, is_wanted: impl Fn(&[u8]) -> bool) -> Vec<u8> {
+    let mut line = |index| std::iter::repeat_with(|| valid_line(random, index)).find(|line| is_wanted(line));
+    (0..line_count).filter_map(|index| line(index)).flatten().collect()
 }
 
 /// A chart of 0 to 34 lines, sound but for their count or damaged in one to three places.
@@ -67,11 +79,14 @@ pub fn any_more(random: &mut Random, before: usize) -> Vec<u8> {
 fn valid_line(random: &mut Random, index: usize) -> Vec<u8> {
     let word = if index == 0 { "event" } else { random.pick(&WORDS) };
     let code = if random.one_in(2) { random.pick(&CODES) } else { random.below(256) as u64 };
-    let length = if random.one_in(2) { random.pick(&LENGTHS) } else { random.any_u64() % 2_000_000_001 };
+    let length = if random.one_in(2) { random.pick(&LENGTHS) } else { (random.any_u64() % 2_000_000_001) as i64 };
+    let length = if random.one_in(2) { length - length % 10 } else { length };
     let (a, b) = (random.below(index.max(1)), random.below(index.max(1)));
     match operator(word.as_bytes()) {
         Some(Operator::Event) => format!("{index}\t{word}\t{code}\n"),
-        Some(Operator::Length(_) | Operator::After) => format!("{index}\t{word}\t{a}\t{length}\n"),
+        Some(Operator::Length(_) | Operator::After) => {
+            format!("{index}\t{word}\t{a}\t{}\n", any_spelling(random, length))
+        }
         _ => format!("{index}\t{word}\t{a}\t{b}\n"),
     }
     .into_bytes()
@@ -190,6 +205,15 @@ fn change_number(random: &mut Random, lines: &mut Lines) {
     });
 }
 
+/// A point and a digit behind a number, of which only a length may have them.
+fn add_point(random: &mut Random, lines: &mut Lines) {
+    change_fields(random, lines, |random, _, fields| {
+        if let Some(field) = fields.get_mut(random.pick(&[0, 2, 3])) {
+            field.extend(random.pick(&[b".0", b".5"]));
+        }
+    });
+}
+
 /// The operator word with a wrong one in its place.
 fn change_word(random: &mut Random, lines: &mut Lines) {
     let word = random.pick(&WRONG_WORDS);
@@ -230,9 +254,8 @@ fn raise_operand(random: &mut Random, lines: &mut Lines) {
     change_fields(random, lines, |_, number, fields| set_field(fields, place, &(number + above).to_string()));
 }
 
-/// A code or a length above its range, some of them in range when cut to a machine word.
 fn exceed_range(random: &mut Random, lines: &mut Lines) {
-    let number = random.pick(&["256", "511", "65536", "2000000001", "4294967296", "6294967296", "9999999999"]);
+    let number = random.pick(&ABOVE_RANGE);
     change_fields(random, lines, |_, _, fields| {
         let last = fields.len() - 1;
         set_field(fields, last, number);

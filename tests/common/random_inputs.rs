@@ -1,15 +1,21 @@
 //! Inputs of the listing program from a seed: a chart, an empty line and a log, small enough for all recognitions to be
-//! enumerated.
+//! enumerated. Lengths and instants are drawn in tenths of a millisecond, so that a log of steps of a few tenths meets
+//! the bounds of its chart; in other units where a chart is `scaled`.
 
+use crate::paper::{self, any_spelling};
 use crate::plain_chart::{operator, Entry, Operator, WORDS};
 use crate::random::Random;
+use std::ops::Range;
 
 /// The most leaves of a recognition's tree in `any`.
 const MOST_LEAVES: usize = 3;
 /// What searches for rows by their end; those with an edge of their own twice.
 const SEARCHED: [&str; 11] =
     ["meets", "overlaps", "starts", "during", "meets", "overlaps", "starts", "during", "seq", "cut", "change"];
-const LENGTHS: [u32; 5] = [7, 999_999_999, 1_000_000_000, 1_999_999_999, 2_000_000_000];
+const LENGTHS: [i64; 5] = [7, 999_999_999, 1_000_000_000, 1_999_999_999, 2_000_000_000];
+const GREATEST_LENGTH: i64 = 2_000_000_000;
+/// How many tenths the lengths and steps of an input are drawn in: whole milliseconds may be spelled without a point.
+const UNITS: [i64; 3] = [1, 1, 10];
 
 /// Draws an entry over earlier ones with the leaves given, as its line's operator and operands, and its own leaves.
 type DrawEntry = fn(&mut Random, &[usize], usize) -> (String, usize);
@@ -18,7 +24,41 @@ type DrawEntry = fn(&mut Random, &[usize], usize) -> (String, usize);
 pub fn any(random: &mut Random) -> Vec<u8> {
     let operators = random.below(8);
     let draw = random.pick(&[chart, delay_chart, nearest_chart]);
-    format!("{}\n{}", draw(random, operators, MOST_LEAVES), log(random)).into_bytes()
+    let chart = draw(random, operators, MOST_LEAVES);
+    let unit = unit(random);
+    format!("{}\n{}", scaled(random, &chart, unit), log(random, unit)).into_bytes()
+}
+
+pub fn unit(random: &mut Random) -> i64 {
+    random.pick(&UNITS)
+}
+
+/// The chart with its lengths in such a unit, but for those that would be out of range.
+pub fn scaled(random: &mut Random, chart: &str, unit: i64) -> String {
+    chart.split_inclusive('\n').map(|line| scaled_line(random, line, unit)).collect()
+}
+
+fn scaled_line(random: &mut Random, line: &str, unit: i64) -> String {
+    let fields: Vec<&str> = line.trim_end().split('\t').collect();
+    let [number, word, a, length] = fields[..] else { return line.to_string() };
+    if !matches!(operator(word.as_bytes()), Some(Operator::Length(_) | Operator::After)) {
+        return line.to_string();
+    }
+    let tenths = paper::length(length.as_bytes()).expect("the chart drawn is sound") as i64;
+    let scaled = Some(unit * tenths).filter(|scaled| *scaled <= GREATEST_LENGTH).unwrap_or(tenths);
+    format!("{number}\t{word}\t{a}\t{}\n", any_spelling(random, scaled))
+}
+
+/// A length of so many tenths.
+fn length_in(random: &mut Random, tenths: Range<usize>) -> String {
+    let drawn = tenths.start + random.below(tenths.len());
+    any_spelling(random, drawn as i64)
+}
+
+/// A length at an end of a range, or far from any that is drawn.
+fn long_length(random: &mut Random) -> String {
+    let tenths = random.pick(&LENGTHS);
+    any_spelling(random, tenths)
 }
 
 /// A sound chart of one to three events and so many operators. Of n events an entry has no more recognitions than about
@@ -93,8 +133,8 @@ pub fn interval_chart(random: &mut Random, operators: usize) -> String {
         let word = random.pick(&WORDS[4..]);
         let a = 2 + random.below(2);
         let second = match operator(word.as_bytes()) {
-            Some(Operator::Length(_) | Operator::After) => random.below(6),
-            _ => random.pick(&[0, 2, 3, 2, 3, index - 1]),
+            Some(Operator::Length(_) | Operator::After) => length_in(random, 0..6),
+            _ => random.pick(&[0, 2, 3, 2, 3, index - 1]).to_string(),
         };
         text += &format!("{index}\t{word}\t{a}\t{second}\n");
     }
@@ -104,7 +144,7 @@ pub fn interval_chart(random: &mut Random, operators: usize) -> String {
 /// A sound chart of two events, intervals between them, those of a few instants, and operators that pair the rows of
 /// these. While a log goes on, rows end before, at and after the start of each new short interval.
 pub fn short_interval_chart(random: &mut Random, operators: usize) -> String {
-    let longest = 1 + random.below(6);
+    let longest = length_in(random, 1..7);
     let mut text = format!("0\tevent\t1\n1\tevent\t2\n2\tseq\t0\t1\n3\tatmost\t2\t{longest}\n");
     for index in 4..4 + operators {
         let word = random.pick(&SEARCHED);
@@ -117,7 +157,7 @@ pub fn short_interval_chart(random: &mut Random, operators: usize) -> String {
 /// A sound chart of three events, waits of two of them, and so many `cut` and `change` of these: a long wait begins
 /// before a short one and ends after it.
 pub fn crossing_chart(random: &mut Random, operators: usize) -> String {
-    let (long, short) = (2 + random.below(8), random.below(4));
+    let (long, short) = (length_in(random, 2..10), length_in(random, 0..4));
     let events = "0\tevent\t1\n1\tevent\t2\n2\tevent\t3\n";
     let mut text = format!("{events}3\tafter\t0\t{long}\n4\tafter\t1\t{short}\n5\tor\t3\t4\n");
     for index in 6..6 + operators {
@@ -156,7 +196,7 @@ fn entry_over(random: &mut Random, (a, b): (usize, usize), leaves: &[usize], mos
     match operator(word.as_bytes()) {
         Some(Operator::After) => (format!("{word}\t{a}\t{}", delay_length(random)), leaves[a]),
         Some(Operator::Length(_)) => {
-            let length = if random.one_in(8) { random.pick(&LENGTHS) } else { random.below(6) as u32 };
+            let length = if random.one_in(8) { long_length(random) } else { length_in(random, 0..6) };
             (format!("{word}\t{a}\t{length}"), leaves[a])
         }
         Some(Operator::Absence(..)) => (format!("{word}\t{a}\t{b}"), leaves[a]),
@@ -177,7 +217,7 @@ fn delay(random: &mut Random, leaves: &[usize], _: usize) -> (String, usize) {
 fn interval(random: &mut Random, leaves: &[usize], _: usize) -> (String, usize) {
     let (a, b) = (random.below(leaves.len()), random.below(leaves.len()));
     match random.below(4) {
-        0 => (format!("after\t{a}\t{}", 1 + random.below(6)), 1),
+        0 => (format!("after\t{a}\t{}", length_in(random, 1..7)), 1),
         1 => (format!("and\t{a}\t{b}"), 2),
         _ => (format!("seq\t{a}\t{b}"), 2),
     }
@@ -194,9 +234,9 @@ fn relation(random: &mut Random, leaves: &[usize], most_leaves: usize) -> (Strin
 fn condition(random: &mut Random, leaves: &[usize], _: usize) -> (String, usize) {
     let mut operand = || random.below(leaves.len()).max(random.below(leaves.len()));
     let (a, b) = (operand(), operand());
-    let (word, second) = match random.below(7) {
-        0..=3 => (random.pick(&["-[]", "-][", "-[[", "-]]"]), b),
-        _ => (random.pick(&["lasts", "lasts", "atmost", "atleast"]), random.below(6)),
+    let (word, second) = match random.below(8) {
+        0..=3 => (random.pick(&["-[]", "-][", "-[[", "-]]"]), b.to_string()),
+        _ => (random.pick(&["lasts", "lasts", "lasts", "atmost", "atleast"]), length_in(random, 0..6)),
     };
     (format!("{word}\t{a}\t{second}"), leaves[a])
 }
@@ -220,29 +260,34 @@ fn later_operands(random: &mut Random, leaves: &[usize], most_leaves: usize) -> 
     drawn.find(|(a, b)| leaves[*a] + leaves[*b] <= most_leaves).unwrap_or((0, 0))
 }
 
-fn delay_length(random: &mut Random) -> u32 {
+fn delay_length(random: &mut Random) -> String {
     match random.below(16) {
-        0 => random.pick(&LENGTHS),
-        1 | 2 => 0,
-        3..=5 => 1,
-        _ => 2 + random.below(11) as u32,
+        0 => long_length(random),
+        1 | 2 => length_in(random, 0..1),
+        3..=5 => length_in(random, 1..2),
+        _ => length_in(random, 2..13),
     }
 }
 
-fn log(random: &mut Random) -> String {
-    let mut instant = random.below(11) as i64 - 5;
-    let mut text = format!("open\t{instant}\n");
+/// A log with steps of such a unit.
+fn log(random: &mut Random, unit: i64) -> String {
+    let mut instant = unit * (random.below(11) as i64 - 5);
+    let mut text = format!("open\t{}\n", any_spelling(random, instant));
     for _ in 0..random.below(30) {
         text += &match random.below(12) {
-            0 => format!("forget\t{}\n", instant - random.below(8) as i64),
+            0 => {
+                let floor = instant - unit * random.below(8) as i64;
+                format!("forget\t{}\n", any_spelling(random, floor))
+            }
             1..=4 => {
                 let longest = random.pick(&[3, 3, 3, 30]);
-                instant += if random.one_in(50) { 0 } else { 1 + random.below(longest) as i64 };
-                format!("clock\t{instant}\n")
+                instant += if random.one_in(50) { 0 } else { unit * (1 + random.below(longest) as i64) };
+                format!("clock\t{}\n", any_spelling(random, instant))
             }
             // Code 4 is named by no entry, and counts in the serials all the same.
             _ => format!("event\t{}\n", 1 + random.below(4)),
         };
     }
-    text + &format!("clock\t{}\n", instant + 1 + random.pick(&[0, 0, 30]))
+    let last = instant + unit * (1 + random.pick(&[0, 0, 30]));
+    text + &format!("clock\t{}\n", any_spelling(random, last))
 }

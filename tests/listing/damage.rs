@@ -8,18 +8,18 @@ type Lines = Vec<Vec<u8>>;
 type Damage = fn(&mut Random, &mut Lines, usize);
 
 /// Bytes that mean something to a reader of text, or that a careless one takes for something else.
-const TELLING_BYTES: [u8; 16] =
-    [0, 8, b'\t', b'\n', 11, b'\r', b' ', b'-', b'+', b'0', b'1', b'9', b'/', b':', 0x7f, 0xff];
+const TELLING_BYTES: [u8; 18] =
+    [0, 8, b'\t', b'\n', 11, b'\r', b' ', b'-', b'+', b'.', b',', b'0', b'1', b'9', b'/', b':', 0x7f, 0xff];
 
 const WORDS: [&str; 17] = [
     "open", "event", "clock", "forget", "Open", "opens", "even", "event ", "clocks", "cloc", "forge", "seq", "", "-[]",
     "after", "cut", "change",
 ];
 
-const DAMAGES: [Damage; 18] = [
+const DAMAGES: [Damage; 20] = [
     change_byte, change_byte, insert_byte, delete_byte, drop_line, double_line, swap_lines, cut_line, join_lines,
-    cut_text, cut_last_byte, lengthen, insert_empty_line, drop_empty_line, change_tab, change_digit, change_number,
-    change_word,
+    cut_text, cut_last_byte, lengthen, insert_empty_line, drop_empty_line, change_tab, change_digit, change_point,
+    add_point, change_number, change_word,
 ];
 
 /// One damage to one line.
@@ -128,6 +128,22 @@ fn change_digit(random: &mut Random, lines: &mut Lines, place: usize) {
     if let Some(old) = lines[place].iter_mut().rfind(|byte| byte.is_ascii_digit()) {
         *old = digit;
     }
+}
+
+/// A point is doubled, moved or lost, or something else stands in its place.
+fn change_point(random: &mut Random, lines: &mut Lines, place: usize) {
+    let other: &[u8] = random.pick(&[b"" as &[u8], b"..", b".0", b"0.", b",", b":", b" ", b"-"]);
+    let line = &mut lines[place];
+    if let Some(at) = line.iter().rposition(|byte| *byte == b'.') {
+        line.splice(at..=at, other.iter().copied());
+    }
+}
+
+/// A point, or one and a digit or two, behind the last field.
+fn add_point(random: &mut Random, lines: &mut Lines, place: usize) {
+    let line = &mut lines[place];
+    line.pop();
+    line.extend(random.pick(&[b"." as &[u8], b".0", b".5", b".05"]).iter().chain(b"\n"));
 }
 
 /// Another number, or none, in the last field.

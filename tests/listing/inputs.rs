@@ -1,8 +1,9 @@
 //! Inputs of the listing program from a seed: a chart, an empty line and a log, small enough for all recognitions to be
-//! enumerated. Each kind is drawn for something of its own; any of them may be taken or refused.
+//! enumerated. Each kind is drawn for something of its own; any of them may be taken or refused. Instants and lengths
+//! are drawn in tenths of a millisecond, mostly few of them, and in one input of three in whole milliseconds.
 
 use crate::damage;
-use common::paper::lines;
+use common::paper::{any_spelling, lines};
 use common::random::Random;
 use common::random_charts;
 use common::random_inputs;
@@ -11,12 +12,21 @@ use oracle::listing::TABLE_ROWS;
 const LEAST: i64 = -1_000_000_000;
 const GREATEST: i64 = 1_000_000_000;
 
-/// Instants at the edges of their range, of a machine word and of the spelling.
-pub const SPELLINGS: [&str; 34] = [
-    "", "-", "0", "-0", "00", "-00", "01", "-01", "+1", "1", "-1", " 1", "1 ", "--1", "999999999", "-999999999",
-    "1000000000", "-1000000000", "1000000001", "-1000000001", "2147483647", "2147483648", "-2147483648", "-2147483649",
-    "4294967295", "4294967296", "-4294967296", "4294967297", "9999999999", "-9999999999", "10000000000",
-    "-10000000000", "18446744073709551616", "1000000000\r",
+/// Instants at the edges of their range and of a machine word, and of the spelling: without a point, with one and a
+/// digit, and damaged.
+pub const SPELLINGS: [&str; 60] = [
+    "", "-", "0", "-0", "00", "-00", "01", "-01", "+1", "1", "-1", " 1", "1 ", "--1", "0.0", "-0.0", "0.5", "-0.5",
+    "1.0", "-1.0", ".5", "-.5", "1.", "-1.", "1.55", "00.5", "-00.5", "01.5", "0,5", "0.-5", "1.5.5", "99999999",
+    "-99999999.9", "100000000.0", "-100000000.0", "100000000.1", "-100000000.1", "100000001", "214748364.7",
+    "214748364.8", "-214748364.8", "-214748364.9", "429496729.5", "429496729.6", "-429496729.6", "999999999",
+    "-999999999", "999999999.9", "-999999999.9", "1000000000", "-1000000000", "1000000000.0", "-1000000000.5",
+    "2147483648", "4294967296", "9999999999", "-10000000000", "18446744073709551616", "100000000\r", "100000000.0\r",
+];
+
+/// Instants at the ends of their range and a tenth from there.
+const ENDS: [&str; 10] = [
+    "100000000", "-100000000", "100000000.0", "-100000000.0", "99999999.9", "-99999999.9", "99999999", "-99999999.0",
+    "100000000.1", "-100000000.1",
 ];
 
 /// An input, and how many rows the table to play it on can hold.
@@ -71,19 +81,25 @@ fn on_small_table(random: &mut Random) -> Case {
 
 /// A sound chart and log, but for a call refused now and then.
 fn sound(random: &mut Random) -> Vec<u8> {
-    let opening = opening(random);
-    let length = random.below(40);
-    let log = log(random, opening, length, 3);
-    format!("{}\n{log}", chart(random)).into_bytes()
+    let (chart, length) = (chart(random), random.below(40));
+    of_chart(random, &chart, length, 3)
+}
+
+/// A chart whose lengths are a few tenths, and a log with so many calls and steps of such a length: both as they are,
+/// or ten times as long.
+pub fn of_chart(random: &mut Random, chart: &str, length: usize, longest_step: usize) -> Vec<u8> {
+    let unit = random_inputs::unit(random);
+    let opening = opening(random, unit);
+    let log = log(random, opening, length, Steps { unit, longest: longest_step });
+    format!("{}\n{log}", random_inputs::scaled(random, chart, unit)).into_bytes()
 }
 
 /// The same with a delay among the operators, and marks that go over none, one or many of their ends.
 fn with_delays(random: &mut Random) -> Vec<u8> {
-    let opening = opening(random);
-    let (length, longest_step) = (random.below(40), random.pick(&[3, 12, 30]));
-    let log = log(random, opening, length, longest_step);
     let operators = random.below(8);
-    format!("{}\n{log}", random_inputs::delay_chart(random, operators, 3)).into_bytes()
+    let chart = random_inputs::delay_chart(random, operators, 3);
+    let (length, longest_step) = (random.below(40), random.pick(&[3, 12, 30]));
+    of_chart(random, &chart, length, longest_step)
 }
 
 fn with_delays_on_small_table(random: &mut Random) -> Case {
@@ -93,11 +109,10 @@ fn with_delays_on_small_table(random: &mut Random) -> Case {
 
 /// The same with a `cut` or `change` among the operators.
 fn with_nearest(random: &mut Random) -> Vec<u8> {
-    let opening = opening(random);
-    let (length, longest_step) = (random.below(40), random.pick(&[2, 3, 12]));
-    let log = log(random, opening, length, longest_step);
     let (operators, most_leaves) = (random.below(7), random.pick(&[3, 4]));
-    format!("{}\n{log}", random_inputs::nearest_chart(random, operators, most_leaves)).into_bytes()
+    let chart = random_inputs::nearest_chart(random, operators, most_leaves);
+    let (length, longest_step) = (random.below(40), random.pick(&[2, 3, 12]));
+    of_chart(random, &chart, length, longest_step)
 }
 
 fn with_nearest_on_small_table(random: &mut Random) -> Case {
@@ -114,51 +129,66 @@ fn chart(random: &mut Random) -> String {
     }
 }
 
-pub fn opening(random: &mut Random) -> i64 {
-    match random.below(8) {
-        0 => LEAST + random.below(3) as i64,
-        1 => GREATEST - random.below(40) as i64,
-        2 => random.between(LEAST as i32, GREATEST as i32).into(),
-        _ => random.between(-20, 5).into(),
+/// How far marks go: up to so many steps of a unit, which is in tenths.
+#[derive(Clone, Copy)]
+struct Steps {
+    unit: i64,
+    longest: usize,
+}
+
+impl Steps {
+    fn any(self, random: &mut Random) -> i64 {
+        self.unit * (1 + random.below(self.longest) as i64)
     }
 }
 
-pub fn log(random: &mut Random, opening: i64, length: usize, longest_step: usize) -> String {
+fn opening(random: &mut Random, unit: i64) -> i64 {
+    match random.below(8) {
+        0 => LEAST + unit * random.below(3) as i64,
+        1 => GREATEST - unit * random.below(40) as i64,
+        2 => random.between(LEAST as i32, GREATEST as i32).into(),
+        _ => unit * i64::from(random.between(-20, 5)),
+    }
+}
+
+fn log(random: &mut Random, opening: i64, length: usize, steps: Steps) -> String {
     let (mut instant, mut floor) = (opening, LEAST);
-    let mut text = format!("open\t{opening}\n");
+    let mut text = format!("open\t{}\n", any_spelling(random, opening));
     for _ in 0..length {
         text += &match random.below(12) {
             0 => {
-                floor = new_floor(random, instant, floor);
-                format!("forget\t{floor}\n")
+                floor = new_floor(random, instant, floor, steps.unit);
+                format!("forget\t{}\n", any_spelling(random, floor))
             }
             1..=4 => {
-                instant = new_instant(random, instant, longest_step);
-                format!("clock\t{instant}\n")
+                instant = new_instant(random, instant, steps);
+                format!("clock\t{}\n", any_spelling(random, instant))
             }
             _ => format!("event\t{}\n", code(random)),
         };
     }
-    text + &format!("clock\t{}\n", instant + 1 + random.below(longest_step) as i64)
+    let last = instant + steps.any(random);
+    text + &format!("clock\t{}\n", any_spelling(random, last))
 }
 
-/// A mark after the open instant; now and then far after it, or not after it.
-fn new_instant(random: &mut Random, instant: i64, longest_step: usize) -> i64 {
+/// A mark after the open instant; now and then far after it, by a tenth, or not after it.
+fn new_instant(random: &mut Random, instant: i64, steps: Steps) -> i64 {
     match random.below(100) {
         0 => instant - random.below(2) as i64,
         1 => GREATEST + random.below(2) as i64,
         2 | 3 => instant + random.below(1_000_000_000) as i64,
-        _ => instant + 1 + random.below(longest_step) as i64,
+        4 | 5 => instant + 1,
+        _ => instant + steps.any(random),
     }
 }
 
 /// A floor just before the open instant; now and then above it or below the floor.
-fn new_floor(random: &mut Random, instant: i64, floor: i64) -> i64 {
+fn new_floor(random: &mut Random, instant: i64, floor: i64, unit: i64) -> i64 {
     match random.below(40) {
         0 => instant + 1,
         1 => floor - 1,
         2 => floor,
-        _ => (instant - random.below(9) as i64).max(floor),
+        _ => (instant - unit * random.below(9) as i64).max(floor),
     }
 }
 
@@ -185,20 +215,20 @@ fn damaged(random: &mut Random) -> Vec<u8> {
 fn damaged_chart(random: &mut Random) -> Vec<u8> {
     let chart = random_charts::any(random);
     let parting: &[u8] = if random.one_in(10) { b"" } else { b"\n" };
-    let log: &[u8] =
-        random.pick(&[b"open\t-1\nclock\t0\n" as &[u8], b"open\t0\n", b"event\t1\n", b"open\t0\nclock\t0\n", b""]);
-    [&chart, parting, log].concat()
+    let logs =
+        ["open\t-1\nclock\t0\n", "open\t-0.1\nclock\t0.0\n", "open\t0\n", "event\t1\n", "open\t0\nclock\t0.0\n", ""];
+    [&chart, parting, random.pick(&logs).as_bytes()].concat()
 }
 
-/// A log with an instant of `SPELLINGS` in one to three of its lines.
+/// A log with an instant of `SPELLINGS` or of `ENDS` in one to three of its lines.
 fn at_an_edge(random: &mut Random) -> Vec<u8> {
-    let limit = random.pick(&[0, 1_999_999_998, 1_999_999_999]);
-    let delay = random.pick(&[0, 1, 1_999_999_998, 1_999_999_999, 2_000_000_000]);
+    let limit = random.pick(&["0", "199999999.8", "199999999.9"]);
+    let delay = random.pick(&["0.0", "0.1", "199999999.8", "199999999.9", "200000000", "200000000.0"]);
     let mut text = format!("0\tevent\t1\n1\tseq\t0\t0\n2\tatleast\t1\t{limit}\n3\tafter\t0\t{delay}\n\n");
-    let opening = if random.one_in(2) { "-1000000000" } else { random.pick(&SPELLINGS) };
+    let opening = if random.one_in(2) { random.pick(&["-100000000", "-100000000.0"]) } else { random.pick(&SPELLINGS) };
     text += &format!("open\t{opening}\nevent\t1\n");
     for _ in 0..random.below(4) {
-        let spelling = if random.one_in(2) { random.pick(&SPELLINGS) } else { random.pick(&SPELLINGS[14..20]) };
+        let spelling = if random.one_in(2) { random.pick(&SPELLINGS) } else { random.pick(&ENDS) };
         text += &format!("{}\t{spelling}\n", random.pick(&["clock", "clock", "forget"]));
         text += if random.one_in(3) { "event\t1\n" } else { "" };
     }
@@ -238,7 +268,7 @@ fn filling(random: &mut Random) -> Vec<u8> {
 fn of_short_intervals(random: &mut Random) -> Vec<u8> {
     let operators = 1 + random.below(4);
     let chart = random_inputs::short_interval_chart(random, operators);
-    format!("{chart}\n{}", log(random, -20, 120, 3)).into_bytes()
+    format!("{chart}\n{}", log(random, -20, 120, Steps { unit: 1, longest: 3 })).into_bytes()
 }
 
 /// No chart at all, but bytes that occur in one.
@@ -249,7 +279,7 @@ fn any_bytes(random: &mut Random) -> Vec<u8> {
         if are_all {
             random.below(256) as u8
         } else {
-            random.pick(b"01\t\t\n\n-eventclockopen[]")
+            random.pick(b"01\t\t\n\n-.eventclockopen[]")
         }
     };
     (0..length).map(|_| byte(random)).collect()

@@ -9,6 +9,7 @@ mod lent;
 mod planned;
 mod printed;
 mod proved_listing;
+mod spelled;
 mod wrong_programs;
 
 use common::harness::{self, Compared, Met as _, Named, Test, LEAST_MET};
@@ -19,6 +20,7 @@ use inputs::Case;
 use lent::Lent;
 use oracle::listing::TABLE_ROWS;
 use printed::refusal;
+use spelled::Spelled;
 use std::collections::{BTreeMap, BTreeSet};
 use std::process::ExitCode;
 
@@ -73,11 +75,13 @@ struct Met {
     delayed: [[usize; 3]; 2],
     /// How many had rows of `cut` and of `change`, without a forget and with one.
     nearest: [[usize; NEAREST.len()]; 2],
+    spelled: Spelled,
 }
 
 impl Met {
     fn count(&mut self, kind: &'static str, case: &Case, printed: &[u8]) {
         let number = refusal(printed).map_or(0, |(number, _)| number);
+        self.spelled.count(&case.input, refusal(printed));
         *self.refusals.entry(number).or_default() += 1;
         *self.kinds.entry(kind).or_default() += 1;
         if number == 0 {
@@ -150,6 +154,7 @@ impl harness::Met for Met {
             by_start: [0; 2],
             delayed: [[0; 3]; 2],
             nearest: [[0; NEAREST.len()]; 2],
+            spelled: Spelled::default(),
         }
     }
 
@@ -157,9 +162,9 @@ impl harness::Met for Met {
     fn is_enough(&self) -> bool {
         let least = |number: u32| if number == 10 { 1 } else { LEAST_MET };
         let operators = self.delayed.as_flattened().iter().chain(self.nearest.as_flattened());
-        let mut listings = self.by_start.iter().chain([&self.full_tables]).chain(operators);
+        let listings = self.by_start.iter().chain([&self.full_tables]).chain(operators);
         self.refusals.iter().all(|(number, count)| *count >= least(*number))
-            && listings.all(|count| *count >= LEAST_MET)
+            && listings.chain(self.spelled.counts()).all(|count| *count >= LEAST_MET)
     }
 
     fn print(&self) {
@@ -178,6 +183,7 @@ impl harness::Met for Met {
         for (forget, [cut, change]) in ["no forget", "a forget"].iter().zip(self.nearest) {
             println!("  {forget:<9}  cut: {cut}  change: {change}");
         }
+        self.spelled.print();
     }
 }
 

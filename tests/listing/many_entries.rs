@@ -1,6 +1,6 @@
 //! Inputs from a seed with about as many entries as a chart may have: 32, a few less, or one more, which is refused.
 
-use crate::inputs::{log, opening, Case};
+use crate::inputs::{of_chart, Case};
 use common::random::Random;
 use common::random_inputs;
 use oracle::listing::TABLE_ROWS;
@@ -13,8 +13,8 @@ pub fn draw(random: &mut Random) -> Case {
         let operators = random.pick(&[28, 29, 30]);
         random_inputs::chart(random, operators, 2)
     };
-    let (opening, length) = (opening(random), random.below(25));
-    let log = log(random, opening, length, 3);
+    let length = random.below(25);
+    let input = of_chart(random, &chart, length, 3);
     let table_rows = random.pick(&[60, 500, TABLE_ROWS, TABLE_ROWS]);
-    Case { input: format!("{chart}\n{log}").into_bytes(), table_rows }
+    Case { input, table_rows }
 }

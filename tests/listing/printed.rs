@@ -7,9 +7,19 @@ pub fn refusal(printed: &[u8]) -> Option<(u32, i64)> {
     Some((number.parse().ok()?, line.parse().ok()?))
 }
 
-/// The numbers printed, but for the rows' own; none where a field is no number.
+/// The numbers printed, but for the rows' own, start and end in tenths; none where a field is none or has no point
+/// where it should.
 pub fn numbers_of(printed: &[u8]) -> Option<Vec<i32>> {
     let text = std::str::from_utf8(printed).ok()?;
-    let fields = text.lines().skip(1).flat_map(|line| line.split('\t').skip(1));
-    fields.map(|field| field.parse().ok()).collect()
+    let numbers = |line: &str| {
+        let [_, entry, left, right, start, end] = line.split('\t').collect::<Vec<_>>()[..] else { return None };
+        Some([entry.parse().ok()?, left.parse().ok()?, right.parse().ok()?, tenths(start)?, tenths(end)?])
+    };
+    text.lines().skip(1).map(numbers).collect::<Option<Vec<[i32; 5]>>>().map(|rows| rows.concat())
+}
+
+/// An instant with its one digit after the point, which is the last of its digits in tenths.
+fn tenths(field: &str) -> Option<i32> {
+    let (whole, tenth) = field.split_once('.').filter(|(_, tenth)| tenth.len() == 1)?;
+    format!("{whole}{tenth}").parse().ok()
 }

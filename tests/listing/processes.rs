@@ -191,11 +191,11 @@ fn many_events(tested: &Tested) -> Compared {
 /// Forgets that alter nothing, and then one that is refused.
 fn many_lines(tested: &Tested) -> Compared {
     let first = "0\tevent\t1\n\nopen\t-7\nevent\t1\nclock\t0\n";
-    let forget = b"forget\t-1000000000\n";
+    let forget = b"forget\t-100000000.0\n";
     let a_megabyte = (1 << 20) / forget.len();
     let (megabytes, length) = (64, 64 * a_megabyte * forget.len());
     let sound = run(tested, move |pipe| write_many(pipe, first.as_bytes(), forget, length));
-    let listing = b"row\tentry\tleft\tright\tstart\tend\n0\t0\t1\t-1\t-7\t-7\n";
+    let listing = b"row\tentry\tleft\tright\tstart\tend\n0\t0\t1\t-1\t-7.0\t-7.0\n";
     compare("millions of forgets", &sound, &tested.expected_for(first.as_bytes(), listing))?;
     let refused = run(tested, move |pipe| {
         write_many(pipe, first.as_bytes(), forget, length)?;

@@ -21,9 +21,14 @@ fn call(input: &[u8], table: &mut [i32], out: &mut [u8]) -> usize {
     unsafe { chronicle_list(input.as_ptr(), input.len(), table.as_mut_ptr(), table.len(), out.as_mut_ptr(), out.len()) }
 }
 
+/// The first line of a listing, and every refusal.
+const FIRST_BYTES: usize = 40;
+/// A row: its number and the tab 20, three more numbers 12 each, two instants 13 each, and the end of the line.
+const ROW_BYTES: usize = 83;
+
 /// The bytes that the output of a table of so many rows is lent.
 pub fn out_length(table_rows: usize) -> usize {
-    40 + 81 * table_rows
+    FIRST_BYTES + ROW_BYTES * table_rows
 }
 
 /// What is printed for an input, or what is wrong with the memory after the call.

@@ -24,7 +24,7 @@ const END: &str = "\u{4}";
 /// What is typed and then ended, and what its listing is.
 pub fn compare(tested: &Tested) -> Compared {
     let sound = "0\tevent\t1\n\nopen\t-1\nevent\t1\nclock\t0\n";
-    let listed = "row\tentry\tleft\tright\tstart\tend\n0\t0\t1\t-1\t-1\t-1\n";
+    let listed = "row\tentry\tleft\tright\tstart\tend\n0\t0\t1\t-1\t-1.0\t-1.0\n";
     let typed = [
         (END.to_string(), "refused\t1\t1\n"),
         (format!("help\n{END}"), "refused\t3\t1\n"),

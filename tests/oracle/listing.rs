@@ -1,4 +1,5 @@
-//! The listing program's output for an input: a chart, an empty line and a log. Document 01, "The listing program".
+//! The listing program's output for an input: a chart, an empty line and a log. Document 01, "The listing program". By
+//! request N11 instants and lengths are tenths of a millisecond inside: they come so from paper, and go so to it.
 
 use crate::model::{Call, Model, Over};
 use crate::recognitions::Row;
@@ -31,10 +32,18 @@ pub fn listing(input: &[u8], table_rows: usize, over: Over) -> Vec<u8> {
 fn table_text(rows: &[Row]) -> String {
     let line = |(number, row): (usize, &Row)| {
         let Row { entry, left, right, start, end } = row;
-        format!("{number}\t{entry}\t{left}\t{right}\t{start}\t{end}\n")
+        format!("{number}\t{entry}\t{left}\t{right}\t{}\t{}\n", instant_text(*start), instant_text(*end))
     };
     let header = "row\tentry\tleft\tright\tstart\tend\n".to_string();
     std::iter::once(header).chain(rows.iter().enumerate().map(line)).collect()
+}
+
+/// "Listings print one digit after" the point: the last digit is the tenth, and before it stands one digit at least.
+fn instant_text(tenths: i64) -> String {
+    let digits = format!("{:02}", tenths.abs());
+    let (whole, tenth) = digits.split_at(digits.len() - 1);
+    let minus = if tenths < 0 { "-" } else { "" };
+    format!("{minus}{whole}.{tenth}")
 }
 
 /// The table after the whole input, or the first refusal.

@@ -5,6 +5,7 @@ use crate::recognitions::{enumerate, Event, Limits, Recognitions, Row, NO_LIMITS
 use common::plain_chart::{self, Entry, Verdict};
 use std::ops::RangeInclusive;
 
+/// In tenths of a millisecond.
 pub const INSTANTS: RangeInclusive<i64> = -1_000_000_000..=1_000_000_000;
 pub const MOST_EVENTS: usize = 1_000_000;
 pub const MOST_PENDING: usize = 64;

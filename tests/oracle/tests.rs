@@ -1,7 +1,9 @@
-//! The set-building program's own tests, beside the examples of tests/examples.
+//! The set-building program's own tests, beside the examples of tests/examples. Instants and lengths are tenths of a
+//! millisecond, as the model has them; on the lines of a chart 5 tenths are 0.5.
 
 use common::chart_value;
 use common::interface::{Answer, Chart, Report, Watch, FIRST_FLOOR};
+use common::paper::{self, any_spelling, spelled};
 use common::plain_chart::{self, Entry, Operator, Verdict};
 use common::random::Random;
 use common::random_charts;
@@ -25,6 +27,182 @@ fn chart(text: &str) -> Vec<Entry> {
 
 fn opened(chart: &[Entry], instant: i64) -> Model {
     Model::open(chart, TABLE_ROWS, Over::EventsFromFloor, instant).expect("the instant is in range")
+}
+
+/// What an instant and a length mean on paper; none where it is malformed.
+const ON_PAPER: [(&str, Option<i64>, Option<u64>); 38] = [
+    ("0", Some(0), Some(0)),
+    ("0.0", Some(0), Some(0)),
+    ("0.5", Some(5), Some(5)),
+    ("5", Some(50), Some(50)),
+    ("5.0", Some(50), Some(50)),
+    ("10.9", Some(109), Some(109)),
+    ("100000000", Some(1_000_000_000), Some(1_000_000_000)),
+    ("100000000.1", Some(1_000_000_001), Some(1_000_000_001)),
+    ("200000000.0", Some(2_000_000_000), Some(2_000_000_000)),
+    ("999999999", Some(9_999_999_990), Some(9_999_999_990)),
+    ("999999999.9", Some(9_999_999_999), Some(9_999_999_999)),
+    ("-0.5", Some(-5), None),
+    ("-1", Some(-10), None),
+    ("-1.5", Some(-15), None),
+    ("-100000000.0", Some(-1_000_000_000), None),
+    ("-999999999.9", Some(-9_999_999_999), None),
+    ("-0", None, None),
+    ("-0.0", None, None),
+    ("", None, None),
+    ("-", None, None),
+    (".", None, None),
+    (".5", None, None),
+    ("-.5", None, None),
+    ("1.", None, None),
+    ("1.55", None, None),
+    ("1.0.0", None, None),
+    ("00", None, None),
+    ("00.5", None, None),
+    ("01", None, None),
+    ("0,5", None, None),
+    ("0.x", None, None),
+    ("0.-5", None, None),
+    ("+1", None, None),
+    ("--1", None, None),
+    ("1 ", None, None),
+    ("1000000000", None, None),
+    ("1000000000.0", None, None),
+    ("-1000000000", None, None),
+];
+
+/// Request N11: "a point and one digit"; "without a point they are whole milliseconds"; "1 to 9 digits ... stand before
+/// the point, or alone"; "a minus on the value zero stays malformed in every spelling".
+#[test]
+fn instants_and_lengths_on_paper() {
+    for (text, instant, length) in ON_PAPER {
+        assert_eq!(paper::instant(text.as_bytes()), instant, "the instant {text:?}");
+        assert_eq!(paper::length(text.as_bytes()), length, "the length {text:?}");
+    }
+}
+
+/// What is printed for a chart and a log.
+fn listed(chart: &str, log: &str) -> String {
+    let input = format!("{chart}\n{log}");
+    String::from_utf8(listing(input.as_bytes(), TABLE_ROWS, Over::EventsFromFloor)).expect("a listing is ASCII")
+}
+
+/// "Listings ... print one digit after it: P1's `-2` becomes `-2.0`", whichever way it is spelled.
+#[test]
+fn listing_of_p1() {
+    let expected = "row\tentry\tleft\tright\tstart\tend\n0\t0\t1\t-1\t-2.0\t-2.0\n1\t1\t2\t-1\t0.0\t0.0\n\
+        2\t3\t0\t1\t-2.0\t0.0\n3\t4\t2\t-1\t-2.0\t0.0\n4\t1\t4\t-1\t3.0\t3.0\n5\t2\t3\t-1\t3.0\t3.0\n\
+        6\t3\t0\t4\t-2.0\t3.0\n7\t4\t6\t-1\t-2.0\t3.0\n";
+    let whole = "open\t-2\nevent\t1\nclock\t0\nevent\t2\nclock\t3\nevent\t3\nevent\t2\nclock\t4\n";
+    let with_points = "open\t-2.0\nevent\t1\nclock\t0.0\nevent\t2\nclock\t3\nevent\t3\nevent\t2\nclock\t3.1\n";
+    assert_eq!(listed(P1, whole), expected);
+    assert_eq!(listed(P1, with_points), expected);
+}
+
+/// From -0.5 to 0.7 it is 1.2 and to 1 it is 1.5; from 0.7 to 1 it is 0.3. The waits of 0.4 end at -0.1, 1.1 and 1.4.
+#[test]
+fn limits_and_waits_in_tenths() {
+    let chart =
+        "0\tevent\t1\n1\tseq\t0\t0\n2\tatmost\t1\t1.2\n3\tlasts\t1\t1.2\n4\tatleast\t1\t1.5\n5\tafter\t0\t0.4\n";
+    let log = "open\t-0.5\nevent\t1\nclock\t0.7\nevent\t1\nclock\t1\nevent\t1\nclock\t1.2\n";
+    let expected = "row\tentry\tleft\tright\tstart\tend\n0\t0\t1\t-1\t-0.5\t-0.5\n1\t5\t0\t-1\t-0.5\t-0.1\n\
+        2\t0\t2\t-1\t0.7\t0.7\n3\t1\t0\t2\t-0.5\t0.7\n4\t2\t3\t-1\t-0.5\t0.7\n5\t3\t3\t-1\t-0.5\t0.7\n\
+        6\t0\t3\t-1\t1.0\t1.0\n7\t1\t2\t6\t0.7\t1.0\n8\t1\t0\t6\t-0.5\t1.0\n9\t2\t7\t-1\t0.7\t1.0\n\
+        10\t4\t8\t-1\t-0.5\t1.0\n11\t5\t2\t-1\t0.7\t1.1\n";
+    assert_eq!(listed(chart, log), expected);
+    assert_eq!(listed(chart, &format!("{log}clock\t1.4\n")), expected, "the last wait ends at the mark");
+    let last = "12\t5\t6\t-1\t1.0\t1.4\n";
+    assert_eq!(listed(chart, &format!("{log}clock\t1.5\n")), format!("{expected}{last}"));
+}
+
+/// 7 where an instant is malformed, 8 and 11 where it is out of range. A code has no point.
+#[test]
+fn refused_instants() {
+    let at_3 = |number: u32| format!("refused\t{number}\t3\n");
+    let none = "row\tentry\tleft\tright\tstart\tend\n".to_string();
+    for (text, expected) in [
+        ("100000000.0", none.clone()),
+        ("-100000000", none),
+        ("100000000.1", at_3(8)),
+        ("-100000000.1", at_3(8)),
+        ("999999999.9", at_3(8)),
+        ("429496729.6", at_3(8)),
+        ("1000000000", at_3(7)),
+        ("-0.0", at_3(7)),
+        ("-0", at_3(7)),
+    ] {
+        assert_eq!(listed("0\tevent\t1\n", &format!("open\t{text}\n")), expected, "the opening {text}");
+    }
+    for (line, number) in [
+        ("clock\t0.0", 8),
+        ("clock\t999999999", 8),
+        ("clock\t.5", 7),
+        ("forget\t0.1", 11),
+        ("forget\t-999999999.9", 11),
+        ("forget\t-1000000000", 7),
+        ("event\t1.0", 7),
+    ] {
+        let printed = listed("0\tevent\t1\n", &format!("open\t0\n{line}\n"));
+        assert_eq!(printed, format!("refused\t{number}\t4\n"), "{line}");
+    }
+}
+
+/// 3 where a length is malformed, 6 where it is out of range. No other number of a chart has a point.
+#[test]
+fn refused_lengths() {
+    for (line, number) in [
+        ("1\tafter\t0\t200000000.1", 6),
+        ("1\tlasts\t0\t999999999", 6),
+        ("1\tatmost\t0\t1000000000", 3),
+        ("1\tatleast\t0\t-0.0", 3),
+        ("1.0\tatleast\t0\t0.5", 3),
+        ("1\tatleast\t0.0\t0.5", 3),
+        ("1\tseq\t0\t0.0", 3),
+        ("1\tevent\t2.0", 3),
+    ] {
+        let printed = listed(&format!("0\tevent\t1\n{line}\n"), "open\t0\n");
+        assert_eq!(printed, format!("refused\t{number}\t2\n"), "{line}");
+    }
+}
+
+/// One event at an instant: its row has the instant as it is spelled with a point, and that is read back.
+#[test]
+fn printed_instants_are_read_back() {
+    let (least, greatest) = (-1_000_000_000, 1_000_000_000);
+    for instant in (-1_200..=1_200).chain(least..least + 30).chain(greatest - 30..greatest) {
+        let text = spelled(instant);
+        let log = format!("open\t{text}\nevent\t1\nclock\t{}\n", spelled(instant + 1));
+        let expected = format!("row\tentry\tleft\tright\tstart\tend\n0\t0\t1\t-1\t{text}\t{text}\n");
+        assert_eq!(listed("0\tevent\t1\n", &log), expected);
+        assert_eq!(paper::instant(text.as_bytes()), Some(instant));
+    }
+}
+
+/// Whole milliseconds mean the same with a point and without.
+#[test]
+fn both_spellings_mean_the_same() {
+    let mut random = Random::new(16);
+    let mut respelled = 0;
+    for _ in 0..INPUTS {
+        let input = random_inputs::any(&mut random);
+        let other = String::from_utf8(input.clone()).expect("the input is ASCII");
+        let other: String = other.split_inclusive('\n').map(|line| respelled_line(&mut random, line)).collect();
+        let printed = listing(&input, TABLE_ROWS, Over::EventsFromFloor);
+        assert_eq!(printed, listing(other.as_bytes(), TABLE_ROWS, Over::EventsFromFloor), "{}", input.escape_ascii());
+        respelled += usize::from(other.as_bytes() != input);
+    }
+    assert!(respelled > INPUTS / 2, "only {respelled} inputs are spelled in two ways");
+}
+
+/// A line with its instant or its length spelled anew.
+fn respelled_line(random: &mut Random, line: &str) -> String {
+    let Some((rest, field)) = line.trim_end().rsplit_once('\t') else { return line.to_string() };
+    let has_tenths = |word: &str| line.split('\t').any(|field| field == word);
+    if !["open", "clock", "forget", "lasts", "atmost", "atleast", "after"].into_iter().any(has_tenths) {
+        return line.to_string();
+    }
+    let tenths = paper::instant(field.as_bytes()).expect("the input is sound");
+    format!("{rest}\t{}\n", any_spelling(random, tenths))
 }
 
 /// "Row 7's tree is `<<e1,e4>>`."
@@ -57,7 +235,7 @@ fn trees_of_or() {
 /// others in their order.
 #[test]
 fn shortest_first() {
-    let chart = chart("0\tevent\t1\n1\tevent\t2\n2\tseq\t0\t1\n3\tatleast\t2\t20\n");
+    let chart = chart("0\tevent\t1\n1\tevent\t2\n2\tseq\t0\t1\n3\tatleast\t2\t2.0\n");
     let mut model = opened(&chart, 0);
     for (codes, mark) in [(vec![1, 1], 10), (vec![1], 20), (vec![1], 30), (vec![2], 40)] {
         codes.into_iter().for_each(|code| model.event(code).unwrap());
@@ -87,7 +265,7 @@ fn row([entry, left, right, start, end]: [i64; 5]) -> Row {
 /// ending before t": each end is there from the next mark on, however far the mark goes.
 #[test]
 fn delays_of_delays() {
-    let chart = chart("0\tevent\t1\n1\tafter\t0\t5\n2\tafter\t1\t0\n3\tafter\t2\t3\n");
+    let chart = chart("0\tevent\t1\n1\tafter\t0\t0.5\n2\tafter\t1\t0.0\n3\tafter\t2\t0.3\n");
     let rows = [[0, 1, -1, 0, 0], [1, 0, -1, 0, 5], [2, 1, -1, 0, 5], [3, 2, -1, 0, 8]].map(row);
     for (mark, expected) in [(1, 1), (5, 1), (6, 3), (8, 3), (9, 4), (1_000_000_000, 4)] {
         assert_eq!(rows_after_mark(&chart, 0, mark), rows[..expected], "after the mark {mark}");
@@ -102,7 +280,7 @@ fn delays_of_delays() {
 /// "Each in order of end": entry 2 ends before entry 1, and what pairs the two delays stands behind both.
 #[test]
 fn later_ends_behind() {
-    let chart = chart("0\tevent\t1\n1\tafter\t0\t7\n2\tafter\t0\t3\n3\tand\t1\t2\n");
+    let chart = chart("0\tevent\t1\n1\tafter\t0\t0.7\n2\tafter\t0\t0.3\n3\tand\t1\t2\n");
     let rows = [[0, 1, -1, 0, 0], [2, 0, -1, 0, 3], [1, 0, -1, 0, 7], [3, 2, 1, 0, 7]].map(row);
     assert_eq!(rows_after_mark(&chart, 0, 8), rows);
     assert_eq!(rows_after_mark(&chart, 0, 7), rows[..2]);
@@ -111,7 +289,7 @@ fn later_ends_behind() {
 /// A stop at 0 and a move at 1,000: the wait from 0 is forbidden. The stop at 1,500 is followed by none.
 #[test]
 fn absence_over_a_wait() {
-    let chart = chart("0\tevent\t1\n1\tevent\t2\n2\tafter\t0\t2000\n3\t-]]\t2\t1\n");
+    let chart = chart("0\tevent\t1\n1\tevent\t2\n2\tafter\t0\t200.0\n3\t-]]\t2\t1\n");
     let mut model = opened(&chart, 0);
     for (code, mark) in [(1, 1_000), (2, 1_500), (1, 4_000)] {
         model.event(code).unwrap();
@@ -125,7 +303,7 @@ fn absence_over_a_wait() {
 /// where it starts, at 6, however late it ends.
 #[test]
 fn seq_over_delays() {
-    let chart = chart("0\tevent\t1\n1\tafter\t0\t5\n2\tseq\t1\t0\n3\tseq\t1\t1\n");
+    let chart = chart("0\tevent\t1\n1\tafter\t0\t0.5\n2\tseq\t1\t0\n3\tseq\t1\t1\n");
     let mut model = opened(&chart, 0);
     for mark in [5, 6, 100] {
         model.event(1).unwrap();
@@ -137,8 +315,9 @@ fn seq_over_delays() {
 /// "An end at 1,000,000,000 or later is never closed", and no sum of an end and a length is too great.
 #[test]
 fn ends_at_the_end_of_the_range() {
-    let chart = |delay: u32| chart(&format!("0\tevent\t1\n1\tafter\t0\t{delay}\n2\tafter\t1\t2000000000\n"));
-    let ends = |instant: i64, delay: u32| -> Vec<i64> {
+    let lines = |delay: String| format!("0\tevent\t1\n1\tafter\t0\t{delay}\n2\tafter\t1\t200000000.0\n");
+    let chart = |delay: i64| chart(&lines(spelled(delay)));
+    let ends = |instant: i64, delay: i64| -> Vec<i64> {
         rows_after_mark(&chart(delay), instant, 1_000_000_000).iter().map(|row| row.end).collect()
     };
     assert_eq!(ends(999_999_990, 9), [999_999_990, 999_999_999]);
@@ -151,7 +330,7 @@ fn ends_at_the_end_of_the_range() {
 /// A row forgotten before its delay has passed leaves none behind; one that starts at the floor does.
 #[test]
 fn forget_before_the_due_end() {
-    let chart = chart("0\tevent\t1\n1\tafter\t0\t5\n");
+    let chart = chart("0\tevent\t1\n1\tafter\t0\t0.5\n");
     for (floor, trees) in [(1, vec![]), (0, vec!["e1", "<e1>"])] {
         let mut model = opened(&chart, 0);
         model.event(1).unwrap();
@@ -165,7 +344,7 @@ fn forget_before_the_due_end() {
 /// 12 counts the rows of every due end of the jump: the third ends at 2.
 #[test]
 fn table_full_within_a_jump() {
-    let chart = chart("0\tevent\t1\n1\tafter\t0\t1\n2\tafter\t1\t1\n");
+    let chart = chart("0\tevent\t1\n1\tafter\t0\t0.1\n2\tafter\t1\t0.1\n");
     let open = |rows: usize| Model::open(&chart, rows, Over::EventsFromFloor, 0).unwrap();
     for (rows, mark, expected) in
         [(3, 100, Ok(())), (2, 100, Err(12)), (2, 3, Err(12)), (2, 2, Ok(())), (1, 2, Err(12))]
@@ -181,7 +360,7 @@ fn table_full_within_a_jump() {
 /// what is due at the open instant or later comes, and what is delayed from that.
 #[test]
 fn delays_on_any_table() {
-    let chart = chart_value::of(&chart("0\tevent\t1\n1\tafter\t0\t5\n2\tafter\t1\t2\n"));
+    let chart = chart_value::of(&chart("0\tevent\t1\n1\tafter\t0\t0.5\n2\tafter\t1\t0.2\n"));
     let play = |instant: i32, mark: i64| {
         let watch = Watch { instant, events: 1, rows: 1, ..Watch::opened(0, 3) };
         let table = [[0, 1, -1, 0, 0], [0; 5], [0; 5]].concat();
@@ -318,7 +497,7 @@ fn nearest_of_one_entry() {
 /// follows them.
 #[test]
 fn nearest_over_delays() {
-    let chart = chart("0\tevent\t1\n1\tevent\t2\n2\tafter\t1\t3\n3\tcut\t0\t2\n4\tor\t0\t2\n5\tchange\t4\t0\n");
+    let chart = chart("0\tevent\t1\n1\tevent\t2\n2\tafter\t1\t0.3\n3\tcut\t0\t2\n4\tor\t0\t2\n5\tchange\t4\t0\n");
     let mut model = opened(&chart, 0);
     for (code, mark) in [(1, 1), (2, 2), (2, 10), (1, 11)] {
         model.event(code).unwrap();
@@ -396,7 +575,7 @@ fn added_entries_count_from_the_open_instant() {
 fn waits_from_before_an_addition() {
     let mut model = opened(&chart("0\tevent\t1\n1\tevent\t2\n"), 0);
     events_to(&mut model, 2);
-    model.add_lines(b"2\tafter\t0\t5\n3\t-[]\t2\t1\n").unwrap();
+    model.add_lines(b"2\tafter\t0\t0.5\n3\t-[]\t2\t1\n").unwrap();
     model.event(2).unwrap();
     events_to(&mut model, 4);
     model.clock(50).unwrap();
@@ -423,9 +602,9 @@ fn pairs_from_before_an_addition() {
 fn forgets_beside_additions() {
     let mut model = opened(&chart("0\tevent\t1\n"), 0);
     events_to(&mut model, 1);
-    model.add_lines(b"1\tlasts\t0\t0\n").unwrap();
+    model.add_lines(b"1\tlasts\t0\t0.0\n").unwrap();
     events_to(&mut model, 3);
-    model.add_lines(b"2\tlasts\t1\t0\n").unwrap();
+    model.add_lines(b"2\tlasts\t1\t0.0\n").unwrap();
     events_to(&mut model, 5);
     let all = ["e1", "e2", "<e2>", "e3", "<e3>", "e4", "<e4>", "<<e4>>", "e5", "<e5>", "<<e5>>"];
     assert_eq!(model.trees(), all);
@@ -468,8 +647,8 @@ fn refused_additions() {
     assert_eq!(refused(2, "2\tevent\t1\n3\tevent\t1"), (3, 2));
     assert_eq!(refused(2, "0\tevent\t1\n1\tevent\t1\n"), (4, 1));
     assert_eq!(refused(2, "2\tevent\t1\n2\tevent\t1\n"), (4, 2));
-    assert_eq!(refused(2, "3\tafter\t3\t2000000001\n"), (4, 1));
-    assert_eq!(refused(2, "2\tafter\t2\t2000000001\n"), (6, 1));
+    assert_eq!(refused(2, "3\tafter\t3\t200000000.1\n"), (4, 1));
+    assert_eq!(refused(2, "2\tafter\t2\t200000000.1\n"), (6, 1));
     assert_eq!(refused(2, "2\tevent\t256\n"), (6, 1));
     assert_eq!(refused(2, "2\tor\t2\t0\n"), (5, 1));
     assert_eq!(refused(2, "2\tor\t1\t0\n3\tor\t2\t3\n"), (5, 2));
@@ -853,7 +1032,7 @@ fn each_cause_of_13_in_entries() {
 /// A delayed row by itself out of joint, for each number of it: "left r, right -1, the same start and end = end r + d".
 #[test]
 fn each_cause_of_13_in_a_delay() {
-    let chart = chart("0\tevent\t1\n1\tevent\t2\n2\tafter\t0\t5\n3\tafter\t0\t0\n");
+    let chart = chart("0\tevent\t1\n1\tevent\t2\n2\tafter\t0\t0.5\n3\tafter\t0\t0.0\n");
     let watch = Watch { instant: 9, events: 2, rows: 5, ..Watch::opened(0, 4) };
     let rows = [[0, 1, -1, 0, 0], [3, 0, -1, 0, 0], [1, 2, -1, 1, 1], [2, 0, -1, 0, 5], [0, 1, -1, 5, 5]];
     let causes = |changed: &[(usize, [i32; 5])]| {
@@ -919,8 +1098,10 @@ fn rows_printed(printed: &[u8]) -> Vec<Row> {
         return Vec::new();
     }
     let row = |line: &str| {
-        let numbers: Vec<i64> = line.split('\t').map(|field| field.parse().unwrap()).collect();
-        Row { entry: numbers[1] as usize, left: numbers[2], right: numbers[3], start: numbers[4], end: numbers[5] }
+        let fields: Vec<&str> = line.split('\t').collect();
+        let number = |place: usize| fields[place].parse().unwrap();
+        let instant = |place: usize| paper::instant(fields[place].as_bytes()).unwrap();
+        Row { entry: number(1) as usize, left: number(2), right: number(3), start: instant(4), end: instant(5) }
     };
     text.lines().skip(1).map(row).collect()
 }

@@ -20,7 +20,7 @@ enum {
     PAINT = 0xa5,
     ROWS = 3000,
     NUMBERS = 5 * ROWS,
-    OUTPUT = 40 + 81 * ROWS,
+    OUTPUT = CHRONICLE_LISTING_BYTES(ROWS),
     TREE = 4000,
     ENTRIES = 32,
     JUMP = 40,
@@ -52,13 +52,23 @@ static struct subject {
     struct chronicle_rows rows;
     struct chronicle_tree_answer tree;
     struct chronicle_report_answer report;
+    struct chronicle_tenths instant;
+    struct chronicle_tenths length;
+    size_t written;
     size_t listed;
     size_t printed;
     size_t fitting;
     uint32_t refusal;
 } s;
 
+/* The widest spellings that there are. */
+static const uint8_t widest_instant[] = {'-', '9', '9', '9', '9', '9', '9', '9', '9', '9', '.', '9'};
+static const uint8_t widest_length[] = {'9', '9', '9', '9', '9', '9', '9', '9', '9', '.', '9'};
+
 static void no_call(void) {}
+static void read_instant(void) { s.instant = chronicle_read_instant(widest_instant, sizeof widest_instant); }
+static void read_length(void) { s.length = chronicle_read_length(widest_length, sizeof widest_length); }
+static void write_instant(void) { s.written = chronicle_write_instant(INT32_MIN, s.out, CHRONICLE_INSTANT_BYTES); }
 static void check_chart(void) { s.verdict = chronicle_check_chart(s.text, s.chart_length); }
 static void read_chart(void) { s.read = chronicle_read_chart(s.text, s.chart_length); }
 static void rows_that_fit(void) { s.fitting = chronicle_rows_that_fit(NUMBERS); }
@@ -143,7 +153,7 @@ static void write_input(const char *word, const char *second)
         add_line(line);
     }
     s.chart_length = s.text_length;
-    add_line("\nopen\t0\nevent\t1\nevent\t1\nclock\t1\nforget\t0\nevent\t1\nclock\t2\n");
+    add_line("\nopen\t0\nevent\t1\nevent\t1\nclock\t0.1\nforget\t0\nevent\t1\nclock\t4.0\n");
 }
 
 /* Opens a watch under the two events alone, and one under the chart, on which an event of code 1 is played at each
@@ -170,14 +180,15 @@ static struct call {
     void (*make)(void);
     size_t most;
 } calls[] = {
-    {"chronicle_check_chart", check_chart, 0}, {"chronicle_read_chart", read_chart, 0},
-    {"chronicle_check", check, 0},             {"chronicle_rows_ending", rows_ending, 0},
-    {"chronicle_tree", tree, 0},               {"chronicle_report", report, 0},
-    {"chronicle_add_lines", add_lines, 0},     {"chronicle_add_lines, 2", add_33rd, 0},
-    {"chronicle_event", event, 0},             {"chronicle_clock", mark, 0},
-    {"chronicle_forget", forget, 0},           {"chronicle_open", open_watch, 0},
-    {"chronicle_list", list, 0},               {"chronicle_print_report", print_report, 0},
-    {"chronicle_rows_that_fit", rows_that_fit, 0},
+    {"chronicle_check_chart", check_chart, 0},     {"chronicle_read_chart", read_chart, 0},
+    {"chronicle_check", check, 0},                 {"chronicle_rows_ending", rows_ending, 0},
+    {"chronicle_tree", tree, 0},                   {"chronicle_report", report, 0},
+    {"chronicle_add_lines", add_lines, 0},         {"chronicle_add_lines, 2", add_33rd, 0},
+    {"chronicle_event", event, 0},                 {"chronicle_clock", mark, 0},
+    {"chronicle_forget", forget, 0},               {"chronicle_open", open_watch, 0},
+    {"chronicle_list", list, 0},                   {"chronicle_print_report", print_report, 0},
+    {"chronicle_rows_that_fit", rows_that_fit, 0}, {"chronicle_read_instant", read_instant, 0},
+    {"chronicle_read_length", read_length, 0},     {"chronicle_write_instant", write_instant, 0},
 };
 
 /* Makes every call on the chart and the rows there are, in an order in which each finds what it needs. */
@@ -195,6 +206,8 @@ static void measure(size_t of_thread)
     if (s.verdict.refusal != 0 || s.refusal != 0 || s.tree.refusal != 0 || s.tree.length == 0 || s.listed == 0 ||
         s.fitting != ROWS || s.report.refusal != 0 || s.report.rows == 0 || s.printed == 0)
         fail("a call was refused");
+    if (s.instant.tenths != -9999999999 || s.length.tenths != 9999999999 || s.written != CHRONICLE_INSTANT_BYTES)
+        fail("an instant or a length went another way than planned");
     if (s.addition.refusal != 0 || s.addition.chart.count != ENTRIES || s.refused.refusal != 2 || s.refused.line != 1)
         fail("an addition went another way than planned");
 }
@@ -275,8 +288,8 @@ int main(void)
 {
     static const struct {
         const char *word, *second;
-    } charts[] = {{"lasts", "0"}, {"-[]", "1"},   {"equals", "0"}, {"or", "1"},  {"and", "1"},
-                  {"seq", "1"},   {"after", "0"}, {"after", "1"},  {"cut", "0"}, {"change", "0"}};
+    } charts[] = {{"lasts", "0"}, {"-[]", "1"},   {"equals", "0"},  {"or", "1"},  {"and", "1"},
+                  {"seq", "1"},   {"after", "0"}, {"after", "0.1"}, {"cut", "0"}, {"change", "0"}};
     static const size_t rows[] = {1, 2000};
     used_by(no_call);
     size_t of_thread = used_by(no_call);

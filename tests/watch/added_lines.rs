@@ -29,10 +29,14 @@ pub enum Fault {
     Code,
     Length,
     LengthOfOwnOperand,
+    LengthOf9Digits,
+    LengthOf10Digits,
+    LengthMalformed,
+    PointInOperand,
 }
 
 /// Each with the number that it gives; two faults in one line give the number that comes first, "2, 3, 4, 6, 5".
-pub const FAULTS: [(Fault, u32, &str); 18] = [
+pub const FAULTS: [(Fault, u32, &str); 22] = [
     (Fault::NoLine, 1, "none"),
     (Fault::TooMany, 2, "33rd entry"),
     (Fault::TooManyMalformed, 2, "33rd and malformed"),
@@ -51,7 +55,14 @@ pub const FAULTS: [(Fault, u32, &str); 18] = [
     (Fault::Code, 6, "code"),
     (Fault::Length, 6, "length"),
     (Fault::LengthOfOwnOperand, 6, "length and own operand"),
+    (Fault::LengthOf9Digits, 6, "length of 9 digits"),
+    (Fault::LengthOf10Digits, 3, "length of 10 digits"),
+    (Fault::LengthMalformed, 3, "length malformed"),
+    (Fault::PointInOperand, 3, "point in an operand"),
 ];
+
+/// Texts that are no length.
+const NO_LENGTHS: [&str; 8] = [".5", "1.", "1.55", "00.5", "0,5", "-0.5", "-0.0", "01"];
 
 /// Lines, and where they are drawn with a fault, which one and its line, counted from 1.
 pub struct Drawn {
@@ -134,7 +145,12 @@ fn faulty_line(random: &mut Random, fault: Fault, number: usize, sound: &str) ->
         Fault::OwnOperand => format!("{number}\tcut\t0\t{number}\n"),
         Fault::LaterOperand => format!("{number}\tseq\t{}\t0\n", number + 1),
         Fault::Code => format!("{number}\tevent\t256\n"),
-        Fault::Length => format!("{number}\tafter\t0\t2000000001\n"),
-        _ => format!("{number}\tlasts\t{number}\t2000000001\n"),
+        Fault::Length => format!("{number}\tafter\t0\t200000000.1\n"),
+        Fault::LengthOf9Digits => format!("{number}\tatmost\t0\t{}\n", random.pick(&["999999999", "999999999.9"])),
+        Fault::LengthOf10Digits => format!("{number}\tatleast\t0\t{}\n", random.pick(&["1000000000", "1000000000.0"])),
+        Fault::LengthMalformed => format!("{number}\tlasts\t0\t{}\n", random.pick(&NO_LENGTHS)),
+        Fault::PointInOperand if random.one_in(2) => format!("{number}\tor\t0.0\t0\n"),
+        Fault::PointInOperand => format!("{number}\tafter\t0.0\t0.5\n"),
+        _ => format!("{number}\tlasts\t{number}\t200000000.1\n"),
     }
 }

@@ -1,6 +1,7 @@
 //! Compares the proved watch with the set-building program, call by call: on histories from fixed seeds, on watches,
-//! charts and tables that no history made, and on planned cases. With --self-test it compares watches that are wrong on
-//! purpose instead, and each of them must be found.
+//! charts and tables that no history made, and on planned cases. Instants and lengths are tenths of a millisecond, as
+//! the C interface has them, but for the lines of charts, which are spelled as on paper. With --self-test it compares
+//! watches that are wrong on purpose instead, and each of them must be found.
 
 mod added_lines;
 mod additions;

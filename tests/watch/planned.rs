@@ -100,7 +100,8 @@ fn compare_reports(calls: &Calls, count: usize, more: usize, met: &mut Met) -> C
     Ok(())
 }
 
-/// A log under a chart; `calls_of` reads it.
+/// A log under a chart; `calls_of` reads it. Its instants are tenths, and so are the lengths of the chart, which has
+/// them on paper: 5 tenths are 0.5.
 struct Planned {
     chart: &'static str,
     opening: i32,
@@ -126,42 +127,42 @@ fn call_of(word: &str) -> Call {
 const DELAYS: [Planned; 7] = [
     // Delays of delays, by one mark and by several; one of 0, and pairs of two delays.
     Planned {
-        chart: "0\tevent\t1\n1\tafter\t0\t5\n2\tafter\t1\t0\n3\tafter\t2\t3\n4\tand\t1\t3\n",
+        chart: "0\tevent\t1\n1\tafter\t0\t0.5\n2\tafter\t1\t0.0\n3\tafter\t2\t0.3\n4\tand\t1\t3\n",
         opening: 0,
         log: "e1 c5 c6 e1 c100 c101",
     },
     // The jump's length, an instant less and one more: only the first delay ends before the mark.
     Planned {
-        chart: "0\tevent\t1\n1\tafter\t0\t6\n2\tafter\t0\t5\n3\tafter\t0\t4\n4\tor\t1\t3\n",
+        chart: "0\tevent\t1\n1\tafter\t0\t0.6\n2\tafter\t0\t0.5\n3\tafter\t0\t0.4\n4\tor\t1\t3\n",
         opening: -5,
         log: "e1 e1 c0 c1 c2",
     },
     // A wait after a stop (1) that no move (2) follows, and an opened shutter (3) after that.
     Planned {
-        chart: "0\tevent\t1\n1\tevent\t2\n2\tevent\t3\n3\tafter\t0\t2000\n4\t-]]\t3\t1\n5\tseq\t4\t2\n",
+        chart: "0\tevent\t1\n1\tevent\t2\n2\tevent\t3\n3\tafter\t0\t200.0\n4\t-]]\t3\t1\n5\tseq\t4\t2\n",
         opening: -7,
         log: "e1 c1000 e2 c1500 e1 c3500 e3 c3501 e3 c9000",
     },
     // Absences between delays: -[] forbids, -][ does not.
     Planned {
-        chart: "0\tevent\t1\n1\tafter\t0\t3\n2\tafter\t0\t7\n3\t-[]\t2\t1\n4\t-][\t2\t1\n5\t-[]\t1\t2\n",
+        chart: "0\tevent\t1\n1\tafter\t0\t0.3\n2\tafter\t0\t0.7\n3\t-[]\t2\t1\n4\t-][\t2\t1\n5\t-[]\t1\t2\n",
         opening: 0,
         log: "e1 c2 e1 c30",
     },
     // Forgets before the end of a delay, at the row's start, and after it.
     Planned {
-        chart: "0\tevent\t1\n1\tafter\t0\t10\n2\tafter\t1\t10\n",
+        chart: "0\tevent\t1\n1\tafter\t0\t1.0\n2\tafter\t1\t1.0\n",
         opening: 0,
         log: "e1 c2 e1 c4 e1 c5 f2 c13 f3 c50 f50 c51",
     },
     // Ends at and behind the end of the range.
     Planned {
-        chart: "0\tevent\t1\n1\tafter\t0\t9\n2\tafter\t0\t10\n3\tafter\t0\t2000000000\n4\tafter\t1\t1\n",
+        chart: "0\tevent\t1\n1\tafter\t0\t0.9\n2\tafter\t0\t1.0\n3\tafter\t0\t200000000.0\n4\tafter\t1\t0.1\n",
         opening: 999_999_990,
         log: "e1 c999999999 e1 c1000000000 e1",
     },
     Planned {
-        chart: "0\tevent\t1\n1\tafter\t0\t1999999999\n2\tafter\t0\t2000000000\n3\tafter\t1\t2000000000\n",
+        chart: "0\tevent\t1\n1\tafter\t0\t199999999.9\n2\tafter\t0\t200000000.0\n3\tafter\t1\t200000000.0\n",
         opening: -1_000_000_000,
         log: "e1 e2 c999999999 c1000000000",
     },
@@ -225,7 +226,7 @@ const NEAREST: [Planned; 9] = [
     // Each in the other, in an absence and in a delay, and over delayed rows, several of them by one mark.
     Planned {
         chart: "0\tevent\t1\n1\tevent\t2\n2\tcut\t0\t1\n3\tchange\t2\t0\n4\t-[]\t3\t2\n5\t-[]\t2\t3\n\
-            6\tafter\t2\t3\n7\tchange\t6\t6\n8\tcut\t0\t6\n",
+            6\tafter\t2\t0.3\n7\tchange\t6\t6\n8\tcut\t0\t6\n",
         opening: 0,
         log: "e1 c1 e2 c2 e1 c3 e2 c7 e1 c8 e2 c30",
     },
@@ -269,13 +270,13 @@ const ADDED: [PlannedAdditions; 10] = [
     // Waits that begin before the addition, at it and after it; delays of delays; one that forbids.
     PlannedAdditions {
         chart: OF_EVENTS,
-        added: &["2\tafter\t0\t5\n3\tafter\t2\t5\n4\t-[]\t2\t1\n5\tatleast\t2\t5\n"],
+        added: &["2\tafter\t0\t0.5\n3\tafter\t2\t0.5\n4\t-[]\t2\t1\n5\tatleast\t2\t0.5\n"],
         opening: 0,
         log: "e1 c2 e1 c3 e1 a0 c4 e1 e2 c7 c8 c9 c30",
     },
     // Old waits that end behind the addition: of what is made of them, all starts too early, but for the last.
     PlannedAdditions {
-        chart: "0\tevent\t1\n1\tafter\t0\t4\n2\tafter\t0\t9\n",
+        chart: "0\tevent\t1\n1\tafter\t0\t0.4\n2\tafter\t0\t0.9\n",
         added: &["3\tor\t1\t2\n4\tfinishes\t1\t1\n5\tequals\t1\t1\n6\tmeets\t1\t0\n7\toverlaps\t1\t2\n"],
         opening: -9,
         log: "e1 c-8 e1 c-7 a0 e1 c-6 e1 c-3 e1 c20",
@@ -297,7 +298,7 @@ const ADDED: [PlannedAdditions; 10] = [
     // Twice at one instant, and then over both at later ones.
     PlannedAdditions {
         chart: "0\tevent\t1\n",
-        added: &["1\tlasts\t0\t0\n", "2\tseq\t0\t1\n3\tor\t1\t0\n", "4\tand\t1\t3\n", "5\tstarts\t0\t2\n"],
+        added: &["1\tlasts\t0\t0.0\n", "2\tseq\t0\t1\n3\tor\t1\t0\n", "4\tand\t1\t3\n", "5\tstarts\t0\t2\n"],
         opening: 5,
         log: "e1 a0 e1 a1 c6 e1 c7 a2 e1 c8 e1 a3 c9 e1 c10",
     },
@@ -310,15 +311,15 @@ const ADDED: [PlannedAdditions; 10] = [
     },
     // Forgets below the instants from which entries count, at them and above them.
     PlannedAdditions {
-        chart: "0\tevent\t1\n1\tafter\t0\t3\n",
-        added: &["2\tatmost\t1\t9\n", "3\tduring\t0\t1\n4\tseq\t0\t2\n"],
+        chart: "0\tevent\t1\n1\tafter\t0\t0.3\n",
+        added: &["2\tatmost\t1\t0.9\n", "3\tduring\t0\t1\n4\tseq\t0\t2\n"],
         opening: 0,
         log: "e1 c1 f1 e1 c2 a0 e1 c3 f1 e1 c4 f2 a1 e1 c5 e1 c6 f4 e1 c9 f6 f9 a0 c10",
     },
     // Both ends of the range: from the first instant on an added entry counts as those of the opening do.
     PlannedAdditions {
         chart: "0\tevent\t1\n",
-        added: &["1\tafter\t0\t1999999999\n", "2\tor\t0\t1\n", "3\tevent\t1\n"],
+        added: &["1\tafter\t0\t199999999.9\n", "2\tor\t0\t1\n", "3\tevent\t1\n"],
         opening: -1_000_000_000,
         log: "e1 a0 c-999999999 e1 a1 c999999999 e1 c1000000000 a2 e1",
     },
@@ -359,7 +360,7 @@ pub fn added_lines(calls: &Calls, texts: usize, met: &mut Met) -> Compared {
     };
     for count in [1, 2, 16, 30, 31, 32] {
         for last in count..=34 {
-            let own = [format!("{last}\tor\t{last}\t0\n"), format!("{last}\tafter\t{last}\t2000000001\n")];
+            let own = [format!("{last}\tor\t{last}\t0\n"), format!("{last}\tafter\t{last}\t200000000.1\n")];
             let others = ["", "x\n", "\n", "x", "0\tevent\t1\n", "99\tevent\t256\n"].map(str::to_string);
             for line in own.into_iter().chain(others) {
                 compare_addition(calls, &opened(count), (events(count, last) + &line).as_bytes(), met)?;
@@ -393,7 +394,7 @@ pub fn many_nearest(calls: &Calls, met: &mut Met) -> Compared {
 
 /// One mark over hundreds of ends, and marks over most of the range with nothing due.
 pub fn long_jumps(calls: &Calls, met: &mut Met) -> Compared {
-    let entries = entries("0\tevent\t1\n1\tafter\t0\t5000\n2\tafter\t1\t5000\n3\t-]]\t1\t0\n4\tmeets\t1\t0\n");
+    let entries = entries("0\tevent\t1\n1\tafter\t0\t500.0\n2\tafter\t1\t500.0\n3\t-]]\t1\t0\n4\tmeets\t1\t0\n");
     let mut run = Run::open(calls, &entries, chart_value::of(&entries), &[7; 10_000], -1_000_000_000, 0, met)?;
     let begun = Instant::now();
     run.play(Call::Clock(-20_000), met)?;
@@ -443,7 +444,7 @@ pub fn blocks(calls: &Calls, met: &mut Met) -> Compared {
 /// The mark that makes the block, a forget of what starts before its middle row, and another block on what is left. Before
 /// that the same mark on tables that are a row too short, for the block and for what refers to it.
 fn compare_block(calls: &Calls, starts: Starts, rows: usize, met: &mut Met) -> Compared {
-    let referring = |block: usize| format!("{}\tatleast\t{block}\t0\n", block + 1);
+    let referring = |block: usize| format!("{}\tatleast\t{block}\t0.0\n", block + 1);
     let BeforeBlock { watch, chart, table } = before_block(starts, Pairs::of(rows), 7 * rows, referring);
     let on = |table_rows: usize| Subject { watch, chart, table: lent_table(&table[..table_rows * 5]) };
     let mark = Call::Clock(i64::from(watch.instant) + 1);

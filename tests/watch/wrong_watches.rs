@@ -5,7 +5,8 @@
 use common::careless;
 use common::harness::Named;
 use common::interface::{Addition, Answer, Calls, Chart, Entry, Report, Rows, TreeAnswer, Watch, FIRST_FLOOR};
-use common::plain_chart::{self, Verdict};
+use common::paper::lines;
+use common::plain_chart::{self, Operator, Verdict};
 use common::plain_watch::closing::{
     Closing, AFTER, AND, AT_LEAST, AT_MOST, CHANGE, CLOSED_CLOSED, CLOSED_OPEN, CUT, DURING, EQUALS, EVENT, LASTS,
     MEETS, NONE, OPEN_CLOSED, OPEN_OPEN, OR, OVERLAPS, SEQ,
@@ -104,6 +105,17 @@ fn is_nearest(entry: &Entry) -> bool {
 
 /// The entries of added lines, or why they are refused.
 type Lines = Result<Vec<plain_chart::Entry>, Verdict>;
+
+/// The entries of added lines, those with a length as `change` makes them of the length and the line.
+fn with_lengths(chart: &Chart, bytes: &[u8], change: impl Fn(u64, &[u8]) -> u64) -> Lines {
+    let mut added = Plain::read_lines(chart, bytes)?;
+    for (entry, line) in added.iter_mut().zip(lines(bytes)) {
+        if matches!(entry.operator, Operator::Length(_) | Operator::After) {
+            entry.second = change(entry.second, line);
+        }
+    }
+    Ok(added)
+}
 
 /// The instant from which an entry counts, but for those of some operators, which count from the opening.
 fn since_but_for(is_so: fn(u8) -> bool, watch: &Watch, number: usize, entry: &Entry) -> i32 {
@@ -1009,6 +1021,22 @@ wrong_watches! {
                     Some(place) => Err(Verdict { refusal: 5, line: place as u32 + 1 }),
                     None => Ok(added),
                 }
+            }
+        }
+        ReadsWholeAsTenths: "addition: a length without a point read in tenths" {
+            fn read_lines(chart: &Chart, bytes: &[u8]) -> Lines {
+                let has_point = |line: &[u8]| line.contains(&b'.');
+                with_lengths(chart, bytes, |tenths, line| if has_point(line) { tenths } else { tenths / 10 })
+            }
+        }
+        LosesTenth: "addition: a length's tenth lost" {
+            fn read_lines(chart: &Chart, bytes: &[u8]) -> Lines {
+                with_lengths(chart, bytes, |tenths, _| tenths - tenths % 10)
+            }
+        }
+        KeepsMilliseconds: "addition: a length kept in milliseconds" {
+            fn read_lines(chart: &Chart, bytes: &[u8]) -> Lines {
+                with_lengths(chart, bytes, |tenths, _| tenths / 10)
             }
         }
         TakesBrokenLine: "addition: a last line without its byte 10 taken" {

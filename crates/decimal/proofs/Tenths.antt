@@ -8,7 +8,7 @@ use Prim.Native.Nat.{ℕ, zero, suc, _+_, _*_, _-_, _/_, _%_, _^_, _<_, _≤_}
 use native.Mathlib.Omega.{arith}
 use native.Mathlib.Nat.{lt-of-lt-of-le, pow-le-pow-right}
 use lib.Dec.{eqb, leb, ltb, eqb·suc-zero}
-use lib.IntN.{ℤ, pos, negsuc, natAbs}
+use lib.IntN.{ℤ, pos, negsuc, negℤ, natAbs}
 use lib.ListN.{length, getD, take, drop, length-append, take-append-drop, drop-of-length-le, List·getD-append}
 use lib.Seq.{take-append-seam, drop-append-seam, drop-cons, getD-at, take-at, drop-at, getD-append-add}
 use mir.Syntax.{w32}
@@ -19,8 +19,8 @@ use Rattle.text.proofs.Laws.{lacks, lacks-append, lacks-front}
 use Rattle.decimal.specs.declared.Number.{Number}
 use Rattle.decimal.specs.declared.Instant.{Instant}
 use Rattle.decimal.specs.Spelling.{isDigit, allDigits, numberOf, millisecondsOf, inTenths, hasPoint, lengthOf, withoutMinus, withMinus, instantOf, digit, spelledNumber, spelledLength, signed, spelledInstant, spelledIn}
-use Rattle.decimal.specs.Statements.{pointZero, SpellingsHold, LengthsHold, InstantsHold}
-use Rattle.decimal.proofs.Digits.{digit-is, digit-least, digit-most, digits-byte, digits-lack, spelled-digits, spelled-nonempty, length-most}
+use Rattle.decimal.specs.Statements.{pointZero, SpellingsHold, LengthsHold, InstantsHold, WholeHolds, WholesHold}
+use Rattle.decimal.proofs.Digits.{digit-is, digit-least, digit-most, digits-byte, digits-lack, spelled-nonempty, length-most}
 use Rattle.decimal.proofs.Laws.{number-read-back, number-one-spelling, number-below-length, number-some, number-digits, fits-below, signed-least, signed-most, signed-lacks, spelled-number-lacks}
 
 no-value : {P : Type 0} {n : ℕ} → Number.Malformed ≡ Number.Value n → P
@@ -150,11 +150,11 @@ length-read-back n h =
     let same : n / 10 * 10 + (digit (n % 10) - 48) ≡ n = omega arith in
     with-point (spelledNumber (n / 10)) (digit (n % 10)) ∙ simp (whole-read-back (n / 10) (omega arith), digit-is (n % 10) (omega arith), same)
 
-whole-length-read-back : (n : ℕ) → n < 10 ^ 9 → lengthOf (spelledNumber n) ≡ Number.Value (n * 10)
+whole-length : (s : List ℕ) (n : ℕ) → length s ≤ 9 → numberOf s ≡ Number.Value n → lengthOf s ≡ Number.Value (n * 10)
 unfolding lengthOf inTenths isDigit
-whole-length-read-back n h =
+whole-length s n h e =
     let same : n * 10 + (48 - 48) ≡ n * 10 = omega arith in
-    simp (digits-no-point (spelledNumber n) (spelled-digits n), whole-read-back n h, same)
+    simp (digits-no-point s (number-digits s n e), milliseconds-short s h ∙ e, same)
 
 -- Its spellings are the written form and, where this ends in `.0`, the one without it.
 length-spellings : (s : List ℕ) (n : ℕ) → lengthOf s ≡ Number.Value n → (s ≡ spelledLength n) ⊎ (s ++ pointZero ≡ spelledLength n)
@@ -183,7 +183,7 @@ length-without-point s n h e =
     let back : pointZero ≡ 46 ∷ d ∷ [] = sym (drop-at s pointZero (length w) size) ∙ ap (drop (length w)) e ∙ drop-append-seam w (46 ∷ d ∷ []) in
     let zero-last : 48 ≡ d = ap (λ l. getD l 1 0) back in
     let same : n / 10 * 10 ≡ n = omega arith in
-    ap lengthOf front ∙ whole-length-read-back (n / 10) (omega arith) ∙ ap Number.Value same
+    ap lengthOf front ∙ whole-length w (n / 10) (length-most 8 (n / 10) (omega arith)) (number-read-back (n / 10) (omega arith)) ∙ ap Number.Value same
 
 pub lengths-hold : LengthsHold
 lengths-hold = record {
@@ -283,6 +283,15 @@ instant-plain s n e = rw (length-first s n e, e)
 instant-minus : (s : List ℕ) (n : ℕ) → lengthOf s ≡ Number.Value (suc n) → instantOf (45 ∷ s) ≡ Instant.Value (negsuc n)
 unfolding instantOf withMinus
 instant-minus s n e = rw (e, eqb·suc-zero n)
+
+pub wholes-hold : WholesHold
+wholes-hold s n h e = record { length = whole-length s n h e; instant = instant-plain s (n * 10) (whole-length s n h e); before = minus n (whole-length s n h e) }
+  where
+    minus : (m : ℕ) → lengthOf s ≡ Number.Value (m * 10) → 0 < m → instantOf (45 ∷ s) ≡ Instant.Value (negℤ (pos (m * 10)))
+    minus zero q g = absurd (omega arith)
+    minus (suc m) q g =
+        let some : suc m * 10 ≡ suc (m * 10 + 9) = omega arith in
+        rw some (instant-minus s (m * 10 + 9) (q ∙ ap Number.Value some))
 
 instant-read-back : (z : ℤ) → natAbs z < 10 ^ 10 → instantOf (spelledInstant z) ≡ Instant.Value z
 unfolding signed

@@ -1,12 +1,13 @@
 -- What is claimed of lengths and instants on paper; no proof stands here. proofs/Tenths.antt proves it.
-use Prim.Native.Nat.{ℕ, _<_, _^_}
+use Prim.Native.Nat.{ℕ, _*_, _<_, _≤_, _^_}
 use mathlib.Core.Path.{_≡_}
 use mathlib.Core.Logic.{_⊎_}
 use mathlib.Core.List.{List, [], _∷_, _++_}
-use lib.IntN.{ℤ, natAbs}
+use lib.IntN.{ℤ, pos, negℤ, natAbs}
+use lib.ListN.{length}
 use Rattle.decimal.specs.declared.Number.{Number}
 use Rattle.decimal.specs.declared.Instant.{Instant}
-use Rattle.decimal.specs.Spelling.{lengthOf, instantOf, spelledLength, spelledInstant}
+use Rattle.decimal.specs.Spelling.{numberOf, lengthOf, instantOf, spelledLength, spelledInstant}
 
 -- `.0`
 abbrev pub pointZero : List ℕ
@@ -29,3 +30,12 @@ LengthsHold = SpellingsHold (λ s n. lengthOf s ≡ Number.Value n) (λ n. n < 1
 
 abbrev pub InstantsHold : Type 0
 InstantsHold = SpellingsHold (λ s z. instantOf s ≡ Instant.Value z) (λ z. natAbs z < 10 ^ 10) spelledInstant
+
+-- "without a point they are whole milliseconds": what was a sound number of at most 9 digits before request N11 is a length and an instant still
+pub record WholeHolds (s : List ℕ) (n : ℕ) : Type 0 where
+  pub length : lengthOf s ≡ Number.Value (n * 10)
+  pub instant : instantOf s ≡ Instant.Value (pos (n * 10))
+  pub before : 0 < n → instantOf (45 ∷ s) ≡ Instant.Value (negℤ (pos (n * 10)))
+
+abbrev pub WholesHold : Type 0
+WholesHold = (s : List ℕ) (n : ℕ) → length s ≤ 9 → numberOf s ≡ Number.Value n → WholeHolds s n

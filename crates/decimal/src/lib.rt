@@ -152,13 +152,13 @@ fn has_point(s: &[u8]) -> bool
     s[n - 2] == b'.'
 }
 
-// Writes x with its minus, as an instant with a point or as a whole number without. Where the output is too short it writes nothing and
+// Writes z with its minus, as an instant with a point or as a whole number without. Where the output is too short it writes nothing and
 // returns 0.
-fn write_signed(x: i32, point: bool, out: &mut [u8]) -> usize
-    ensures { λ r. ⌜ (r ≡ writtenLength (signed (spelledIn point) x) (now (out .entry))) × (now (out .exit) ≡ writtenOutput (signed (spelledIn point) x) (now (out .entry))) ⌝ }
+fn write_signed(z: i32, point: bool, out: &mut [u8]) -> usize
+    ensures { λ r. ⌜ (r ≡ writtenLength (signed (spelledIn point) z) (now (out .entry))) × (now (out .exit) ≡ writtenOutput (signed (spelledIn point) z) (now (out .entry))) ⌝ }
 {
-    let m = magnitude(x);
-    if 0 <= x {
+    let m = magnitude(z);
+    if 0 <= z {
         return write_unsigned(m, point, out);
     }
     if out.len() == 0 {

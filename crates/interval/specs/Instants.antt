@@ -1,4 +1,5 @@
--- Instants, lengths, which clock marks and forgets are refused, the least start and the greatest end. Document 01, "Instants, events, rows".
+-- Instants, lengths, which clock marks and forgets are refused, the least start and the greatest end. Document 01, "Instants, events, rows". Request N11: "Inside and in
+-- the row ranges one unit is now a tenth, the numeric ranges being as before": a tenth of a millisecond.
 use Prim.Native.Nat.{ℕ}
 use mathlib.Core.Bool.{Bool, false, cond, not, _&&_, _||_}
 use lib.Dec.{eqb, leb}

@@ -11,7 +11,7 @@ use printing::REFUSAL_SIZE;
 use printing::ROW_SIZE;
 use program::Format;
 
-const OUTPUT_BYTES: usize = REFUSAL_SIZE + 3000 * ROW_SIZE;
+const OUTPUT_SIZE: usize = REFUSAL_SIZE + 3000 * ROW_SIZE;
 
 // What this program prints is a listing.
 fn run(table: &mut [i32], out: &mut [u8])
@@ -23,6 +23,6 @@ fn run(table: &mut [i32], out: &mut [u8])
 
 fn main() {
     let mut table = [0i32; 15000];
-    let mut out = [0u8; OUTPUT_BYTES];
+    let mut out = [0u8; OUTPUT_SIZE];
     run(&mut table, &mut out);
 }

@@ -3,7 +3,7 @@ use Prim.Native.Nat.{ℕ, zero, suc}
 use native.Mathlib.Omega.{arith}
 use mathlib.Core.Path.{_≡_, refl, sym, ap, _∙_}
 use mathlib.Core.Bool.{true}
-use mathlib.Core.List.{List, [], _∷_, _++_, append-assoc}
+use mathlib.Core.List.{List, [], _∷_, _++_}
 use lib.IntN.{ℤ}
 use lib.ListN.{length, take, drop}
 use Rattle.text.specs.Text.{Line, whole, split, ended, lines}
@@ -14,7 +14,7 @@ use Rattle.decimal.proofs.Tenths.{written-instant-lacks}
 use Rattle.model.specs.Order.{Row}
 use Rattle.table.specs.Table.{storedRow, flat}
 use Rattle.table.specs.declared.Row as stored
-use Rattle.printing.specs.Listing.{title, rowText, listingText, tableRows, tableText, rowsListed}
+use Rattle.printing.specs.Listing.{title, rowFields, rowText, listingText, tableRows, tableText, rowsListed}
 use Rattle.printing.proofs.Laws.{table-listing}
 
 -- one line and what follows it
@@ -23,17 +23,8 @@ one-line s t h =
     let word : split 10 (s ++ 10 ∷ []) ≡ s ∷ [] ∷ [] = split-word 10 s [] (index-lacks 10 s h) ∙ ap (_∷_ s) (split-empty 10) in
     lines-append s t ∙ ap (λ ls. ls ++ lines t) (lines-parts (s ++ 10 ∷ []) ∙ ap ended word)
 
--- the line of a row without its end
-fields : ℕ → stored.Row → List ℕ
-fields n r =
-    spelledNumber n ++
-    ((9 ∷ spelled (r .entry)) ++
-    ((9 ∷ spelled (r .left)) ++
-    ((9 ∷ spelled (r .right)) ++
-    ((9 ∷ spelledInstant (r .start)) ++ (9 ∷ spelledInstant (r .end))))))
-
-fields-lack : (n : ℕ) (r : stored.Row) → lacks 10 (fields n r) ≡ true
-unfolding fields
+-- the line of a row
+fields-lack : (n : ℕ) (r : stored.Row) → lacks 10 (rowFields n r) ≡ true
 fields-lack n r =
     lacks-append 10 (spelledNumber n) _ (spelled-number-lacks 10 (omega arith) n)
     (lacks-append 10 (9 ∷ spelled (r .entry)) _ (spelled-lacks 10 (omega arith) (r .entry))
@@ -41,12 +32,8 @@ fields-lack n r =
     (lacks-append 10 (9 ∷ spelled (r .right)) _ (spelled-lacks 10 (omega arith) (r .right))
     (lacks-append 10 (9 ∷ spelledInstant (r .start)) _ (written-instant-lacks 10 (omega arith) (r .start)) (written-instant-lacks 10 (omega arith) (r .end))))))
 
-row-ended : (n : ℕ) (r : stored.Row) → rowText n r ≡ fields n r ++ 10 ∷ []
-unfolding fields
-row-ended n r = simp append-assoc
-
-row-line : (n : ℕ) (r : stored.Row) (t : List ℕ) → lines (rowText n r ++ t) ≡ whole (fields n r) ∷ lines t
-row-line n r t = ap (λ s. lines (s ++ t)) (row-ended n r) ∙ one-line (fields n r) t (fields-lack n r)
+row-line : (n : ℕ) (r : stored.Row) (t : List ℕ) → lines (rowText n r ++ t) ≡ whole (rowFields n r) ∷ lines t
+row-line n r t = one-line (rowFields n r) t (fields-lack n r)
 
 -- each row is one line
 rows-lines : (n k : ℕ) (t : List ℤ) → length (lines (tableRows n k t)) ≡ k

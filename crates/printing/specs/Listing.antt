@@ -22,15 +22,19 @@ title =
     115 ∷ 116 ∷ 97 ∷ 114 ∷ 116 ∷ 9 ∷
     101 ∷ 110 ∷ 100 ∷ 10 ∷ []
 
--- the line of a row: its number; entry, left and right, whole numbers; start and end, instants with "one digit after" the point (request N11)
-abbrev pub rowText : ℕ → stored.Row → List ℕ
-rowText n r =
+-- the fields of a row: its number; entry, left and right, whole numbers; start and end, instants with "one digit after" the point (request N11)
+abbrev pub rowFields : ℕ → stored.Row → List ℕ
+rowFields n r =
     spelledNumber n ++
     ((9 ∷ spelled (r .entry)) ++
     ((9 ∷ spelled (r .left)) ++
     ((9 ∷ spelled (r .right)) ++
     ((9 ∷ spelledInstant (r .start)) ++
-    ((9 ∷ spelledInstant (r .end)) ++ (10 ∷ []))))))
+    (9 ∷ spelledInstant (r .end))))))
+
+-- its line
+abbrev pub rowText : ℕ → stored.Row → List ℕ
+rowText n r = rowFields n r ++ (10 ∷ [])
 
 -- a row of the model as a table has it
 abbrev pub storedOf : Row → stored.Row

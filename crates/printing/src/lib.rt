@@ -131,9 +131,9 @@ fn write_row(row: Row, i: usize, out: &mut [u8], at: usize) -> usize
     let left = write_integer_field(row.left, out, entry);
     let right = write_integer_field(row.right, out, left);
     let start = write_instant_field(row.start, out, right);
-    let end = write_instant_field(row.end, out, start);
-    out[end] = b'\n';
-    end + 1
+    let behind = write_instant_field(row.end, out, start);
+    out[behind] = b'\n';
+    behind + 1
 }
 
 // Writes a tab and x. Each byte is written once.

@@ -12,18 +12,18 @@ use borrow.Author.Needs.{needs}
 use Rattle.decimal.proofs.write_signed.Statement.{statement}
 use Rattle.decimal.proofs.write_signed.Tie as tie
 
--- the spelling of x, on each side of the test
-plain : (c : tie.Then1) → let g = c .before .before .before .args in spelledIn (g .point) (c .before .magnitude .result) ≡ signed (spelledIn (g .point)) (g .x)
+-- the spelling of z, on each side of the test
+plain : (c : tie.Then1) → let g = c .before .before .before .args in spelledIn (g .point) (c .before .magnitude .result) ≡ signed (spelledIn (g .point)) (g .z)
 plain c =
     let s = c .before .before .before in
-    simp (same32, s .fits .x) at (ap (spelledIn (s .args .point)) (c .before .magnitude .ensures))
-    ∙ sym (signed-plain (spelledIn (s .args .point)) _ (simp (same32, s .fits .x) at (c .if1 .taken)))
+    simp (same32, s .fits .z) at (ap (spelledIn (s .args .point)) (c .before .magnitude .ensures))
+    ∙ sym (signed-plain (spelledIn (s .args .point)) _ (simp (same32, s .fits .z) at (c .if1 .taken)))
 
-minus : (c : tie.Else1) → let g = c .before .before .before .args in 45 ∷ spelledIn (g .point) (c .before .magnitude .result) ≡ signed (spelledIn (g .point)) (g .x)
+minus : (c : tie.Else1) → let g = c .before .before .before .args in 45 ∷ spelledIn (g .point) (c .before .magnitude .result) ≡ signed (spelledIn (g .point)) (g .z)
 minus c =
     let s = c .before .before .before in
-    simp (same32, s .fits .x) at (ap (λ (n : ℕ). 45 ∷ spelledIn (s .args .point) n) (c .before .magnitude .ensures))
-    ∙ sym (signed-minus (spelledIn (s .args .point)) _ (simp (same32, s .fits .x) at (c .if1 .left)))
+    simp (same32, s .fits .z) at (ap (λ (n : ℕ). 45 ∷ spelledIn (s .args .point) n) (c .before .magnitude .ensures))
+    ∙ sym (signed-minus (spelledIn (s .args .point)) _ (simp (same32, s .fits .z) at (c .if1 .left)))
 
 pub write-signed-spec : {M : Type 1} → statement M
 write-signed-spec =

@@ -10,7 +10,7 @@ use native.Mathlib.Nat.{lt-of-lt-of-le, pow-le-pow-right}
 use lib.Dec.{eqb, leb, ltb, eqb·suc-zero}
 use lib.IntN.{ℤ, pos, negsuc, negℤ, natAbs}
 use lib.ListN.{length, getD, take, drop, length-append, take-append-drop, drop-of-length-le, List·getD-append}
-use lib.Seq.{take-append-seam, drop-append-seam, drop-cons, getD-at, take-at, drop-at, getD-append-add}
+use lib.Seq.{take-all, take-append-seam, drop-append-seam, drop-cons, getD-at, take-at, drop-at, getD-append-add}
 use mir.Syntax.{w32}
 use mir.Val.{SFits}
 use borrow.Author.Tests.{lt-ltb, le-leb, ne-eqb, ltb-true, leb-true, eqb-true}
@@ -18,7 +18,8 @@ use Rattle.interval.proofs.Signed.{and-first, and-second}
 use Rattle.text.proofs.Laws.{lacks, lacks-append, lacks-front}
 use Rattle.decimal.specs.declared.Number.{Number}
 use Rattle.decimal.specs.declared.Instant.{Instant}
-use Rattle.decimal.specs.Spelling.{isDigit, allDigits, numberOf, millisecondsOf, inTenths, hasPoint, lengthOf, withoutMinus, withMinus, instantOf, digit, spelledNumber, spelledLength, signed, spelledInstant, spelledIn}
+use Rattle.decimal.specs.declared.Parts.{Parts}
+use Rattle.decimal.specs.Spelling.{isDigit, allDigits, numberOf, millisecondsOf, inTenths, hasPoint, partsOf, lengthOf, withoutMinus, withMinus, signSize, instantOf, digit, spelledNumber, spelledLength, signed, spelledInstant, spelledIn}
 use Rattle.decimal.specs.Statements.{pointZero, SpellingsHold, LengthsHold, InstantsHold, WholeHolds, WholesHold}
 use Rattle.decimal.proofs.Digits.{digit-is, digit-least, digit-most, digits-byte, digits-lack, spelled-nonempty, length-most}
 use Rattle.decimal.proofs.Laws.{number-read-back, number-one-spelling, number-below-length, number-some, number-digits, fits-below, signed-least, signed-most, signed-lacks, spelled-number-lacks}
@@ -54,6 +55,45 @@ taken-apart s e =
     let end : drop (length s) s ≡ [] = drop-of-length-le s {i = length s} (omega arith) in
     let back : drop j s ≡ 46 ∷ getD s (length s - 1) 0 ∷ [] = rw (drop-cons s j 0 (omega arith), p, e₁, drop-cons s (length s - 1) 0 (omega arith), e₂, end) in
     sym (take-append-drop j s) ∙ ap (λ t. take j s ++ t) back
+
+-- A length is read from its parts, which are within it.
+pub parts-read : (s : List ℕ) → lengthOf s ≡ inTenths (millisecondsOf (take (partsOf s .whole) s)) (partsOf s .tenth)
+unfolding lengthOf partsOf
+parts-read s = at (hasPoint s)
+  where
+    at : (t : Bool) →
+        let p = cond {A = Parts} t (record { whole = length s - 2; tenth = getD s (length s - 1) 0 }) (record { whole = length s; tenth = 48 }) in
+        cond t (inTenths (millisecondsOf (take (length s - 2) s)) (getD s (length s - 1) 0)) (inTenths (millisecondsOf s) 48) ≡ inTenths (millisecondsOf (take (p .whole) s)) (p .tenth)
+    at true = refl
+    at false = ap (λ l. inTenths (millisecondsOf l) 48) (sym (take-all (length s) s (omega arith)))
+
+pub parts-within : (s : List ℕ) → partsOf s .whole ≤ length s
+unfolding partsOf
+parts-within s = at (hasPoint s)
+  where
+    at : (t : Bool) → (cond {A = Parts} t (record { whole = length s - 2; tenth = getD s (length s - 1) 0 }) (record { whole = length s; tenth = 48 })) .whole ≤ length s
+    at true = omega arith
+    at false = omega arith
+
+-- An instant is read behind its minus, which is within it.
+pub sign-read : (s : List ℕ) → instantOf s ≡ cond (eqb (signSize s) 0) (withoutMinus (lengthOf (drop (signSize s) s))) (withMinus (lengthOf (drop (signSize s) s)))
+unfolding instantOf signSize
+sign-read s = at (eqb (getD s 0 0) 45)
+  where
+    at : (t : Bool) →
+        let k = cond {A = ℕ} t 1 0 in
+        cond t (withMinus (lengthOf (drop 1 s))) (withoutMinus (lengthOf s)) ≡ cond (eqb k 0) (withoutMinus (lengthOf (drop k s))) (withMinus (lengthOf (drop k s)))
+    at true = refl
+    at false = refl
+
+pub sign-within : (s : List ℕ) → signSize s ≤ length s
+unfolding signSize
+sign-within [] = omega arith
+sign-within (b ∷ s) = at (eqb b 45)
+  where
+    at : (t : Bool) → cond {A = ℕ} t 1 0 ≤ suc (length s)
+    at true = omega arith
+    at false = omega arith
 
 -- Digits alone.
 digits-no-point : (s : List ℕ) → allDigits s ≡ true → hasPoint s ≡ false

@@ -2,6 +2,7 @@
 -- no leading zero, 1 to 10 digits; an instant may carry a minus, never before 0." Request N11: "Instants and lengths on paper may have a
 -- point and one digit, as `-0.5`; without a point they are whole milliseconds." Their values are tenths of a millisecond. A spelling is a
 -- list of bytes; the bytes 48 to 57 are the digits, 45 is the minus, 46 the point.
+-- `partsOf`, `signSize` and `spelledIn` alone serve the proofs.
 use Prim.Native.Nat.{ℕ, zero, suc, _+_, _*_, _-_, _/_, _%_}
 use mathlib.Core.Bool.{Bool, true, not, cond, _&&_}
 use mathlib.Core.List.{List, [], _∷_, _++_}
@@ -10,6 +11,7 @@ use lib.IntN.{ℤ, pos, negsuc, negℤ}
 use lib.ListN.{length, getD, take, drop}
 use Rattle.decimal.specs.declared.Number.{Number}
 use Rattle.decimal.specs.declared.Instant.{Instant}
+use Rattle.decimal.specs.declared.Parts.{Parts}
 
 -- whether a byte is a digit
 unfoldable pub isDigit : ℕ → Bool
@@ -59,6 +61,13 @@ unfoldable pub lengthOf : List ℕ → Number
 lengthOf s =
     let pointed = inTenths (millisecondsOf (take (length s - 2) s)) (getD s (length s - 1) 0) in
     cond (hasPoint s) pointed (inTenths (millisecondsOf s) 48)
+
+-- As the code takes them apart: a length's whole milliseconds, how many bytes they are, and the byte of its tenth; and how many bytes an instant's minus takes
+unfoldable pub partsOf : List ℕ → Parts
+partsOf s = cond (hasPoint s) (record { whole = length s - 2; tenth = getD s (length s - 1) 0 }) (record { whole = length s; tenth = 48 })
+
+unfoldable pub signSize : List ℕ → ℕ
+signSize s = cond (eqb (getD s 0 0) 45) 1 0
 
 -- the instant of a length that carries no minus
 unfoldable pub withoutMinus : Number → Instant

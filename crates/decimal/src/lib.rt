@@ -6,12 +6,18 @@ ghost use Prim.Native.Nat.{_≤_};
 ghost use mathlib.Core.Bool.{cond};
 ghost use lib.IntN.{natAbs};
 ghost use lib.ListN.{length};
-ghost use Rattle.decimal.specs.Spelling.{allDigits, digitsValue, hasLeadingZero, numberOf, millisecondsOf, inTenths, hasPoint, lengthOf, instantOf, spelledNumber, spelledLength, signed, spelled, spelledInstant, spelledIn, writtenLength, writtenOutput};
+ghost use Rattle.decimal.specs.Spelling.{allDigits, digitsValue, hasLeadingZero, numberOf, millisecondsOf, inTenths, hasPoint, partsOf, lengthOf, signSize, instantOf, spelledNumber, spelledLength, signed, spelled, spelledInstant, spelledIn, writtenLength, writtenOutput};
 
 // A number that was read, or a length in tenths. A well-formed one is below 10,000,000,000; the caller refuses it where it is out of range.
 pub enum Number {
     Value(u64),
     Malformed,
+}
+
+// A length on paper: how many bytes its whole milliseconds take, and the byte of its tenth.
+struct Parts {
+    whole: usize,
+    tenth: u8,
 }
 
 // An instant that was read, in tenths. A well-formed one may exceed an i32; the caller refuses it as out of range.
@@ -40,36 +46,27 @@ pub fn read_number(s: &[u8]) -> Number
 pub fn read_length(s: &[u8]) -> Number
     ensures { λ r. ⌜ r ≡ lengthOf (now (s .entry)) ⌝ }
 {
-    if has_point(s) {
-        let point = s.len() - 2;
-        let last = s[s.len() - 1];
-        return read_tenths(&s[..point], last);
-    }
-    read_tenths(s, b'0')
+    let parts = parts_of(s);
+    let whole = parts.whole;
+    read_tenths(&s[..whole], parts.tenth)
 }
 
 // The instant that the whole slice spells, in tenths, or Malformed. One pass over at most 12 bytes.
 pub fn read_instant(s: &[u8]) -> Instant
     ensures { λ r. ⌜ r ≡ instantOf (now (s .entry)) ⌝ }
 {
-    if s.len() == 0 {
-        return Instant::Malformed;
-    }
-    if s[0] == b'-' {
-        let n = read_length(&s[1..]);
-        let Number::Value(v) = n else {
-            return Instant::Malformed;
-        };
-        if v == 0 {
-            return Instant::Malformed;
-        }
-        return Instant::Value(0 - (v as i64));
-    }
-    let n = read_length(s);
+    let from = sign_size(s);
+    let n = read_length(&s[from..]);
     let Number::Value(v) = n else {
         return Instant::Malformed;
     };
-    Instant::Value(v as i64)
+    if from == 0 {
+        return Instant::Value(v as i64);
+    }
+    if v == 0 {
+        return Instant::Malformed;
+    }
+    Instant::Value(0 - (v as i64))
 }
 
 // Writes the instant x, which is in tenths, at the front of the output, its minus, its point and one digit behind it included, and returns
@@ -139,6 +136,37 @@ fn read_tenths(s: &[u8], b: u8) -> Number
         return Number::Malformed;
     }
     Number::Value(v * 10 + wide(b - b'0'))
+}
+
+// How many bytes the minus takes in front of an instant: 1 or 0. Constant time.
+fn sign_size(s: &[u8]) -> usize
+    ensures { λ r. ⌜ r ≡ signSize (now (s .entry)) ⌝ }
+{
+    if s.len() == 0 {
+        return 0;
+    }
+    if s[0] == b'-' {
+        return 1;
+    }
+    0
+}
+
+// The parts of a length; its tenth is 0 where it has no point. One of each, so that there is one loop over the digits in what the compiler makes of it. Constant
+// time.
+fn parts_of(s: &[u8]) -> Parts
+    ensures { λ r. ⌜ r ≡ partsOf (now (s .entry)) ⌝ }
+{
+    let n = s.len();
+    if has_point(s) {
+        return Parts {
+            whole: n - 2,
+            tenth: s[n - 1],
+        };
+    }
+    Parts {
+        whole: n,
+        tenth: b'0',
+    }
 }
 
 // Whether the last byte but one is a point. Constant time.

@@ -62,13 +62,6 @@ lengthOf s =
     let pointed = inTenths (millisecondsOf (take (length s - 2) s)) (getD s (length s - 1) 0) in
     cond (hasPoint s) pointed (inTenths (millisecondsOf s) 48)
 
--- As the code takes them apart: a length's whole milliseconds, how many bytes they are, and the byte of its tenth; and how many bytes an instant's minus takes
-unfoldable pub partsOf : List ℕ → Parts
-partsOf s = cond (hasPoint s) (record { whole = length s - 2; tenth = getD s (length s - 1) 0 }) (record { whole = length s; tenth = 48 })
-
-unfoldable pub signSize : List ℕ → ℕ
-signSize s = cond (eqb (getD s 0 0) 45) 1 0
-
 -- the instant of a length that carries no minus
 unfoldable pub withoutMinus : Number → Instant
 withoutMinus (Number.Value n) = Instant.Value (pos n)
@@ -82,6 +75,13 @@ withMinus Number.Malformed = Instant.Malformed
 -- the instant that a spelling is, in tenths: "an instant may carry a minus"
 unfoldable pub instantOf : List ℕ → Instant
 instantOf s = cond (eqb (getD s 0 0) 45) (withMinus (lengthOf (drop 1 s))) (withoutMinus (lengthOf s))
+
+-- As the code takes them apart: a length's whole milliseconds, how many bytes they are, and the byte of its tenth; and how many bytes an instant's minus takes
+unfoldable pub partsOf : List ℕ → Parts
+partsOf s = cond (hasPoint s) (record { whole = length s - 2; tenth = getD s (length s - 1) 0 }) (record { whole = length s; tenth = 48 })
+
+unfoldable pub signSize : List ℕ → ℕ
+signSize s = cond (eqb (getD s 0 0) 45) 1 0
 
 -- the byte of a digit
 abbrev pub digit : ℕ → ℕ

@@ -1,15 +1,16 @@
--- What is printed, computed: the listing of rows, the lines of a report and the line of a refusal. That the listing of a table is that of its rows is a law (Laws.antt);
+-- What is printed, computed: the listing of rows, the lines of a report and the line of a refusal; and how long they can be. That the listing of a table is that of its rows is a law (Laws.antt);
 -- document 01's own listing is computed from its input in crate `program`.
 use Prim.Native.Nat.{ℕ}
 use mathlib.Core.Path.{_≡_, refl}
-use mathlib.Core.List.{List, [], _∷_}
-use lib.IntN.{pos, negsuc}
+use mathlib.Core.List.{List, [], _∷_, _++_}
+use lib.IntN.{ℤ, pos, negsuc}
+use lib.ListN.{length}
 use Rattle.text.specs.Quoted.{bytes, tabbed, unended, text}
 use Rattle.decimal.specs.Spelling.{digitsWithin, spelledNumber, spelledLength, signed}
 use Rattle.model.specs.Order.{Row, row, none}
 use Rattle.text.specs.Text.{split, lines}
-use Rattle.printing.specs.Listing.{rowTexts, listingText, rowsListed, refusalText}
-use Rattle.printing.specs.Report.{tallyTexts, reportText}
+use Rattle.printing.specs.Listing.{title, rowText, rowTexts, listingText, rowsListed, lastField, refusalText, titleSize, rowSize, refusalSize}
+use Rattle.printing.specs.Report.{tallyTexts, totalWord, reportText, tallySize, totalSize}
 
 -- an event, the first and the last instant, an `or` with its right arm, and half a millisecond on either side of the trigger
 abbrev rows : List Row
@@ -48,3 +49,20 @@ report = refl
 listed : rowsListed printed ∷ rowsListed (text ("row entry left right start end" ∷ [])) ∷ [] ≡ 4 ∷ 0 ∷ []
 unfolding bytes tabbed unended text split lines
 listed = refl
+
+-- The sizes are those of the longest lines: with the least number of 32 bits and the greatest of 32 and 64
+abbrev least32 : ℤ
+least32 = negsuc 2147483647
+
+abbrev greatest64 : ℕ
+greatest64 = 18446744073709551615
+
+longest :
+    length title ∷
+    length (rowText greatest64 (record { entry = least32; left = least32; right = least32; start = least32; end = least32 })) ∷
+    length (refusalText 4294967295 greatest64) ∷
+    length (spelledNumber greatest64 ++ lastField greatest64) ∷
+    length (totalWord ++ lastField greatest64) ∷ []
+    ≡ titleSize ∷ rowSize ∷ refusalSize ∷ tallySize ∷ totalSize ∷ []
+unfolding digitsWithin spelledNumber spelledLength signed
+longest = refl

@@ -20,9 +20,9 @@ use Rattle.decimal.specs.declared.Number.{Number}
 use Rattle.decimal.specs.declared.Instant.{Instant}
 use Rattle.decimal.specs.declared.Parts.{Parts}
 use Rattle.decimal.specs.Spelling.{isDigit, allDigits, numberOf, millisecondsOf, inTenths, hasPoint, partsOf, lengthOf, withoutMinus, withMinus, signSize, instantOf, digit, spelledNumber, spelledLength, signed, spelledInstant, spelledIn}
-use Rattle.decimal.specs.Statements.{pointZero, SpellingsHold, LengthsHold, InstantsHold, WholeHolds, WholesHold}
+use Rattle.decimal.specs.Statements.{pointZero, LengthsHold, InstantsHold, WholesHold}
 use Rattle.decimal.proofs.Digits.{digit-is, digit-least, digit-most, digits-byte, digits-lack, spelled-nonempty, length-most}
-use Rattle.decimal.proofs.Laws.{number-read-back, number-one-spelling, number-below-length, number-some, number-digits, fits-below, signed-least, signed-most, signed-lacks, spelled-number-lacks}
+use Rattle.decimal.proofs.Laws.{number-read-back, number-one-spelling, number-below-length, number-some, number-digits, fits-below, signed-most, signed-lacks, spelled-number-lacks}
 
 no-value : {P : Type 0} {n : ℕ} → Number.Malformed ≡ Number.Value n → P
 no-value e = let z : _≡_ {A = ℕ} 0 1 = cc in absurd (omega arith)

@@ -1,6 +1,6 @@
 -- A line of the log. Document 01, "Chart and log on paper": "Log lines: `open` instant (first line only), `event` code, `clock`
--- instant, `forget` instant"; "fields parted by one tab". A line of this form has at most 20 bytes with its byte 10 (`LinesFit`), so
--- that the limit of 64 asks nothing more.
+-- instant, `forget` instant"; "fields parted by one tab". A line of this form has at most 20 bytes with its byte 10, so that the
+-- limit of 64 asks nothing more (`LinesFit`).
 -- `placeAmongWords` and `startsWith` alone serve the proofs.
 use Prim.Native.Nat.{ℕ}
 use mathlib.Core.Bool.{Bool, true, false, cond, _&&_}

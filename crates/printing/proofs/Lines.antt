@@ -6,7 +6,7 @@ use mathlib.Core.Bool.{true}
 use mathlib.Core.List.{List, [], _∷_, _++_}
 use lib.IntN.{ℤ}
 use lib.ListN.{length, take, drop}
-use Rattle.text.specs.Text.{Line, whole, split, ended, lines}
+use Rattle.text.specs.Text.{whole, split, ended, lines}
 use Rattle.text.proofs.Laws.{lacks, lacks-append, index-lacks, split-empty, split-word, lines-parts, lines-append, lines-none}
 use Rattle.decimal.specs.Spelling.{spelledNumber, spelled, spelledInstant}
 use Rattle.decimal.proofs.Laws.{spelled-number-lacks, spelled-lacks}

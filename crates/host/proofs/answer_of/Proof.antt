@@ -1,5 +1,5 @@
 -- `answer_of` meets its contract: each arm is the definition's.
-use mathlib.Core.Path.{sym, ap, _∙_}
+use mathlib.Core.Path.{sym, ap}
 use mir.Syntax.{w64}
 use mir.Val.{SFits}
 use Rattle.interval.proofs.Machine.{same64}

@@ -3,12 +3,10 @@ use Prim.Native.Nat.{ℕ, _+_, _≤_}
 use native.Mathlib.Omega.{arith}
 use mathlib.Core.Path.{_≡_, refl}
 use mathlib.Core.List.{List, [], _∷_, _++_, append-assoc}
-use lib.IntN.{ℤ}
 use lib.ListN.{length, length-set}
 use lib.Seq.{sets}
 use mir.Syntax.{w32}
 use mir.Val.{SFits}
-use borrow.Author.Needs.{needs}
 use Rattle.interval.proofs.Machine.{same32}
 use Rattle.decimal.specs.Spelling.{spelledNumber, spelled, spelledInstant}
 use Rattle.decimal.proofs.Laws.{wide-digits-most}

@@ -1,4 +1,6 @@
 // Charts: the chart value, the reader of a chart on paper, and the check behind refusal 14.
+#![tactic(auto)]
+
 ghost use Rattle.std.specs.Prelude.{◌≡◌, ◌<◌};
 ghost use Rattle.chart.specs.Charts.{no_entries, with_entry, read_chart, read_added, add_line, refused_chart, verdict_of, entry_fits, is_usable};
 
@@ -8,7 +10,7 @@ pub mod record;
 // An entry of a chart: its operator's code and its operands a and b. An event's a is its code and its b is 0; the b of a length test or of
 // `after` is a length.
 #[repr(C)]
-#[derive(Drop)]
+#[derive(Clone, Copy)]
 pub struct Entry {
     pub op: u8,
     pub a: u32,
@@ -17,7 +19,7 @@ pub struct Entry {
 
 // The entries 0 to count - 1 are the chart's; the others are blank in a chart that was read.
 #[repr(C)]
-#[derive(Drop)]
+#[derive(Clone, Copy)]
 pub struct Chart {
     pub count: usize,
     pub entries: [Entry; 32],
@@ -25,7 +27,7 @@ pub struct Chart {
 
 // A refusal 1 to 6 with its line, counted from 1, and a chart of no entries, or where lines are added the chart given; or 0, 0 and the chart.
 #[repr(C)]
-#[derive(Drop)]
+#[derive(Clone, Copy)]
 pub struct ChartAnswer {
     pub refusal: u32,
     pub line: u32,
@@ -34,7 +36,7 @@ pub struct ChartAnswer {
 
 // A refusal and its line without the chart: as in ChartAnswer.
 #[repr(C)]
-#[derive(Drop)]
+#[derive(Clone, Copy)]
 pub struct Verdict {
     pub refusal: u32,
     pub line: u32,

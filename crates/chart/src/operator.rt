@@ -5,7 +5,7 @@ ghost use Rattle.chart.specs.Operators.{words, padded_words, word_lengths, same_
 use interval::{Edges, LengthTest, Nearest, Relation};
 
 // What an operator code stands for.
-#[derive(Drop)]
+#[derive(Clone, Copy)]
 pub enum Kind {
     Event,
     Or,
@@ -18,7 +18,7 @@ pub enum Kind {
 }
 
 // How a row of an operator refers to other rows.
-#[derive(Drop)]
+#[derive(Clone, Copy)]
 pub enum Shape {
     Leaf, // an event's: a serial, no reference
     Single, // one reference, on the left

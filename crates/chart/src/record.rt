@@ -8,14 +8,14 @@ use crate::operator::{Kind, are_lower, in_range, kind_of, operator_of, takes_len
 use decimal::Number;
 
 // What stands in a line: entry number, operator code, operands. An event's second operand is 0.
-#[derive(Drop)]
+#[derive(Clone, Copy)]
 pub enum Parsed {
     Malformed,
     Line(u64, u8, u64, u64),
 }
 
 // A refusal 2 to 6 with a blank entry, or 0 and the entry.
-#[derive(Drop)]
+#[derive(Clone, Copy)]
 pub struct LineAnswer {
     pub refusal: u32,
     pub entry: Entry,

@@ -1,5 +1,7 @@
 // The check of a whole log that comes in pieces, before it is merged: for 7, 17 and 8 alone. The definitions are in `specs/Checks.antt`, what a log is turned away for
 // in crate `logs`.
+#![tactic(auto)]
+
 ghost use Rattle.std.specs.Prelude.{◌≡◌, ◌+◌, ◌<◌, ◌^◌, length};
 ghost use Rattle.log_line.specs.Log.{call_of};
 ghost use Rattle.checking.specs.Checks.{start_check, refused_check, next_check, opened_check, first_check, mark_check, later_check, check_call, end_check, fed_check, finished_check};
@@ -8,7 +10,7 @@ use log_line::Call;
 
 // A log so far: the number of its refusal, 0 for none; how many lines it has, or the line refused; whether it was opened, and at which instant; the
 // instant reached.
-#[derive(Drop)]
+#[derive(Clone, Copy)]
 pub struct Check {
     pub refusal: u32,
     pub line: u64,
@@ -18,7 +20,7 @@ pub struct Check {
 }
 
 // A log after some bytes, and how many of them it needs no more.
-#[derive(Drop)]
+#[derive(Clone, Copy)]
 pub struct Fed {
     pub check: Check,
     pub used: usize,

@@ -2,6 +2,8 @@
 // instant are appended to the table. A row that is made refers to a row that ends at the instant, or, being delayed, to one that ended so long
 // before: the searches begin there wherever the operator lets them. What reads or appends one row takes constant time; each other
 // function says what it looks at.
+#![tactic(auto)]
+
 ghost use Rattle.std.specs.Prelude.{◌≡◌, [], ◌∷◌, ◌+◌, ◌*◌, ◌≤◌, ◌<◌, eqb, pos, nat_abs, ◌+ℤ◌, length, drop, true};
 ghost use Rattle.std.specs.Int.Signed.{le_z, lt_z};
 ghost use Rattle.interval.specs.Instants.{eq_z, least};
@@ -26,7 +28,7 @@ use table::Row;
 // Where rows of an entry are appended: the rows before `first` end before the instant that is closed; those from there to before `end` end
 // at it and are of lower entries; `room` rows fit in all. For a delay the rows from `first` to before `end` are those that ended so long before. The
 // entry counts from the instant `since`: a row that starts earlier is not appended.
-#[derive(Drop)]
+#[derive(Clone, Copy)]
 struct Frame {
     first: usize,
     end: usize,
@@ -37,7 +39,7 @@ struct Frame {
 }
 
 // The instant that is closed, the clock mark before which all are, and how many rows fit.
-#[derive(Drop)]
+#[derive(Clone, Copy)]
 struct Jump {
     instant: i32,
     mark: i32,
@@ -46,7 +48,7 @@ struct Jump {
 
 // The events of the instant that is closed: the serial of the first and how many there are. Their codes are lent beside, since an array in
 // a struct would be copied at each call.
-#[derive(Drop)]
+#[derive(Clone, Copy)]
 struct Pending {
     first: usize,
     count: usize,
@@ -54,21 +56,21 @@ struct Pending {
 
 // What the entries so far have made: how many rows there are, and the first end behind the instant that a delay among them makes, or the mark if none
 // is before it.
-#[derive(Drop)]
+#[derive(Clone, Copy)]
 struct Made {
     rows: usize,
     next: i32,
 }
 
 // Which rows of one operand make a row: all of them, or those that last so long.
-#[derive(Drop)]
+#[derive(Clone, Copy)]
 enum Taken {
     All,
     Lasting(LengthTest, u32),
 }
 
 // What an `after` waits for: its operand, its length, and the instant from which its entry counts.
-#[derive(Drop)]
+#[derive(Clone, Copy)]
 struct Wait {
     operand: i32,
     length: u32,
@@ -76,7 +78,7 @@ struct Wait {
 }
 
 // What is wanted of a second row: that it is one of an operand and related to the first row, which is given by its number, start and end.
-#[derive(Drop)]
+#[derive(Clone, Copy)]
 struct Wanted {
     relation: Relation,
     operand: i32,
@@ -86,7 +88,7 @@ struct Wanted {
 }
 
 // What cut and change look for: the operator, its operands, and the place behind the last row that can be r or a rival of r.
-#[derive(Drop)]
+#[derive(Clone, Copy)]
 struct Sought {
     nearest: Nearest,
     a: i32,
@@ -95,7 +97,7 @@ struct Sought {
 }
 
 // Rows from one to before another.
-#[derive(Drop)]
+#[derive(Clone, Copy)]
 struct Span {
     from: usize,
     to: usize,

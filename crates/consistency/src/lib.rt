@@ -1,6 +1,8 @@
 // The check behind refusal 13: whether watch and table are consistent with the chart; where not, document 01 calls them out of joint. Inner
 // functions of the watch: each asks what its callers have shown. Those on one row take constant time; they are handed rows and limits, but no
 // watch and no chart, whose arrays would be copied for each row.
+#![tactic(auto)]
+
 ghost use Rattle.std.specs.Prelude.{◌≡◌, true, ◌≤◌, length};
 ghost use Rattle.interval.specs.Instants.{eq_z};
 ghost use Rattle.chart.specs.Charts.{all_below, is_usable};
@@ -17,7 +19,7 @@ use state::WatchState;
 use table::Row;
 
 // What a row is held against: the numbers of the watch, the instant from which the row's entry counts, and the end of the row before it.
-#[derive(Drop)]
+#[derive(Clone, Copy)]
 struct Limits {
     instant: i32,
     floor: i32,

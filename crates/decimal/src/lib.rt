@@ -1,26 +1,28 @@
 // Numbers, lengths and instants on paper: which number a spelling is, and how a number is spelled. Lengths and instants are in tenths of a
 // millisecond. The other crates go by these contracts and by the laws of `proofs/Laws.antt` and `proofs/Tenths.antt`, and know nothing of
 // digits. Every public function accepts every input, but for the two that write at a place and ask for room there.
+#![tactic(auto)]
+
 ghost use Rattle.std.specs.Prelude.{◌≡◌, ◌+◌, ◌≤◌, cond, nat_abs, length};
 ghost use Rattle.std.proofs.lemmas.List.Edits.{sets};
 ghost use Rattle.decimal.specs.Spelling.{all_digits, digits_value, has_leading_zero, number_of, milliseconds_of, in_tenths, has_point, parts_of, length_of, sign_size, instant_of, spelled_number, spelled_length, signed, spelled, spelled_instant, spelled_in, written_length, written_output};
 
 // A number that was read, or a length in tenths. A well-formed one is below 10,000,000,000; the caller refuses it where it is out of range.
-#[derive(Drop)]
+#[derive(Clone, Copy)]
 pub enum Number {
     Value(u64),
     Malformed,
 }
 
 // A length on paper: how many bytes its whole milliseconds take, and the byte of its tenth.
-#[derive(Drop)]
+#[derive(Clone, Copy)]
 struct Parts {
     whole: usize,
     tenth: u8,
 }
 
 // An instant that was read, in tenths. A well-formed one may exceed an i32; the caller refuses it as out of range.
-#[derive(Drop)]
+#[derive(Clone, Copy)]
 pub enum Instant {
     Value(i64),
     Malformed,

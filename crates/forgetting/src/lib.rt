@@ -1,5 +1,7 @@
 // Forgetting on the caller's table. Inner functions of the watch: each asks what its callers have shown. What reads or writes one row takes
 // constant time.
+#![tactic(auto)]
+
 ghost use Rattle.std.specs.Prelude.{◌≡◌, false, ◌+◌, ◌*◌, ◌≤◌, ◌<◌, pos, nat_abs, length, set};
 ghost use Rattle.std.specs.Int.Signed.{lt_z};
 ghost use Rattle.model.specs.RowSteps.{renumber};

@@ -1,6 +1,8 @@
 // The C interface: each call of the watch, the chart reader, instants and lengths on paper, and the listing of and the report on a whole input, under the name and the
 // layout that include/chronicle.h declares. A call has the contract of the call that it makes. Costs are those of that call. Instants and lengths are in tenths of
 // a millisecond.
+#![tactic(auto)]
+
 ghost use Rattle.std.specs.Prelude.{◌≡◌};
 ghost use Rattle.chart.specs.Charts.{read_chart, verdict_of};
 ghost use Rattle.decimal.specs.Spelling.{length_of, instant_of, without_minus, spelled_instant, written_length, written_output};
@@ -33,7 +35,7 @@ pub extern "C" fn chronicle_read_chart(bytes: &[u8]) -> ChartAnswer
 
 // What an instant or a length on paper is: 1 and its tenths where it is well formed, else 0 and 0.
 #[repr(C)]
-#[derive(Drop)]
+#[derive(Clone, Copy)]
 pub struct TenthsAnswer {
     pub formed: u32,
     pub tenths: i64,

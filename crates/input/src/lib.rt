@@ -1,5 +1,7 @@
 // The standard input, read in pieces and played to its end. No contract can say what a file descriptor hands over; so those here say that there are
 // pieces of which the run, the table and what is printed are those of crate `program`.
+#![tactic(auto)]
+
 ghost use Rattle.std.specs.Prelude.{◌≡◌, Bool, true, false, List, ℕ, ◌+◌, ◌≤◌, ◌<◌, ℤ, length, take, drop};
 ghost use Rattle.program.specs.Runs.{Reached, HasLines, HasFew, is_refused, fed};
 ghost use Rattle.reading.specs.Readings.{piece_of};
@@ -10,21 +12,21 @@ use libc::{STDERR_FILENO, STDIN_FILENO, STDOUT_FILENO};
 use program::{Format, Run};
 
 // A run and whether reading the input failed; then the run is not finished.
-#[derive(Drop)]
+#[derive(Clone, Copy)]
 pub struct Played {
     pub run: Run,
     pub failed: bool,
 }
 
 // How many bytes were printed at the front of the output, and whether reading the input failed; then they are none.
-#[derive(Drop)]
+#[derive(Clone, Copy)]
 pub struct Printed {
     pub length: usize,
     pub failed: bool,
 }
 
 // A run after one reading, how many bytes are kept for the next, whether this one was the last, and whether it failed.
-#[derive(Drop)]
+#[derive(Clone, Copy)]
 struct Turn {
     run: Run,
     kept: usize,

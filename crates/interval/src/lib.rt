@@ -1,13 +1,15 @@
 // Instants and lengths, in tenths of a millisecond, which clock marks and forgets are refused, and the conditions on intervals. The lowest crate:
 // every other crate goes by these contracts and by the laws of `proofs/Laws.antt`, and looks at no inequality itself. Every function takes constant
 // time and accepts every input. Comparisons are joined by `&` and `|`: each is as cheap as the branch that would spare it.
+#![tactic(auto)]
+
 ghost use Rattle.std.specs.Prelude.{◌≡◌, pos, ◌+ℤ◌, ◌-ℤ◌};
 ghost use Rattle.std.specs.Int.Signed.{lt_z, le_z};
 ghost use Rattle.interval.specs.Instants.{is_instant, is_length, first_floor, is_mark_refused, is_forget_refused, eq_z, least, greatest};
 ghost use Rattle.interval.specs.Conditions.{is_related, ending_of, is_forbidding, has_length};
 
 // The operators of two operands that ask a condition of both intervals.
-#[derive(Drop)]
+#[derive(Clone, Copy)]
 pub enum Relation {
     Seq,
     And,
@@ -20,7 +22,7 @@ pub enum Relation {
 }
 
 // Where the two intervals of a related pair end, r the first and s the second. The whole ends where the later of them ends.
-#[derive(Drop)]
+#[derive(Clone, Copy)]
 pub enum Ending {
     Before, // r ends before s starts, and s ends where the whole ends
     Within, // r ends when s starts or later, and s ends where the whole ends
@@ -29,7 +31,7 @@ pub enum Ending {
 }
 
 // The early and the late edge of an absence: -[] -][ -[[ -]]
-#[derive(Drop)]
+#[derive(Clone, Copy)]
 pub enum Edges {
     ClosedClosed,
     OpenOpen,
@@ -38,14 +40,14 @@ pub enum Edges {
 }
 
 // The operators that pair r with the first s after it: cut; and change, where r is also the last before s.
-#[derive(Drop)]
+#[derive(Clone, Copy)]
 pub enum Nearest {
     Cut,
     Change,
 }
 
 // The operators that test how long one operand lasts.
-#[derive(Drop)]
+#[derive(Clone, Copy)]
 pub enum LengthTest {
     Lasts,
     AtMost,

@@ -1,6 +1,8 @@
 // The listing program: a chart, an empty line and a log on standard input; on standard output the table at the end, or one line `refused`, number,
 // line. What is read, played and written is in crate `input`; here is only the memory: a table of 3,000 rows of five numbers, and an output with the bytes of
 // a refusal and of each row that the end-to-end theorem asks for.
+#![tactic(auto)]
+
 ghost use Rattle.std.specs.Prelude.{◌≤◌, ◌≡◌, length};
 ghost use Rattle.input.specs.Inputs.{PrintsInput};
 ghost use Rattle.program.specs.Statements.{bytes_for};

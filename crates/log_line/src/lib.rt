@@ -1,4 +1,6 @@
 // The log on paper: one line, read as the call that it asks for, and written. The definitions are in `specs/Log.antt`.
+#![tactic(auto)]
+
 ghost use Rattle.std.specs.Prelude.{◌≡◌, ◌∷◌, [], ◌++◌, ◌≤◌, length};
 ghost use Rattle.std.proofs.lemmas.List.Edits.{sets};
 ghost use Rattle.decimal.specs.Spelling.{spelled_number};
@@ -7,7 +9,7 @@ ghost use Rattle.log_line.specs.Log.{call_of, word_call, place_among_words, answ
 use decimal::{Instant, Number};
 
 // What a line asks for. An instant is in tenths of a millisecond and may be out of the instants' range; the watch refuses it then.
-#[derive(Drop)]
+#[derive(Clone, Copy)]
 pub enum Call {
     Malformed,
     Open(i64),
@@ -17,7 +19,7 @@ pub enum Call {
 }
 
 // The words that an instant follows.
-#[derive(Drop)]
+#[derive(Clone, Copy)]
 enum Word {
     Open,
     Clock,

@@ -1,6 +1,8 @@
 // The merging program: the logs `first.log` and `second.log` of the working folder into one on standard output, or one line `refused`, number, line. What is checked
 // and merged is in the crates `checking` and `merging`; here are the files and the memory: a buffer for each log and one for what is printed. Each file is read
 // twice, once to check it and once to merge it, so that any length will do.
+#![tactic(auto)]
+
 ghost use Rattle.std.specs.Prelude.{ℕ, ◌+◌, ◌≤◌, ◌<◌, ◌^◌, min, ◌≡◌, true, false, List, [], length, take};
 ghost use Rattle.printing.specs.Listing.{refusal_text};
 ghost use Rattle.merge.specs.Files.{is_last, end_of, Between, FitsTurns, ChecksFile, PartOf, Opened, Merges, AtEnd, GoesOn, Brings, PrintsAll, InBuffers, FitsWritten, is_used, is_going, stop_for, place_at, printed_at, turned_at, stopped_at, finished_at};
@@ -19,7 +21,7 @@ const TURNS: u64 = 140737488355328;
 
 // A log that is checked: the check so far, how many bytes are kept in the buffer for the next piece, how many came in all, whether the file has ended, and whether
 // that is because reading failed.
-#[derive(Drop)]
+#[derive(Clone, Copy)]
 struct Piece {
     check: Check,
     kept: usize,
@@ -29,14 +31,14 @@ struct Piece {
 }
 
 // A log that is merged: how many of its bytes are in the buffer, and how many are still to come of those that were checked.
-#[derive(Drop)]
+#[derive(Clone, Copy)]
 struct Source {
     kept: usize,
     left: u64,
 }
 
 // Why merging has stopped: nothing is left; a log is not what was checked; reading or writing failed.
-#[derive(Drop)]
+#[derive(Clone, Copy)]
 enum Stop {
     Going,
     Over,
@@ -48,7 +50,7 @@ enum Stop {
 }
 
 // Where merging is: the instant reached, both logs, how many bytes were printed, and whether it has stopped.
-#[derive(Drop)]
+#[derive(Clone, Copy)]
 struct Place {
     instant: i64,
     first: Source,
@@ -58,7 +60,7 @@ struct Place {
 }
 
 // Merging as far as the buffers go: where it is then, what it wants, and whether what came of it was written.
-#[derive(Drop)]
+#[derive(Clone, Copy)]
 struct Held {
     place: Place,
     want: Want,
@@ -66,7 +68,7 @@ struct Held {
 }
 
 // What a reading brought of a log that is merged: the log, whether its file was shorter than what was checked, and whether reading failed.
-#[derive(Drop)]
+#[derive(Clone, Copy)]
 struct More {
     source: Source,
     short: bool,
@@ -74,7 +76,7 @@ struct More {
 }
 
 // The files of the two logs.
-#[derive(Drop)]
+#[derive(Clone, Copy)]
 struct Files {
     first: i32,
     second: i32,

@@ -1,6 +1,8 @@
 // Two logs that were checked, into one, as they come in pieces again. The definitions are in `specs/`: `Merging` has what is printed, `Turns` how far each call comes.
 // Only the instant reached is remembered: an event of the first log is next, else one of the second; else both stand at a mark or at their end, and the earlier mark is next, once
 // if both have it.
+#![tactic(auto)]
+
 ghost use Rattle.std.specs.Prelude.{◌≡◌, ◌+◌, ◌≤◌, length};
 ghost use Rattle.std.proofs.lemmas.List.Edits.{sets};
 ghost use Rattle.log_line.specs.Log.{line_of, line_most};
@@ -12,7 +14,7 @@ use log_line::{Call, LINE_SIZE};
 const NO_INSTANT: i64 = 1000000001;
 
 // Whether no more bytes come of the first log, and of the second.
-#[derive(Drop)]
+#[derive(Clone, Copy)]
 pub struct Ended {
     pub first: bool,
     pub second: bool,
@@ -20,7 +22,7 @@ pub struct Ended {
 
 // The next line of a log, by the bytes that are there: more are needed; an opening; an event, with its code; or a stop, at a mark or at the end. Each with the
 // size of its line.
-#[derive(Drop)]
+#[derive(Clone, Copy)]
 enum Next {
     Needs,
     Passed(usize),
@@ -29,7 +31,7 @@ enum Next {
 }
 
 // What merging wants to go on: nothing but the next step, more of a log, or room in the output; or there is nothing more to do.
-#[derive(Drop)]
+#[derive(Clone, Copy)]
 pub enum Want {
     Go,
     First,
@@ -39,7 +41,7 @@ pub enum Want {
 }
 
 // One step of merging: how many bytes of each log are used, the call whose line is written, Malformed for none, and the instant then.
-#[derive(Drop)]
+#[derive(Clone, Copy)]
 struct Step {
     want: Want,
     first: usize,
@@ -49,7 +51,7 @@ struct Step {
 }
 
 // What some steps came to: what is wanted; how many bytes of each log were used and how many were written; and the instant reached.
-#[derive(Drop)]
+#[derive(Clone, Copy)]
 pub struct Turn {
     pub want: Want,
     pub first: usize,

@@ -1,5 +1,7 @@
 // What the listing program and the report program print: the listing of a table, the numbers of rows by entry, or the line of a refusal. Each public function
 // accepts every input. The others ask for room at a place of the output, write a text there, and return the place behind it.
+#![tactic(auto)]
+
 ghost use Rattle.std.specs.Prelude.{◌≡◌, ◌∷◌, ◌++◌, ◌+◌, ◌*◌, ◌≤◌, length};
 ghost use Rattle.std.proofs.lemmas.List.Edits.{sets};
 ghost use Rattle.decimal.specs.Spelling.{spelled_number, spelled, spelled_instant};

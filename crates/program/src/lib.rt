@@ -1,4 +1,6 @@
 // The listing program and the report program without their input and output: an input that comes in pieces is played on a watch, and what it comes to is printed.
+#![tactic(auto)]
+
 ghost use Rattle.std.specs.Prelude.{◌≡◌, true, false, cond, ◌∷◌, [], ◌+◌, ◌≤◌, ◌<◌, ◌^◌, leb, length, drop};
 ghost use Rattle.text.specs.Text.{whole, line_size};
 ghost use Rattle.chart.specs.Charts.{is_usable, read_lines};
@@ -17,7 +19,7 @@ use printing::{REFUSAL_SIZE, ROW_SIZE, TALLY_SIZE};
 use watch::{Answer, Watch};
 
 // Where a run is: at the chart's entries, before the log's opening, at the calls after it, or refused.
-#[derive(Drop)]
+#[derive(Clone, Copy)]
 pub enum Stage {
     Entries,
     Opening,
@@ -26,7 +28,7 @@ pub enum Stage {
 }
 
 // What is printed of a run that is not refused: the rows, or how many each entry has.
-#[derive(Drop)]
+#[derive(Clone, Copy)]
 pub enum Format {
     Listing,
     Report,
@@ -34,7 +36,7 @@ pub enum Format {
 
 // A run of the program: its stage; the number of its refusal, 0 for none; how many lines it has taken, or the line refused; the chart so
 // far; and the watch.
-#[derive(Drop)]
+#[derive(Clone, Copy)]
 pub struct Run {
     pub stage: Stage,
     pub refusal: u32,
@@ -44,7 +46,7 @@ pub struct Run {
 }
 
 // A run after some bytes, and how many of them it needs no more.
-#[derive(Drop)]
+#[derive(Clone, Copy)]
 pub struct Fed {
     pub run: Run,
     pub used: usize,

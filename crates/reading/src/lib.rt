@@ -1,4 +1,6 @@
 // Reading a file in pieces into a buffer, behind the bytes that are kept of it. No contract can say what a file descriptor hands over: those here say where it stands.
+#![tactic(auto)]
+
 ghost use Rattle.std.specs.Prelude.{◌≡◌, true, ◌+◌, ◌≤◌, length, take};
 ghost use Rattle.reading.specs.Readings.{is_failed};
 
@@ -6,7 +8,7 @@ use libc::EINTR;
 
 // What one reading brought: how many bytes came; whether none come any more; and whether that is because reading failed. One that a signal interrupted brings none
 // and is to be tried again.
-#[derive(Drop)]
+#[derive(Clone, Copy)]
 pub struct Reading {
     pub count: usize,
     pub ended: bool,

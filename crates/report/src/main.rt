@@ -1,6 +1,8 @@
 // The report program: the listing program's input on standard input; on standard output a line for each entry of the chart, with its number of rows, and the total,
 // or one line `refused`, number, line. What is read, played and written is in crate `input`, which the listing program has too; here is only the memory: a table of
 // 3,000 rows of five numbers, and an output with the bytes of a refusal and of each of 32 entries that the end-to-end theorem asks for.
+#![tactic(auto)]
+
 ghost use Rattle.std.specs.Prelude.{◌≤◌, ◌≡◌, length};
 ghost use Rattle.input.specs.Inputs.{PrintsInput};
 ghost use Rattle.program.specs.Statements.{bytes_for};

@@ -1,5 +1,7 @@
 // What a watch holds, by value: the crates below `watch` are handed it whole, so that a number more changes none of their signatures.
 // Every function takes constant time, but for one store for each entry that is opened or added.
+#![tactic(auto)]
+
 ghost use Rattle.std.specs.Prelude.{◌≡◌, ◌+◌, ◌-◌, ◌<◌, ◌≤◌, replicate};
 ghost use Rattle.std.proofs.lemmas.List.Edits.{sets};
 ghost use Rattle.state.specs.State.{empty_state, with_entries, open_state, extended, with_event, marked, raised};
@@ -8,7 +10,7 @@ ghost use Rattle.state.specs.State.{empty_state, with_entries, open_state, exten
 // with zeros behind them. Then how many entries the chart has, and for each the instant from which it counts, with zeros behind them. In C's
 // layout, for a host in C.
 #[repr(C)]
-#[derive(Drop)]
+#[derive(Clone, Copy)]
 pub struct WatchState {
     pub instant: i32,
     pub floor: i32,

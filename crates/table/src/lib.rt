@@ -1,5 +1,7 @@
 // The caller's table of rows: five numbers a row, how many rows fit, and how many end before an instant. Inner functions of the watch: each asks what its
 // callers have shown. What reads or writes one row takes constant time.
+#![tactic(auto)]
+
 ghost use Rattle.std.specs.Prelude.{◌≡◌, true, [], ◌∷◌, ◌+◌, ◌*◌, ◌≤◌, pos, length};
 ghost use Rattle.std.specs.Int.Signed.{le_z};
 ghost use Rattle.chart.specs.Charts.{is_usable};
@@ -34,7 +36,7 @@ pub fn rows_that_fit(len: usize) -> usize
 }
 
 // A row: five numbers of the table. The entry of a row in use is no negative number.
-#[derive(Drop)]
+#[derive(Clone, Copy)]
 pub struct Row {
     pub entry: i32,
     pub left: i32,

@@ -1,4 +1,6 @@
 // The report: how many rows each entry has. Inner functions of the watch: what walks the rows asks what its callers have shown.
+#![tactic(auto)]
+
 ghost use Rattle.std.specs.Prelude.{◌≡◌};
 ghost use Rattle.table.specs.Table.{rows_in};
 ghost use Rattle.table.specs.Ready.{Ready};
@@ -9,7 +11,7 @@ use chart::Chart;
 // A report: the refusal's number, 0 for none; how many entries the chart has; how many rows are in use; how many rows were read for the tallies; and
 // for each entry its number of rows, with zeros behind them. In C's layout, for a host in C.
 #[repr(C)]
-#[derive(Drop)]
+#[derive(Clone, Copy)]
 pub struct Report {
     pub refusal: u32,
     pub entries: usize,

@@ -1,5 +1,7 @@
 // Texts as document 01 has them: lines ended by byte 10, fields parted by one tab; and bytes in a buffer that is lent. The definitions are in
 // `specs/Text.antt` and `specs/Output.antt`.
+#![tactic(auto)]
+
 ghost use Rattle.std.specs.Prelude.{◌≡◌, min, ◌+◌, ◌≤◌, length, drop};
 ghost use Rattle.std.proofs.lemmas.List.Edits.{sets};
 ghost use Rattle.text.specs.Text.{index_of, line_size};

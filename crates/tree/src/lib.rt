@@ -1,4 +1,6 @@
 // Writing the tree of a row as bytes. Inner functions of the watch: each asks what its callers have shown.
+#![tactic(auto)]
+
 ghost use Rattle.std.specs.Prelude.{◌≡◌, true, ◌∷◌, ◌++◌, ◌+◌, ◌≤◌, ◌<◌, pos, nat_abs, length, drop};
 ghost use Rattle.std.specs.Int.Signed.{le_z};
 ghost use Rattle.std.proofs.lemmas.List.Edits.{sets};
@@ -11,7 +13,7 @@ ghost use Rattle.tree.specs.Following.{delimiters_of, node_at, Followable};
 use chart::Chart;
 
 // What a row's tree is made of: how many references it is written with, and its numbers left and right.
-#[derive(Drop)]
+#[derive(Clone, Copy)]
 struct Node {
     arity: u8,
     left: i32,

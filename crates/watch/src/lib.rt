@@ -1,4 +1,6 @@
 // The chronicle watch: a watch by value, its calls, and the caller's table lent to each of them.
+#![tactic(auto)]
+
 ghost use Rattle.std.specs.Prelude.{◌≡◌};
 ghost use Rattle.table.specs.Table.{rows_in};
 ghost use Rattle.tally.specs.Tally.{report_of};
@@ -11,14 +13,14 @@ use tally::Report;
 // A watch. What it holds is declared below, so that the crates that close, forget and check are handed it as one value; in C's layout it is
 // the same as its state.
 #[repr(C)]
-#[derive(Drop)]
+#[derive(Clone, Copy)]
 pub struct Watch {
     pub state: WatchState,
 }
 
 // What a call answers: the refusal's number, 0 for none, and the new watch.
 #[repr(C)]
-#[derive(Drop)]
+#[derive(Clone, Copy)]
 pub struct Answer {
     pub refusal: u32,
     pub watch: Watch,
@@ -27,7 +29,7 @@ pub struct Answer {
 // What an addition answers: the refusal's number, 0 for none, and its line, counted from the first added line, 0 for none and for 14 and 13; and watch
 // and chart to go on with. In C's layout.
 #[repr(C)]
-#[derive(Drop)]
+#[derive(Clone, Copy)]
 pub struct Addition {
     pub refusal: u32,
     pub line: u32,
@@ -37,7 +39,7 @@ pub struct Addition {
 
 // Consecutive rows of a table: the number of the first and how many there are. In C's layout, for a host in C.
 #[repr(C)]
-#[derive(Drop)]
+#[derive(Clone, Copy)]
 pub struct Part {
     pub first: usize,
     pub count: usize,
@@ -45,7 +47,7 @@ pub struct Part {
 
 // What a call for a tree answers: the refusal's number, 0 for none, and the tree's number of bytes. In C's layout.
 #[repr(C)]
-#[derive(Drop)]
+#[derive(Clone, Copy)]
 pub struct TreeAnswer {
     pub refusal: u32,
     pub length: usize,

@@ -1,9 +1,0 @@
--- `later_kind_of` meets its contract: each arm is the definition's.
-use borrow.Author.Tests.{ne_eqb}
-use Rattle.chart.proofs.operator.later_kind_of.Statement.{statement}
-use Rattle.chart.proofs.operator.later_kind_of.Tie as tie
-
-pub later_kind_of_spec : {M : Type 1} → statement M
-later_kind_of_spec = tie.close (tie.spec
-    (λ c. rw c.match.keys1) (λ c. rw c.match.keys2) (λ c. rw c.match.keys3)
-    (λ c. let r = c.match.rest in simp (ne_eqb _ _ r.0.0.1, ne_eqb _ _ r.0.1, ne_eqb _ _ r.1)))

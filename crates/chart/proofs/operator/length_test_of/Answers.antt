@@ -1,0 +1,16 @@
+-- `length_test_of` meets its contract: each arm is the definition's.
+use borrow.Author.Tests.{ne_eqb}
+use Rattle.chart.specs.Operators.{length_test_of}
+use Rattle.chart.proofs.operator.length_test_of.Goals as goal
+
+pub returns-in-14 : goal.returns-in-14
+unfolding length_test_of
+returns-in-14 c = rw c.match.keys1
+
+pub returns-in-15 : goal.returns-in-15
+unfolding length_test_of
+returns-in-15 c = rw c.in-15.is
+
+pub returns-in_default : goal.returns-in_default
+unfolding length_test_of
+returns-in_default c = let r = c.match.rest in simp (ne_eqb _ _ r.0.1, ne_eqb _ _ r.1)

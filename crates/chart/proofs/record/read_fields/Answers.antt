@@ -1,0 +1,36 @@
+-- `read_fields` meets its contract: the first tab cuts off the entry number.
+use mathlib.Core.Path.{sym, ◌∙◌}
+use native.Mathlib.Omega.{arith}
+use lib.Seq.{length-take-le}
+use Rattle.text.proofs.Laws.{part_from}
+use Rattle.chart.specs.Records.{parsed_line}
+use Rattle.chart.proofs.Records.{parsed_one, Cut, tab_cut}
+use Rattle.chart.proofs.record.read_fields.Goals.{Else-t-s}
+use Rattle.chart.proofs.record.read_fields.Goals as goal
+
+cut : (c : Else-t-s) → Cut c.args.s.now c.find-t.result
+cut c = tab_cut _ _ c.find-t.ensures c.if-t-s.false
+
+pub returns-then-t-s : goal.returns-then-t-s
+unfolding parsed_line
+returns-then-t-s c = sym (parsed_one _ (sym c.find-t.ensures ∙ c.if-t-s.true))
+
+pub slice_bounds-read_number-end : goal.slice_bounds-read_number-end
+unfolding parsed_line
+slice_bounds-read_number-end c = sym (length-take-le _ _ (omega (arith, (cut c.before).within)))
+
+pub overflow_add-t : goal.overflow_add-t
+unfolding parsed_line
+overflow_add-t c = omega (arith, (cut c.before.before).within)
+
+pub slice_bounds-read_numbered-count : goal.slice_bounds-read_numbered-count
+unfolding parsed_line
+slice_bounds-read_numbered-count c = omega (arith, (cut c.before.before).within)
+
+pub slice_bounds-read_numbered-start : goal.slice_bounds-read_numbered-start
+unfolding parsed_line
+slice_bounds-read_numbered-start c = omega (arith, (cut c.before.before).within)
+
+pub returns : goal.returns
+unfolding parsed_line
+returns c = rw ((cut c.before.before.before.before).parts, ← c.read_number-n.ensures) (simp part_from at c.read_numbered.ensures)

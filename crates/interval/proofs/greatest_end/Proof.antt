@@ -1,9 +1,0 @@
--- `greatest_end` meets its contract: each arm of the test is one arm of the definition.
-use Rattle.interval.proofs.Machine.{same32}
-use Rattle.interval.proofs.greatest_end.Statement.{statement}
-use Rattle.interval.proofs.greatest_end.Tie as tie
-
-pub greatest_end_spec : {M : Type 1} → statement M
-greatest_end_spec = tie.close (tie.spec
-    (λ c. let f = c.before.ranges in simp (same32, f.b, simp (same32, f.a, f.b) at c.if1.true))
-    (λ c. let f = c.before.ranges in simp (same32, f.a, simp (same32, f.a, f.b) at c.if1.false)))

@@ -1,0 +1,14 @@
+use Prim.Native.Nat.{◌-◌}
+use mathlib.Core.Path.{◌≡◌}
+use lib.ListN.{length, drop}
+use Rattle.text.specs.Text.{line_size}
+use Rattle.watch.specs.Steps.{holding}
+use Rattle.program.specs.Runs.{Read}
+use Rattle.program.proofs.LogLines.{playing}
+use Rattle.program.proofs.feed_calls.Given as goal
+
+abbrev pub invariant-loop-size : goal.invariant-loop-size
+invariant-loop-size l = (length l.table ≡ length l.initial.table) × (l.size ≡ line_size (drop l.at l.s)) × Read (playing l.chart (holding l.initial.state) l.initial.line l.initial.table) (playing l.chart (holding l.state) l.line l.table) l.at l.s
+
+abbrev pub decreases-loop-size : goal.decreases-loop-size
+decreases-loop-size l = length l.s - l.at

@@ -1,0 +1,19 @@
+-- `is_early` meets its contract, stage by stage.
+use Rattle.program.specs.Runs.{is_early}
+use Rattle.program.proofs.is_early.Goals as goal
+
+pub returns-in-Entries : goal.returns-in-Entries
+unfolding is_early
+returns-in-Entries c = simp c.in-Entries.is
+
+pub returns-in-Opening : goal.returns-in-Opening
+unfolding is_early
+returns-in-Opening c = simp c.in-Opening.is
+
+pub returns-in-Calls : goal.returns-in-Calls
+unfolding is_early
+returns-in-Calls c = simp c.in-Calls.is
+
+pub returns-in-Refused : goal.returns-in-Refused
+unfolding is_early
+returns-in-Refused c = simp c.in-Refused.is

@@ -1,0 +1,33 @@
+-- `opening_line` meets its contract: the call that the line reads as opens the watch, or is refused with 7.
+use mathlib.Core.Path.{sym, ◌∙◌}
+use mir.Syntax.{w64}
+use mir.Val.{SFits}
+use Rattle.interval.proofs.Machine.{same64}
+use Rattle.program.proofs.Lines.{opening_open, opening_malformed, opening_event, opening_clock, opening_forget}
+use Rattle.program.proofs.opening_line.Goals as goal
+
+pub returns-in-Open : goal.returns-in-Open
+returns-in-Open c =
+    let k = c in
+    let fits : SFits w64 k.c-1.given.0.0 = record { sfits = c.known_told-1.given.0.1 } in
+    opening_open _ _ _ _ _ _ (sym k.read_call-c.ensures.0 ∙ k.in-Open.is) (simp (same64 _ fits) at c.open_at.ensures)
+
+pub returns-in-Malformed : goal.returns-in-Malformed
+returns-in-Malformed c =
+    let k = c in
+    opening_malformed _ _ _ _ c.refused_run.ensures (sym k.read_call-c.ensures.0 ∙ k.in-Malformed.is)
+
+pub returns-in-Event : goal.returns-in-Event
+returns-in-Event c =
+    let k = c in
+    opening_event _ _ _ _ c.refused_run-in-Event.ensures _ (sym k.read_call-c.ensures.0 ∙ k.in-Event.is)
+
+pub returns-in-Clock : goal.returns-in-Clock
+returns-in-Clock c =
+    let k = c in
+    opening_clock _ _ _ _ c.refused_run-in-Clock.ensures _ (sym k.read_call-c.ensures.0 ∙ k.in-Clock.is)
+
+pub returns-in-Forget : goal.returns-in-Forget
+returns-in-Forget c =
+    let k = c in
+    opening_forget _ _ _ _ c.refused_run-in-Forget.ensures _ (sym k.read_call-c.ensures.0 ∙ k.in-Forget.is)

@@ -1,0 +1,61 @@
+-- `print_whole` meets its contract: the run of one piece.
+use Prim.Native.Nat.{◌+◌}
+use mathlib.Core.Path.{◌≡◌, sym, ap, ◌∙◌, subst}
+use mathlib.Core.List.{[], ◌∷◌}
+use native.Mathlib.Omega.{arith}
+use lib.ListN.{length}
+use Rattle.program.specs.Runs.{Reached, HasLines, Printable, after_bytes, kept_of}
+use Rattle.program.specs.Statements.{whole_run}
+use Rattle.program.proofs.Theorems.{whole_printable}
+use Rattle.program.proofs.Reaching.{start_reached, start_lines, bytes_lines, bytes_few}
+use Rattle.program.proofs.Whole.{one_piece, whole_none, whole_all}
+use Rattle.program.proofs.print_whole.Goals.{After-finish-last, After-start-first}
+use Rattle.program.proofs.print_whole.Goals as goal
+
+-- the run before the first byte
+ready : (c : After-start-first) → let s = c.before.before.before.before.before in Reached (record { run = c.start-first.result; table = s.args.table.now }) × HasLines c.start-first.result (length s.args.input.now + 1)
+ready c =
+    let s = c in
+    let e = sym c.start-first.ensures in
+    (subst (λ r. Reached (record { run = r; table = s.args.table.now })) e (start_reached s.args.table.now), subst (λ r. HasLines r (length s.args.input.now + 1)) e (start_lines _ (omega (arith, s.well-formed.1.0))))
+
+-- the run of the whole input
+run_is : (c : After-finish-last) →
+    let s = c.before.before.before.before.before.before.before.before.before.before.before in
+    whole_run s.args.table.now (s.args.input.now ∷ []) ≡ record { run = c.finish-last.result; table = c.feed-fed.new.1.0 }
+run_is c =
+    let f = c in
+    let st = f in
+    let s = st in
+    let t = s.args.table.now in
+    let x = s.args.input.now in
+    let e = f.feed-fed.ensures.0 ∙ ap (λ r. after_bytes (record { run = r; table = t }) x) st.start-first.ensures in
+    let k = f.feed-fed.ensures.2 ∙ ap (λ r. kept_of (after_bytes (record { run = r; table = t }) x) x) st.start-first.ensures in
+    one_piece x t _ _ _ e k ∙ ap (λ r. record { run = r; table = f.feed-fed.new.1.0 }) (sym c.finish-last.ensures)
+
+pub returns-then-out-needed : goal.returns-then-out-needed
+returns-then-out-needed c = whole_none _ _ _ _ (rw (← c.bytes_for-needed.ensures) c.if-out-needed.true)
+
+pub feed-fed-requires : goal.feed-fed-requires
+feed-fed-requires c = ready c.before
+
+pub finish-last-requires : goal.finish-last-requires
+finish-last-requires c =
+    let k = ready c.before.before.before.before.before in
+    let e = c.feed-fed.ensures.0 in
+    (bytes_lines _ _ _ k.1 e, bytes_few _ _ _ k.0 e)
+
+pub print-requires : goal.print-requires
+print-requires c =
+    let f = c.before.before in
+    let s = f in
+    subst (λ x. Printable s.args.format x.run x.table) (run_is f) (whole_printable s.args.table.now (s.args.input.now ∷ []) s.args.format)
+
+pub returns : goal.returns
+returns c =
+    let f = c.before.before.before.before.before in
+    let b = f in
+    let g = b.args in
+    let p = c.print.ensures in
+    let w = whole_all g.input.now g.table.now g.format g.out.now (rw (← b.bytes_for-needed.ensures) b.if-out-needed.false) _ (run_is f) in
+    (p.0 ∙ w.0, w.1, p.1 ∙ w.2)

@@ -1,9 +1,0 @@
--- `refused_run` meets its contract: the fields one by one.
-use mathlib.Core.Path.{refl}
-use Rattle.program.specs.Runs.{refused_run}
-use Rattle.program.proofs.refused_run.Statement.{statement}
-use Rattle.program.proofs.refused_run.Tie as tie
-
-pub refused_run_spec : {M : Type 1} → statement M
-unfolding refused_run
-refused_run_spec = tie.close (tie.spec (λ c. refl))

@@ -1,0 +1,39 @@
+-- `count_ending` meets its contract: each turn halves what is left of the search.
+use Prim.Native.Nat.{◌+◌, ◌-◌, ◌/◌}
+use mathlib.Core.Path.{◌≡◌, sym, ◌∙◌}
+use native.Mathlib.Omega.{arith}
+use mir.Syntax.{w32, w64}
+use mir.Val.{SFits, to_z, of_z}
+use Rattle.interval.proofs.Machine.{same32, same64}
+use Rattle.table.specs.Table.{cell}
+use Rattle.table.specs.Ends.{ends_before}
+use Rattle.table.proofs.Ends.{search_holds, search_up, search_down, search_ends}
+use Rattle.table.proofs.count_ending.Goals.{After-ends_before}
+use Rattle.table.proofs.count_ending.Goals as goal
+
+-- the test of the middle row
+tested : (c : After-ends_before) → let l = c.before.before.before in let g = l.args in c.ends_before.result ≡ ends_before g.included (to_z w64 (of_z w64 g.e)) (cell g.table.now (l.loop-low.low + (l.loop-low.high - l.loop-low.low) / 2) 4)
+tested c =
+    let l = c in
+    let g = l.args in
+    let f : SFits w32 (cell g.table.now (l.loop-low.low + (l.loop-low.high - l.loop-low.low) / 2) 4) = record { sfits = c.end-1.given } in
+    simp (same32, f) at c.ends_before.ensures
+
+pub loop-low-init : goal.loop-low-init
+loop-low-init c = search_holds _ _ _ _
+
+pub loop-low-preserved-then-ends_before : goal.loop-low-preserved-then-ends_before
+loop-low-preserved-then-ends_before c =
+    let l = c in
+    search_up _ _ _ _ l.requires.1 _ _ l.loop-low.invariant _ (omega arith) (omega arith) (sym (tested c.before) ∙ c.if-ends_before.true)
+
+pub loop-low-preserved : goal.loop-low-preserved
+loop-low-preserved c =
+    let l = c in
+    search_down _ _ _ _ l.requires.1 _ _ l.loop-low.invariant _ (omega arith) (omega arith) (sym (tested c.before) ∙ c.if-ends_before.false)
+
+pub returns : goal.returns
+returns c =
+    let l = c in
+    let s = simp (same64, l.ranges.e) at l.loop-low.invariant in
+    search_ends _ _ _ _ _ _ s c.loop-low-test.false

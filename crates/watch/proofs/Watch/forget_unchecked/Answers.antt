@@ -1,0 +1,37 @@
+-- `forget_unchecked` meets its contract: 11, then forgetting.
+use mathlib.Core.Path.{◌≡◌, sym, ap, ap₂, ◌∙◌}
+use mir.Syntax.{w32}
+use mir.Val.{SFits}
+use Rattle.interval.specs.Instants.{is_forget_refused}
+use Rattle.interval.proofs.Machine.{same32}
+use Rattle.state.specs.State.{raised}
+use Rattle.watch.specs.Steps.{answered}
+use Rattle.watch.proofs.Calls.{told, forget_11, forget_taken, parts}
+use Rattle.watch.proofs.Watch.forget_unchecked.Goals.{After-is_forget_refused}
+use Rattle.watch.proofs.Watch.forget_unchecked.Goals as goal
+
+-- whether the forget is refused
+barred : (c : After-is_forget_refused) → let g = c.args in is_forget_refused g.self.state.floor g.self.state.instant g.f ≡ c.is_forget_refused.result
+barred c =
+    let e = c in
+    let s = e in
+    let floor : SFits w32 s.args.self.state.floor = record { sfits = e.struct_told-1.given.1.0.1 } in
+    let now : SFits w32 s.args.self.state.instant = record { sfits = e.struct_told-2-1.given.0.1 } in
+    sym (simp (same32 _ s.ranges.f, same32 _ now, same32 _ floor) at c.is_forget_refused.ensures)
+
+pub returns-then-is_forget_refused : goal.returns-then-is_forget_refused
+returns-then-is_forget_refused c = let g = c.args in parts (forget_11 g.chart g.self.state g.table.now g.f (barred c.before ∙ c.if-is_forget_refused.true))
+
+pub forget-n-requires : goal.forget-n-requires
+forget-n-requires c = let s = c in (told s.args.chart s.args.self.state s.args.table.now s.requires).ready
+
+pub returns : goal.returns
+returns c =
+    let m = c in
+    let k = m in
+    let d = k in
+    let s = d in
+    let g = s.args in
+    let i = same32 _ s.ranges.f in
+    let p = parts (forget_taken g.chart g.self.state g.table.now g.f (barred d.before ∙ d.if-is_forget_refused.false)) in
+    (c.taken.ensures ∙ ap (answered 0) (m.raised.ensures ∙ ap₂ (λ a n. raised g.self.state a n) i (simp i at k.forget-n.ensures.0)) ∙ p.0, simp i at k.forget-n.ensures.1 ∙ p.1)

@@ -1,7 +1,7 @@
 -- Laws of specs/Spelling.antt for plain numbers and for signs: a number is read back from its spelling, it has no other spelling, how large both can be,
 -- and what is written of a spelling. Lengths and instants are in Tenths.antt.
 use mathlib.Core.Path.{◌≡◌, refl, sym, ap, ◌∙◌}
-use mathlib.Core.Bool.{Bool, true, false, not, cond, ◌&&◌, and_false}
+use mathlib.Core.Bool.{Bool, true, false, not, cond, ◌&&◌, and-false}
 use mathlib.Core.List.{List, [], ◌∷◌, ◌++◌, append-nil}
 use mathlib.Core.Logic.{⊎_elim}
 use Prim.Native.Nat.{ℕ, zero, suc, ◌+◌, ◌*◌, ◌-◌, ◌/◌, ◌%◌, ◌^◌, ◌<◌, ◌≤◌}
@@ -74,7 +74,7 @@ number_lacks x h s n e = digits_lack x s h (number_digits s n e)
 leading : (n : ℕ) → has_leading_zero (spelled_number n) ≡ false
 unfolding has_leading_zero
 leading zero = rw (spelled_small 0 (omega arith))
-leading (suc n) = rw (ne_eqb (get_or (spelled_number (suc n)) 0 0) 48 (λ e. omega (arith, spelled_first (suc n) (omega arith)))) (and_false (ltb 1 (length (spelled_number (suc n)))))
+leading (suc n) = rw (ne_eqb (get_or (spelled_number (suc n)) 0 0) 48 (λ e. omega (arith, spelled_first (suc n) (omega arith)))) (and-false (ltb 1 (length (spelled_number (suc n)))))
 
 pub number_read_back : (n : ℕ) → n < 10 ^ 10 → number_of (spelled_number n) ≡ Number.Value n
 unfolding number_of is_number

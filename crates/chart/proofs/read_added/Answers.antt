@@ -44,48 +44,48 @@ pub loop-at-init : goal.loop-at-init
 loop-at-init c =
     let z = c in
     let s = z.args.s.now in
-    (omega arith, simp length-map at z.well-formed.0.1.1.1.0.1.0.1, λ h. absurd (omega arith), omega arith, on_start z.args.chart s (omega arith))
+    (omega arith, simp length-map at z.well_formed.0.1.1.1.0.1.0.1, λ h. absurd (omega arith), omega arith, on_start z.args.chart s (omega arith))
 
 pub read_line-a-requires : goal.read_line-a-requires
 read_line-a-requires c =
-    let z = c.before in
+    let z = (goal.at.read_line-a-requires c).After-line_size-size in
     let l = z in
     let r = drop l.loop-at.at l.args.s.now in
     rw (part_from, sized z) (size_le r)
 
 pub returns-then-refusal-ne0 : goal.returns-then-refusal-ne0
 returns-then-refusal-ne0 c =
-    let a = c.before in
+    let a = (goal.at.returns-then-refusal-ne0 c).After-read_line-a in
     let l = a in
     let r = drop l.loop-at.at l.args.s.now in
     ap (λ x. record { refusal = x.refusal; line = l.loop-at.line; chart = l.args.chart }) (answered a)
     ∙ sym (step_refused _ l.loop-at.longer l.loop-at.line r (unread a) (λ e. c.if-refusal-ne0.true (ap (λ x. x.refusal) (answered a) ∙ e))) ∙ l.loop-at.invariant.4
 
 pub offset_bounds-longer-n : goal.offset_bounds-longer-n
-offset_bounds-longer-n c = omega (arith, (goes_on_lem c.before).room)
+offset_bounds-longer-n c = omega (arith, (goes_on_lem (goal.at.offset_bounds-longer-n c).Else-refusal-ne0).room)
 
 pub bounds-longer-n : goal.bounds-longer-n
-bounds-longer-n c = (goes_on_lem c.before).room
+bounds-longer-n c = (goes_on_lem (goal.at.bounds-longer-n c).Else-refusal-ne0).room
 
 pub overflow_add-longer : goal.overflow_add-longer
-overflow_add-longer c = omega (arith, (goes_on_lem c.before).room)
+overflow_add-longer c = omega (arith, (goes_on_lem (goal.at.overflow_add-longer c).Else-refusal-ne0).room)
 
 pub overflow_add-line : goal.overflow_add-line
-overflow_add-line c = omega (arith, (goes_on_lem c.before).room)
+overflow_add-line c = omega (arith, (goes_on_lem (goal.at.overflow_add-line c).Else-refusal-ne0).room)
 
 pub overflow_add-at : goal.overflow_add-at
 overflow_add-at c =
-    let a = c.before.before in
+    let a = (goal.at.overflow_add-at c).After-read_line-a in
     let l = a in
-    omega (arith, part_size a, l.well-formed.1.0.0)
+    omega (arith, part_size a, l.well_formed.1.0.0)
 
 pub loop-at-smaller : goal.loop-at-smaller
-loop-at-smaller c = let d = c.before in let t = goes_on_lem d in omega (arith, part_size d.before, t.some, sized d.before.before.before)
+loop-at-smaller c = let d = (goal.at.loop-at-smaller c).Else-refusal-ne0 in let t = goes_on_lem d in omega (arith, part_size d.before, t.some, sized d.before.before.before)
 
 pub loop-at-preserved : goal.loop-at-preserved
 unfolding with_entry
 loop-at-preserved c =
-    let d = c.before in
+    let d = (goal.at.loop-at-preserved c).Else-refusal-ne0 in
     let a = d.before in
     let l = a in
     let s = l.args.s.now in

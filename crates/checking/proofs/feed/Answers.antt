@@ -13,7 +13,7 @@ pub loop-size-init : goal.loop-size-init
 loop-size-init c = feeding_start _ _ _ c.line_size-size.ensures
 
 pub overflow_add-end : goal.overflow_add-end
-overflow_add-end c = omega (arith, feeding_inside _ _ _ _ _ c.loop-size.invariant, c.well-formed.1.0)
+overflow_add-end c = omega (arith, feeding_inside _ _ _ _ _ c.loop-size.invariant, c.well_formed.1.0)
 
 pub overflow_sub-end : goal.overflow_sub-end
 overflow_sub-end c = omega (arith, c.loop-size-test.true)
@@ -33,7 +33,7 @@ check_line-next-requires c =
     omega (arith, l.loop-size.invariant.lines, c.loop-size-test.true, feeding_inside _ _ _ _ _ l.loop-size.invariant, l.requires)
 
 pub overflow_add-at : goal.overflow_add-at
-overflow_add-at c = let l = c in omega (arith, feeding_inside _ _ _ _ _ l.loop-size.invariant, l.well-formed.1.0)
+overflow_add-at c = let l = c in omega (arith, feeding_inside _ _ _ _ _ l.loop-size.invariant, l.well_formed.1.0)
 
 pub slice_bounds-line_size-count : goal.slice_bounds-line_size-count
 slice_bounds-line_size-count c = feeding_inside _ _ _ _ _ c.loop-size.invariant

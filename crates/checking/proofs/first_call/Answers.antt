@@ -39,7 +39,7 @@ refused_check-requires-in-Forget c = search rules
 pub returns-in-Open : goal.returns-in-Open
 returns-in-Open c =
     let k = c in
-    let fits : SFits w64 k.call-1.given.0.0 = record { sfits = c.known_told-1.given.0.1 } in
+    let fits : SFits w64 k.in-Open.o = record { sfits = c.in-Open.known_told-1-own.given.0.1 } in
     first_open _ _ _ _ k.in-Open.is (simp (same64 _ fits) at c.opened_check.ensures)
 
 pub returns-in-Malformed : goal.returns-in-Malformed

@@ -45,7 +45,7 @@ returns-in-Event c =
 pub returns-in-Clock : goal.returns-in-Clock
 returns-in-Clock c =
     let k = c in
-    let fits : SFits w64 k.call-1.given.0.0 = record { sfits = c.known_told-1.given.0.1 } in
+    let fits : SFits w64 k.in-Clock.t = record { sfits = c.in-Clock.known_told-1-own.given.0.1 } in
     later_clock _ _ _ _ k.in-Clock.is (simp (same64 _ fits) at c.mark_check.ensures)
 
 pub returns-in-Forget : goal.returns-in-Forget

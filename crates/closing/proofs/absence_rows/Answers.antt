@@ -89,18 +89,18 @@ shape_of-t-then-end-i c = refl
 pub returns-then-end-i : goal.returns-then-end-i
 unfolding absence_rows
 returns-then-end-i c =
-    let d = c.before in
+    let d = (goal.at.returns-then-end-i c).After-first_of-i in
     let s = d in
     let g = s.args in
     let f = first d in
     simp (same32 _ s.ranges.a) at (over _ d.first_of-i.result g.f.end (past _ _ _ (begin _ g.f.since _ _ g.t.now s.requires.fit) _ f.least f.most (λ j p q. absence_other g.edges (nat_abs g.f.entry) g.f.instant _ g.b (top_of g.b g.f.end g.t.now) g.t.now j (f.none j p q))) c.if-end-i.true)
 
 pub top_of-top-requires : goal.top_of-top-requires
-top_of-top-requires c = held c.before.before.before.before
+top_of-top-requires c = held (goal.at.top_of-top-requires c).Start
 
 pub candidates-init : goal.candidates-init
 candidates-init c =
-    let d = c.before.before.before in
+    let d = (goal.at.candidates-init c).Start in
     let s = d in
     let g = s.args in
     let f = first d in
@@ -110,7 +110,7 @@ pub is_of-requires : goal.is_of-requires
 is_of-requires c = let k = c in omega (arith, held k.before.before.before.before.before.before, k.candidates.invariant.size)
 
 pub row_at-row-requires : goal.row_at-row-requires
-row_at-row-requires c = let d = c.before.before in omega (arith, low d, long d)
+row_at-row-requires c = let d = (goal.at.row_at-row-requires c).In-candidates in omega (arith, low d, long d)
 
 pub loop-row-init : goal.loop-row-init
 loop-row-init c = (omega arith, refl)
@@ -122,10 +122,10 @@ pub overflow_sub-j : goal.overflow_sub-j
 overflow_sub-j c = omega (arith, some_left c)
 
 pub is_forbidding_row-requires : goal.is_forbidding_row-requires
-is_forbidding_row-requires c = let y = c.before in let l = y in let d = o l.before in omega (arith, some_left y, long d, top_below (k d).before, l.loop-row.invariant.0)
+is_forbidding_row-requires c = let y = (goal.at.is_forbidding_row-requires c).After-is_within in let l = y in let d = o l.before in omega (arith, some_left y, long d, top_below (k d).before, l.loop-row.invariant.0)
 
 pub candidates-smaller-then-is_forbidding_row : goal.candidates-smaller-then-is_forbidding_row
-candidates-smaller-then-is_forbidding_row c = omega (arith, low (o c.before.before.before.before.before.before.before.before))
+candidates-smaller-then-is_forbidding_row c = omega (arith, low (o (goal.at.candidates-smaller-then-is_forbidding_row c).After-row_at-row))
 
 -- a candidate that is forbidden
 pub candidates-preserved-then-is_forbidding_row : goal.candidates-preserved-then-is_forbidding_row
@@ -137,7 +137,7 @@ candidates-preserved-then-is_forbidding_row c =
     skip _ (i (o r)) (end (o r)) (k (o r)).candidates.inv (low (o r)) (barred r (sym l.loop-row.invariant.1 ∙ hit))
 
 pub loop-row-smaller : goal.loop-row-smaller
-loop-row-smaller c = omega (arith, some_left c.before.before.before)
+loop-row-smaller c = omega (arith, some_left (goal.at.loop-row-smaller c).In-loop-row)
 
 pub loop-row-preserved : goal.loop-row-preserved
 loop-row-preserved c =
@@ -149,7 +149,7 @@ loop-row-preserved c =
 
 pub push_part-count-requires : goal.push_part-count-requires
 push_part-count-requires c =
-    let d = o c.before.before.before.before.before.before in
+    let d = o (goal.at.push_part-count-requires c).Then-is_of in
     (appendable (s d).pre (k d).candidates.inv, omega (arith, low d, (s d).pre.inside, (k d).candidates.inv.least))
 
 pub shape_of-t-then-room-count : goal.shape_of-t-then-room-count
@@ -165,7 +165,7 @@ returns-then-room-count c =
     simp (whole (k (o r)).before) at (stop _ (i (o r)) (end (o r)) (k (o r)).candidates.inv (low (o r)) (stands r (free y)) d.push_part-count.ensures c.if-room-count.true)
 
 pub candidates-smaller-else-room-count : goal.candidates-smaller-else-room-count
-candidates-smaller-else-room-count c = omega (arith, low (o c.before.before.before.before.before.before.before.before.before))
+candidates-smaller-else-room-count c = omega (arith, low (o (goal.at.candidates-smaller-else-room-count c).After-row_at-row))
 
 -- a candidate that is appended
 pub candidates-preserved-else-room-count : goal.candidates-preserved-else-room-count
@@ -176,12 +176,12 @@ candidates-preserved-else-room-count c =
     turn _ (i (o r)) (end (o r)) (k (o r)).candidates.inv (low (o r)) (stands r (free y)) d.push_part-count.ensures c.if-room-count.false
 
 pub candidates-smaller : goal.candidates-smaller
-candidates-smaller c = omega (arith, low c.before)
+candidates-smaller c = omega (arith, low (goal.at.candidates-smaller c).After-is_of)
 
 -- a row that is no candidate
 pub candidates-preserved : goal.candidates-preserved
 candidates-preserved c =
-    let d = c.before in
+    let d = (goal.at.candidates-preserved c).After-is_of in
     skip _ (i d) (end d) (k d).candidates.invariant (low d) (other d c.if-is_of.false)
 
 pub shape_of-t : goal.shape_of-t

@@ -94,24 +94,24 @@ pub bounds-chart-i : goal.bounds-chart-i
 bounds-chart-i c = (number c).0
 
 pub overflow_cast-f : goal.overflow_cast-f
-overflow_cast-f c = record { sfits = omega (arith, (number c.before).0) }
+overflow_cast-f c = record { sfits = omega (arith, (number (goal.at.overflow_cast-f c).In-loop-i).0) }
 
 pub offset_bounds-since-i : goal.offset_bounds-since-i
-offset_bounds-since-i c = omega (arith, (number c.before).0)
+offset_bounds-since-i c = omega (arith, (number (goal.at.offset_bounds-since-i c).In-loop-i).0)
 
 pub bounds-since-i : goal.bounds-since-i
-bounds-since-i c = (number c.before).0
+bounds-since-i c = (number (goal.at.bounds-since-i c).In-loop-i).0
 
 pub entry_rows-made-requires : goal.entry_rows-made-requires
 entry_rows-made-requires c =
-    let y = c.before.before.before.before in
+    let y = (goal.at.entry_rows-made-requires c).In-loop-i in
     let l = y.before in
     let s = l.before.before in
     let g = s.args in
     let f = l.loop-i.invariant.3 in
     let n = number y in
     let room : g.jump.room ≡ capacity (length g.t.now) = s.requires.3 in
-    simp (n.1, same32 _ (instant c.before)) (
+    simp (n.1, same32 _ (instant (goal.at.entry_rows-made-requires c).After-struct_told-in-loop-i-1)) (
       record {
         fit = f.most;
         most = omega (arith, capacity_most (length g.t.now));
@@ -129,15 +129,15 @@ entry_rows-made-requires c =
     )
 
 pub shape_of-t-then-room-n : goal.shape_of-t-then-room-n
-shape_of-t-then-room-n c = let e = d c.before.before in e.entry-rows.kept.0 ∙ same_size (at e).loop.inv.3
+shape_of-t-then-room-n c = let e = d (goal.at.shape_of-t-then-room-n c).After-struct_told-in-loop-i-2-1 in e.entry-rows.kept.0 ∙ same_size (at e).loop.inv.3
 
 pub returns-then-room-n : goal.returns-then-room-n
-returns-then-room-n c = let e = d c.before.before in (simp (whole (start e)) at ((known e).full c.if-room-n.true), λ h. absurd (omega (arith, c.if-room-n.true)))
+returns-then-room-n c = let e = d (goal.at.returns-then-room-n c).After-struct_told-in-loop-i-2-1 in (simp (whole (start e)) at ((known e).full c.if-room-n.true), λ h. absurd (omega (arith, c.if-room-n.true)))
 
 pub later_start_first-requires : goal.later_start_first-requires
 later_start_first-requires c =
     let f = c.if-room-n.false in
-    let e = d c.before.before.before in
+    let e = d (goal.at.later_start_first-requires c).After-struct_told-in-loop-i-2-1 in
     let size : length e.entry-rows.last.0 ≡ length (at e).loop.t = e.entry-rows.kept.0 in
     (omega (arith, room e), alike_behind ((known e).alike f) (omega (arith, (known e).grows f)))
 
@@ -153,7 +153,7 @@ loop-i-preserved-then-first-n c =
 -- nothing was appended, and nothing is in order
 pub loop-i-preserved : goal.loop-i-preserved
 loop-i-preserved c =
-    let s = c.before in
+    let s = (goal.at.loop-i-preserved c).After-struct_told-in-loop-i-2-1 in
     let e = d s in
     let f : e.entry-rows.result.rows ≤ (start e).args.jump.room = omega (arith, (at e).loop.inv.3.most) in
     let z = sym (ordered_few (at e).loop.n (e.entry-rows.result.rows - (at e).loop.n) e.entry-rows.last.0 (omega arith) (λ j p q. absurd (omega arith))) in

@@ -36,7 +36,7 @@ new c =
 
 pub latest_start-old-requires : goal.latest_start-old-requires
 latest_start-old-requires c =
-    let p = c.before.before in
+    let p = (goal.at.latest_start-old-requires c).After-top_of-top in
     let s = p in
     let g = s.args in
     let most : p.top_of-top.result ≤ g.f.end = omega (arith, top p, top_le g.b g.t.now g.f.first) in

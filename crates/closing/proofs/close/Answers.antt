@@ -25,7 +25,7 @@ pub overflow_mul-state : goal.overflow_mul-state
 overflow_mul-state c = let s = c in omega (arith, s.requires.ready.fit, capacity_most (length s.args.table.now))
 
 pub overflow_mul-room : goal.overflow_mul-room
-overflow_mul-room c = let r = c.before.before.before.before.before.before.before.before in omega (arith, room r, capacity_most (length r.args.table.now))
+overflow_mul-room c = let r = (goal.at.overflow_mul-room c).After-rows_that_fit-room in omega (arith, room r, capacity_most (length r.args.table.now))
 
 pub zero_part-requires : goal.zero_part-requires
 zero_part-requires c =

@@ -36,7 +36,7 @@ past c = let e = c.before.before.before.before in simp (from e, same64 _ (wide e
 
 pub taken_rows-requires : goal.taken_rows-requires
 taken_rows-requires c =
-    let y = c.before.before in
+    let y = (goal.at.taken_rows-requires c).After-count_ending-2 in
     let e = y.before.before.before.before in
     let s = e in
     let g = s.args in

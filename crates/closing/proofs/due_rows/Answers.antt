@@ -23,11 +23,10 @@ use Rattle.closing.proofs.Growth.{settled_later}
 use Rattle.closing.proofs.Entries.{closing_none, closing_ended}
 use Rattle.closing.proofs.Instants.{left_instants, instants_first, instants_ended, instants_fewer, turn_full, turn_next}
 use Rattle.closing.proofs.due_rows.Goals.{After-all_rows-closed, After-struct_told-1, After-struct_told-in-loop-chart-1, At-loop-chart, In-loop-chart}
+use Rattle.closing.proofs.due_rows.Invariants.{left}
 use Rattle.closing.proofs.due_rows.Goals as goal
 
 -- what is left to append from the instant o on, to which k events belong
-abbrev left : Chart → List ℤ → ℤ → ℤ → ℕ → ℕ → List ℕ → ℕ → List ℤ → List Row
-left chart since o x first k codes n t = left_instants chart since o x (events_at o (pending_from first k) codes) n t
 
 -- the open instant
 opened : (c : After-struct_told-1) → SFits w32 c.args.state.instant
@@ -89,7 +88,7 @@ loop-chart-init c =
 
 pub all_rows-closed-requires : goal.all_rows-closed-requires
 all_rows-closed-requires c =
-    let l = c.before.before.before.before.before in
+    let l = (goal.at.all_rows-closed-requires c).At-loop-chart in
     let s = start l in
     let p = s.pre.0 in
     let i = l.loop-chart.invariant in (
@@ -99,15 +98,15 @@ all_rows-closed-requires c =
       s.pre.3 ∙ ap capacity (sym (size l)),
       record { few = omega (arith, p.few); most = omega (arith, p.counted, p.most) },
       omega (arith, p.few),
-      is_lt (instant l) (mark l) (in_time c.before.before.before),
+      is_lt (instant l) (mark l) (in_time (goal.at.all_rows-closed-requires c).In-loop-chart),
     )
 
 pub shape_of-t-then-room-n : goal.shape_of-t-then-room-n
-shape_of-t-then-room-n c = let d = c.before.before in d.all_rows-closed.auto.1.1.0 ∙ size (at d)
+shape_of-t-then-room-n c = let d = (goal.at.shape_of-t-then-room-n c).After-all_rows-closed in d.all_rows-closed.auto.1.1.0 ∙ size (at d)
 
 pub returns-then-room-n : goal.returns-then-room-n
 returns-then-room-n c =
-    let d = c.before.before in
+    let d = (goal.at.returns-then-room-n c).After-all_rows-closed in
     let l = at d in
     subst (λ z. Tried (start l).args.room (start l).args.state.rows z (start l).args.t.now d.all_rows-closed.result.rows d.all_rows-closed.new.1.1.0) (whole l.before) (turn_full (start l).args.chart (start l).args.t4 (instant l) (mark l) (early d) (first l) (take l.loop.pending (start l).args.t3) l.loop.n l.loop.t l.loop.inv.3 (held l) d.all_rows-closed.ensures.0 c.if-room-n.true)
 
@@ -126,10 +125,10 @@ loop-chart-preserved c =
     )
 
 pub shape_of-t : goal.shape_of-t
-shape_of-t c = size c.before.before
+shape_of-t c = size (goal.at.shape_of-t c).At-loop-chart
 
 pub returns : goal.returns
 returns c =
-    let k = c.before.before in
+    let k = (goal.at.returns c).At-loop-chart in
     let late = lt_false (instant k) (mark k) (sym c.is_before.ensures ∙ c.loop-chart-test.false) in
     subst (λ z. Tried (start k).args.room (start k).args.state.rows z (start k).args.t.now k.loop-chart.n k.loop-chart.t) (whole k.before) (closing_ended k.loop-chart.invariant.3 (instants_ended (start k).args.chart (start k).args.t4 (instant k) (mark k) _ k.loop-chart.n k.loop-chart.t k.loop-chart.invariant.0 late))

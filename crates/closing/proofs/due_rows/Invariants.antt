@@ -1,12 +1,20 @@
-use Prim.Native.Nat.{◌-◌, ◌≤◌}
+use Prim.Native.Nat.{ℕ, ◌-◌, ◌≤◌}
+use mathlib.Core.List.{List}
 use lib.IntN.{ℤ}
 use mir.Syntax.{w32}
 use mir.Val.{to_z}
 use Rattle.interval.proofs.Signed.{◌≤ᶻ◌}
+use Rattle.chart.specs.declared.Chart.{Chart}
+use Rattle.model.specs.Order.{Row}
 use Rattle.model.specs.RowSteps.{instants_to}
-use Rattle.closing.specs.Added.{Settled}
+use Rattle.closing.specs.Added.{Settled, pending_from, events_at}
 use Rattle.closing.proofs.Entries.{Closing}
+use Rattle.closing.proofs.Instants.{left_instants}
 use Rattle.closing.proofs.due_rows.Given as goal
+
+-- what is left to append from the instant o on, to which k events belong
+abbrev pub left : Chart → List ℤ → ℤ → ℤ → ℕ → ℕ → List ℕ → ℕ → List ℤ → List Row
+left chart since o x first k codes n t = left_instants chart since o x (events_at o (pending_from first k) codes) n t
 
 abbrev pub invariant-loop-chart : goal.invariant-loop-chart
 invariant-loop-chart l =

@@ -64,42 +64,42 @@ nearest_fits : (c : In-Nearest-2) → let e = c.args.e in SFits w32 (pos e.a) ×
 nearest_fits c = both_fit c.before.before (lower c.before _ c.in-Nearest.is)
 
 pub overflow_cast-a : goal.overflow_cast-a
-overflow_cast-a c = (or_fits c.before).0
+overflow_cast-a c = (or_fits (goal.at.overflow_cast-a c).In-Or).0
 
 pub overflow_cast-b : goal.overflow_cast-b
-overflow_cast-b c = (or_fits c.before).1
+overflow_cast-b c = (or_fits (goal.at.overflow_cast-b c).In-Or).1
 
 pub overflow_cast-a-in-Pair : goal.overflow_cast-a-in-Pair
-overflow_cast-a-in-Pair c = (pair_fits c.before.before).0
+overflow_cast-a-in-Pair c = (pair_fits (goal.at.overflow_cast-a-in-Pair c).In-Pair-2).0
 
 pub overflow_cast-b-in-Pair : goal.overflow_cast-b-in-Pair
-overflow_cast-b-in-Pair c = (pair_fits c.before.before).1
+overflow_cast-b-in-Pair c = (pair_fits (goal.at.overflow_cast-b-in-Pair c).In-Pair-2).1
 
 pub overflow_cast-a-in-Absence : goal.overflow_cast-a-in-Absence
-overflow_cast-a-in-Absence c = (absence_fits c.before.before).0
+overflow_cast-a-in-Absence c = (absence_fits (goal.at.overflow_cast-a-in-Absence c).In-Absence-2).0
 
 pub overflow_cast-b-in-Absence : goal.overflow_cast-b-in-Absence
-overflow_cast-b-in-Absence c = (absence_fits c.before.before).1
+overflow_cast-b-in-Absence c = (absence_fits (goal.at.overflow_cast-b-in-Absence c).In-Absence-2).1
 
 pub overflow_cast-a-in-Length : goal.overflow_cast-a-in-Length
-overflow_cast-a-in-Length c = length_fits c.before.before
+overflow_cast-a-in-Length c = length_fits (goal.at.overflow_cast-a-in-Length c).In-Length-2
 
 pub overflow_cast-a-in-After : goal.overflow_cast-a-in-After
-overflow_cast-a-in-After c = after_fits c.before
+overflow_cast-a-in-After c = after_fits (goal.at.overflow_cast-a-in-After c).In-After
 
 -- what the rows of a delay ask and tell
 pub after_rows-requires : goal.after_rows-requires
 after_rows-requires c =
-    let y = c.before in
+    let y = (goal.at.after_rows-requires c).In-After in
     let s = y in
     let p = s.requires in
     simp (same32 _ s.ranges.next, same32 _ (after_fits y)) (p.0, p.3, p.4, is_le (pos 0) (pos s.args.e.a) (omega arith))
 
 pub overflow_cast-a-in-Nearest : goal.overflow_cast-a-in-Nearest
-overflow_cast-a-in-Nearest c = (nearest_fits c.before.before).0
+overflow_cast-a-in-Nearest c = (nearest_fits (goal.at.overflow_cast-a-in-Nearest c).In-Nearest-2).0
 
 pub overflow_cast-b-in-Nearest : goal.overflow_cast-b-in-Nearest
-overflow_cast-b-in-Nearest c = (nearest_fits c.before.before).1
+overflow_cast-b-in-Nearest c = (nearest_fits (goal.at.overflow_cast-b-in-Nearest c).In-Nearest-2).1
 
 -- the rows appended by each
 pub returns-in-Event : goal.returns-in-Event
@@ -112,7 +112,7 @@ returns-in-Event c =
 pub returns-in-Or : goal.returns-in-Or
 unfolding added_rows
 returns-in-Or c =
-    let y = c.before.before.before in
+    let y = (goal.at.returns-in-Or c).In-Or in
     let f = or_fits y in
     let k = y.before in
     simp (operator k _ y.in-Or.is, same32 _ (limit k)) (simp (same32, f.0, f.1) at c.or_rows.ensures, none k)
@@ -157,4 +157,4 @@ returns-in-Nearest c =
     simp (operator k _ y.in-Nearest.is, same32 _ (limit k)) (simp (same32, f.0, f.1) at c.nearest_rows.ensures, none k)
 
 pub returns-in-Unknown : goal.returns-in-Unknown
-returns-in-Unknown c = absurd (lower c.before _ c.in-Unknown.is)
+returns-in-Unknown c = absurd (lower (goal.at.returns-in-Unknown c).After-kind_of-kind _ c.in-Unknown.is)

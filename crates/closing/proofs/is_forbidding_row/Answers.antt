@@ -12,7 +12,7 @@ entry c = record { sfits = c.struct_told-1.given.0.1 }
 pub returns-then-s-b : goal.returns-then-s-b
 unfolding forbids
 returns-then-s-b c =
-    let y = c.before in
+    let y = (goal.at.returns-then-s-b c).After-struct_told-1 in
     let r = y in
     simp (simp r.row_at-s.ensures at (eq_z_no _ _ (entry y) r.ranges.b c.if-s-b.true))
 

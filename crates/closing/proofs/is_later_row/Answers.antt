@@ -25,7 +25,7 @@ starts c =
     simp (same32, r, q) at c.is_no_later.ensures
 
 pub returns-then-row-a : goal.returns-then-row-a
-returns-then-row-a c = let y = c.before in simp (eq_z_no _ _ (entry y) y.ranges.a c.if-row-a.true)
+returns-then-row-a c = let y = (goal.at.returns-then-row-a c).After-struct_told-1 in simp (eq_z_no _ _ (entry y) y.ranges.a c.if-row-a.true)
 
 pub returns-then-is_no_later : goal.returns-then-is_no_later
 returns-then-is_no_later c =
@@ -39,4 +39,4 @@ returns-then-is_no_later c =
     simp (is_a s.before.before.before, sym (starts s) ∙ y.if-is_no_later.true) (simp (same32, r, q) at c.is_before.ensures)
 
 pub returns-else-is_no_later : goal.returns-else-is_no_later
-returns-else-is_no_later c = let s = c.before in simp (is_a s.before.before.before, sym (starts s) ∙ c.if-is_no_later.false) c.if-is_no_later.false
+returns-else-is_no_later c = let s = (goal.at.returns-else-is_no_later c).After-is_no_later in simp (is_a s.before.before.before, sym (starts s) ∙ c.if-is_no_later.false) c.if-is_no_later.false

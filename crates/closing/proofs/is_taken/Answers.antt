@@ -15,10 +15,10 @@ is_a : (c : Else-row-a) → let g = c.args in eq_z g.row.entry g.a ≡ true
 is_a c = let y = c.before in eq_z_yes _ _ (entry y) y.ranges.a c.if-row-a.false
 
 pub returns-then-row-a : goal.returns-then-row-a
-returns-then-row-a c = let y = c.before in simp (eq_z_no _ _ (entry y) y.ranges.a c.if-row-a.true)
+returns-then-row-a c = let y = (goal.at.returns-then-row-a c).After-struct_told-1 in simp (eq_z_no _ _ (entry y) y.ranges.a c.if-row-a.true)
 
 pub returns-in-All : goal.returns-in-All
-returns-in-All c = simp (is_a c.before, c.in-All.is)
+returns-in-All c = simp (is_a (goal.at.returns-in-All c).Else-row-a, c.in-All.is)
 
 pub returns-in-Lasting : goal.returns-in-Lasting
 returns-in-Lasting c =

@@ -13,7 +13,7 @@ operand c = record { sfits = c.struct_told-2-1.given.0.1 }
 
 pub returns-then-row-w : goal.returns-then-row-w
 returns-then-row-w c =
-    let y = c.before in
+    let y = (goal.at.returns-then-row-w c).After-struct_told-2-1 in
     simp (simp y.row_at-row.ensures at (eq_z_no _ _ (entry y) (operand y) c.if-row-w.true))
 
 pub returns : goal.returns

@@ -12,7 +12,7 @@ operand : (c : After-struct_told-2-1) → SFits w32 c.args.w.operand
 operand c = record { sfits = c.struct_told-2-1.given.1.0.1 }
 
 pub returns-then-s-w : goal.returns-then-s-w
-returns-then-s-w c = simp (eq_z_no _ _ (entry c.before) (operand c.before) c.if-s-w.true)
+returns-then-s-w c = simp (eq_z_no _ _ (entry (goal.at.returns-then-s-w c).After-struct_told-2-1) (operand (goal.at.returns-then-s-w c).After-struct_told-2-1) c.if-s-w.true)
 
 pub returns : goal.returns
 returns c =

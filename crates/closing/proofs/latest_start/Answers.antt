@@ -70,7 +70,7 @@ loop-j-preserved-then-row-b c =
 
 pub loop-j-preserved : goal.loop-j-preserved
 loop-j-preserved c =
-    let d = c.before in
+    let d = (goal.at.loop-j-preserved c).After-struct_told-in-loop-j-1 in
     let l = (at d).loop in
     let g = (start d).args in
     (omega arith, omega arith, latest_on (b d) g.t.now g.i (to_z w32 l.latest) l.j (k d) false (omega arith) refl (of_b d false (eq_z_no _ _ (entry d) (start d).ranges.b c.if-row-b.false)) ∙ l.inv.2)

@@ -41,7 +41,7 @@ loop-i-preserved-then-row-b c =
 
 pub loop-i-preserved : goal.loop-i-preserved
 loop-i-preserved c =
-    let d = c.before in
+    let d = (goal.at.loop-i-preserved c).After-struct_told-in-loop-i-1 in
     let r = d in
     let l = r in
     let s = l in

@@ -25,10 +25,10 @@ pub reaching_from-requires : goal.reaching_from-requires
 reaching_from-requires c = let s = c in (omega arith, s.requires.0, s.requires.1, s.requires.2)
 
 pub returns-then-s-end : goal.returns-then-s-end
-returns-then-s-end c = by_ending c.before.before _ _ c.in-Before.is (lt-ltb _ _ c.if-s-end.true)
+returns-then-s-end c = by_ending (goal.at.returns-then-s-end c).After-next_of-s _ _ c.in-Before.is (lt-ltb _ _ c.if-s-end.true)
 
 pub returns-else-s-end : goal.returns-else-s-end
-returns-else-s-end c = by_ending c.before.before _ _ c.in-Before.is (le-ltb _ _ c.if-s-end.false)
+returns-else-s-end c = by_ending (goal.at.returns-else-s-end c).After-next_of-s _ _ c.in-Before.is (le-ltb _ _ c.if-s-end.false)
 
 pub returns-then-s-end-2 : goal.returns-then-s-end-2
 returns-then-s-end-2 c =
@@ -38,16 +38,16 @@ returns-then-s-end-2 c =
     simp (first k, same32 _ s.ranges.b) at c.reaching_from.ensures ∙ by_ending k _ _ y.in-Within.is (lt-ltb _ _ y.if-s-end-2.true)
 
 pub returns-else-s-end-2 : goal.returns-else-s-end-2
-returns-else-s-end-2 c = by_ending c.before.before _ _ c.in-Within.is (le-ltb _ _ c.if-s-end-2.false)
+returns-else-s-end-2 c = by_ending (goal.at.returns-else-s-end-2 c).After-next_of-s _ _ c.in-Within.is (le-ltb _ _ c.if-s-end-2.false)
 
 pub returns-then-s-end-3 : goal.returns-then-s-end-3
-returns-then-s-end-3 c = by_ending c.before.before _ _ c.in-Together.is (lt-ltb _ _ c.if-s-end-3.true)
+returns-then-s-end-3 c = by_ending (goal.at.returns-then-s-end-3 c).After-next_of-s _ _ c.in-Together.is (lt-ltb _ _ c.if-s-end-3.true)
 
 pub returns-else-s-end-3 : goal.returns-else-s-end-3
-returns-else-s-end-3 c = by_ending c.before.before _ _ c.in-Together.is (le-ltb _ _ c.if-s-end-3.false)
+returns-else-s-end-3 c = by_ending (goal.at.returns-else-s-end-3 c).After-next_of-s _ _ c.in-Together.is (le-ltb _ _ c.if-s-end-3.false)
 
 pub returns-then-s-end-4 : goal.returns-then-s-end-4
-returns-then-s-end-4 c = by_ending c.before.before _ _ c.in-Either.is (lt-ltb _ _ c.if-s-end-4.true)
+returns-then-s-end-4 c = by_ending (goal.at.returns-then-s-end-4 c).After-next_of-s _ _ c.in-Either.is (lt-ltb _ _ c.if-s-end-4.true)
 
 pub returns-else-s-end-4 : goal.returns-else-s-end-4
-returns-else-s-end-4 c = by_ending c.before.before _ _ c.in-Either.is (le-ltb _ _ c.if-s-end-4.false)
+returns-else-s-end-4 c = by_ending (goal.at.returns-else-s-end-4 c).After-next_of-s _ _ c.in-Either.is (le-ltb _ _ c.if-s-end-4.false)

@@ -111,11 +111,11 @@ pub loop-s-preserved-else-is_wanted : goal.loop-s-preserved-else-is_wanted
 loop-s-preserved-else-is_wanted c =
     let y = c in
     let o = y.before in
-    skip _ (s o) (end o) (k o).loop.invariant (low o) (sym (paired o y.if-is_no_later.true) ∙ pair_other (entry o) (W o) (t o) (s o) (sym (wanted c.before) ∙ c.if-is_wanted.false))
+    skip _ (s o) (end o) (k o).loop.invariant (low o) (sym (paired o y.if-is_no_later.true) ∙ pair_other (entry o) (W o) (t o) (s o) (sym (wanted (goal.at.loop-s-preserved-else-is_wanted c).After-is_wanted) ∙ c.if-is_wanted.false))
 
 pub loop-s-preserved : goal.loop-s-preserved
 loop-s-preserved c =
-    let o = c.before in
+    let o = (goal.at.loop-s-preserved c).After-is_no_later in
     skip _ (s o) (end o) (k o).loop.invariant (low o) (late o c.if-is_no_later.false)
 
 pub shape_of-t : goal.shape_of-t

@@ -61,7 +61,7 @@ shape_of-t-then-to-rows c = refl
 
 pub returns-then-to-rows : goal.returns-then-to-rows
 returns-then-to-rows c =
-    let d = c.before.before in
+    let d = (goal.at.returns-then-to-rows c).After-between-rows in
     simp (whole d) at (over (rows d) (from d) (to d) (begin _ (start d).args.f.since _ _ (t₀ d) (start d).requires.0.fit) (omega (arith, c.if-to-rows.true, d.between-rows.ensures.0)))
 
 pub first_of-r-requires : goal.first_of-r-requires
@@ -79,7 +79,7 @@ loop-r-init c =
 
 pub nearest_with-count-requires : goal.nearest_with-count-requires
 nearest_with-count-requires c =
-    let i = c.before in
+    let i = (goal.at.nearest_with-count-requires c).In-loop-r in
     (appendable (start (d i)).pre.0 (l i).loop.invariant.1, omega (arith, low (d i), i.loop-r-test.true), low (d i))
 
 pub shape_of-t-then-room-count : goal.shape_of-t-then-room-count
@@ -95,7 +95,7 @@ returns-then-room-count c =
 
 pub first_of-r-requires-in-loop-r : goal.first_of-r-requires-in-loop-r
 first_of-r-requires-in-loop-r c =
-    let y = c.before in
+    let y = (goal.at.first_of-r-requires-in-loop-r c).After-t-1 in
     let i = y.before.before.before.before in
     (omega (arith, i.loop-r-test.true), omega (arith, low (d i), held (start (d i)), (turned y).size))
 
@@ -107,7 +107,7 @@ loop-r-smaller c =
 
 pub loop-r-preserved : goal.loop-r-preserved
 loop-r-preserved c =
-    let y = c.before.before in
+    let y = (goal.at.loop-r-preserved c).After-t-1 in
     let i = y.before.before.before.before in
     let b = d i in
     visit (A b) (rows b) ((l i).loop.r + 1) (to b) (turned y) (nearest_none (sought b) (entry b) (O b) (first b) (end b) (t₀ b)) (omega (arith, i.loop-r-test.true)) (inside b) c.first_of-r-in-loop-r.result c.first_of-r-in-loop-r.ensures

@@ -53,9 +53,9 @@ next c = simp (first c.before.before.before.before.before.before.before.before.b
 
 pub returns-then-n-first : goal.returns-then-n-first
 returns-then-n-first c =
-    let s = c.before.before.before in
+    let s = (goal.at.returns-then-n-first c).Start in
     let g = s.args in
-    simp (same32 _ s.ranges.limit) (first_long g.w.since g.last g.limit g.w.operand g.w.length g.n g.t.now s.requires.0 (before s) s.requires.3 (λ l. absurd (omega (arith, first c.before, c.if-n-first.true))))
+    simp (same32 _ s.ranges.limit) (first_long g.w.since g.last g.limit g.w.operand g.w.length g.n g.t.now s.requires.0 (before s) s.requires.3 (λ l. absurd (omega (arith, first (goal.at.returns-then-n-first c).After-count_ending-first, c.if-n-first.true))))
 
 pub due_of-due-requires : goal.due_of-due-requires
 due_of-due-requires c = omega (arith, c.if-n-first.false, c.requires.1)
@@ -65,7 +65,7 @@ is_waited-requires c = omega (arith, c.if-n-first.false, c.requires.1)
 
 pub returns-then-is_waited : goal.returns-then-is_waited
 returns-then-is_waited c =
-    let k = c.before.before in
+    let k = (goal.at.returns-then-is_waited c).After-due_of-due in
     let s = k.before.before.before.before in
     let g = s.args in
     let of = sym (simp (first k.before.before) at c.is_waited.ensures) ∙ c.if-is_waited.true in
@@ -74,7 +74,7 @@ returns-then-is_waited c =
 
 pub returns-then-is_same : goal.returns-then-is_same
 returns-then-is_same c =
-    let k = c.before.before.before.before in
+    let k = (goal.at.returns-then-is_same c).After-due_of-due in
     let s = k.before.before.before.before in
     let g = s.args in
     let fit : SFits w32 k.due_of-due.result = record { sfits = k.due_of-due.type-inv } in
@@ -85,21 +85,21 @@ pub next_waited-i-requires : goal.next_waited-i-requires
 next_waited-i-requires c =
     let s = start c in
     let g = s.args in
-    (simp (first c.before.before.before.before.before.before.before.before, end c) (few g.w.since g.last g.limit g.w.operand g.w.length g.n g.t.now s.pre.0 (before s) s.pre.3), omega (arith, s.pre.1, all_inside c))
+    (simp (first (goal.at.next_waited-i-requires c).After-count_ending-first, end c) (few g.w.since g.last g.limit g.w.operand g.w.length g.n g.t.now s.pre.0 (before s) s.pre.3), omega (arith, s.pre.1, all_inside c))
 
 pub returns-then-end-i : goal.returns-then-end-i
 returns-then-end-i c =
-    let k = c.before in
+    let k = (goal.at.returns-then-end-i c).After-next_waited-i in
     let s = start k.before in
     let g = s.args in
     simp (same32 _ s.fits.limit) (none_found g.w.since g.last g.limit g.w.operand g.w.length g.n g.t.now s.pre.0 (before s) s.pre.3 _ (next k) (simp (end k.before) at c.if-end-i.true))
 
 pub due_of-requires : goal.due_of-requires
-due_of-requires c = let k = c.before.before in omega (arith, c.if-end-i.false, all_inside k, (start k).requires.1)
+due_of-requires c = let k = (goal.at.due_of-requires c).After-count_ending-end in omega (arith, c.if-end-i.false, all_inside k, (start k).requires.1)
 
 pub returns : goal.returns
 returns c =
-    let k = c.before.before in
+    let k = (goal.at.returns c).After-next_waited-i in
     let s = start k.before in
     let g = s.args in
     let value = simp (same32 _ s.fits.limit) at c.due_of.ensures in

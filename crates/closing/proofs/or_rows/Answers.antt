@@ -28,11 +28,11 @@ returns-then-f-count c =
     full (begin g.f.room g.f.since g.n _ g.t.now s.requires.fit) (taken_rows left (nat_abs g.f.entry) g.f.instant g.a All g.f.first g.f.end g.t.now) (taken_rows right (nat_abs g.f.entry) g.f.instant g.b All g.f.first g.f.end g.t.now) _ _ refl (simp (same32, s.ranges.a) at d.taken_rows-count.ensures) c.if-f-count.true
 
 pub taken_rows-requires : goal.taken_rows-requires
-taken_rows-requires c = appendable c.requires (halfway c.before)
+taken_rows-requires c = appendable c.requires (halfway (goal.at.taken_rows-requires c).Else-f-count)
 
 pub returns : goal.returns
 returns c =
-    let y = c.before.before.before in
+    let y = (goal.at.returns c).Else-f-count in
     let d = y in
     let s = d in
     let g = s.args in

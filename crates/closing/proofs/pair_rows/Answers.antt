@@ -51,11 +51,11 @@ pub left_from-first-requires : goal.left_from-first-requires
 left_from-first-requires c = let s = c.before in (s.requires.few, held s, λ i j h k. s.requires.ordered i j h (omega (arith, s.requires.few)))
 
 pub next_of-r-requires : goal.next_of-r-requires
-next_of-r-requires c = (from_least c.before, held c.before.before.before)
+next_of-r-requires c = (from_least c, held (goal.at.next_of-r-requires c).Start)
 
 pub loop-r-init : goal.loop-r-init
 loop-r-init c =
-    let h = c.before.before in
+    let h = (goal.at.loop-r-init c).Start in
     let s = h in
     let g = s.args in
     visit _ _ _ g.f.end (begin _ _ _ _ _ s.requires.fit) (pairs_none g.c _ _ _ _ _ g.t.now) (from_least h) s.requires.inside _ c.next_of-r.ensures
@@ -81,7 +81,7 @@ returns-then-room-count c =
 
 pub next_of-r-requires-in-loop-r : goal.next_of-r-requires-in-loop-r
 next_of-r-requires-in-loop-r c =
-    let e = c.before in
+    let e = (goal.at.next_of-r-requires-in-loop-r c).After-t-1 in
     let l = e in
     (omega arith, omega (arith, held l.before.before.before.before.before, (turned e).size))
 
@@ -93,7 +93,7 @@ loop-r-smaller c =
 
 pub loop-r-preserved : goal.loop-r-preserved
 loop-r-preserved c =
-    let e = c.before.before in
+    let e = (goal.at.loop-r-preserved c).After-t-1 in
     let l = e in
     let s = l in
     let g = s.args in

@@ -14,7 +14,7 @@ instant : (c : After-struct_told-2-1) → SFits w32 c.args.f.instant
 instant c = record { sfits = c.struct_told-2-1.given.1.1.1.1.0.1 }
 
 pub returns-then-second : goal.returns-then-second
-returns-then-second c = simp (c.if-second.true, same32 _ (entry c.before.before), same32 _ (instant c.before), to_z_pos w32 c.args.i (omega arith))
+returns-then-second c = simp (c.if-second.true, same32 _ (entry (goal.at.returns-then-second c).After-struct_told-1), same32 _ (instant (goal.at.returns-then-second c).After-struct_told-2-1), to_z_pos w32 c.args.i (omega arith))
 
 pub returns : goal.returns
-returns c = simp (c.if-second.false, same32 _ (entry c.before.before), same32 _ (instant c.before), to_z_pos w32 c.args.i (omega arith))
+returns c = simp (c.if-second.false, same32 _ (entry (goal.at.returns c).After-struct_told-1), same32 _ (instant (goal.at.returns c).After-struct_told-2-1), to_z_pos w32 c.args.i (omega arith))

@@ -33,16 +33,16 @@ pub returns-then-is_of : goal.returns-then-is_of
 returns-then-is_of c = let l = c in simp (same32, l.ranges.a) at l.loop-r.invariant
 
 pub returns-then-is_of-2 : goal.returns-then-is_of-2
-returns-then-is_of-2 c = let e = c.before.before in simp (same32, e.ranges.a) at (one e)
+returns-then-is_of-2 c = let e = (goal.at.returns-then-is_of-2 c).Else-is_of in simp (same32, e.ranges.a) at (one e)
 
 pub returns-then-is_of-3 : goal.returns-then-is_of-3
-returns-then-is_of-3 c = let e = c.before.before in simp (same32, e.ranges.a) at (two e)
+returns-then-is_of-3 c = let e = (goal.at.returns-then-is_of-3 c).Else-is_of-2 in simp (same32, e.ranges.a) at (two e)
 
 pub returns-then-is_of-4 : goal.returns-then-is_of-4
-returns-then-is_of-4 c = let e = c.before.before in simp (same32, e.ranges.a) at (three e)
+returns-then-is_of-4 c = let e = (goal.at.returns-then-is_of-4 c).Else-is_of-3 in simp (same32, e.ranges.a) at (three e)
 
 pub loop-r-preserved : goal.loop-r-preserved
-loop-r-preserved c = passed_one _ _ _ _ _ _ (three c.before.before) (omega arith) (omega arith) (sym c.is_of-in-loop-r-3.ensures ∙ c.if-is_of-4.false)
+loop-r-preserved c = passed_one _ _ _ _ _ _ (three (goal.at.loop-r-preserved c).Else-is_of-3) (omega arith) (omega arith) (sym c.is_of-in-loop-r-3.ensures ∙ c.if-is_of-4.false)
 
 pub returns : goal.returns
 returns c = let l = c in simp (same32, l.ranges.a) at l.loop-r.invariant

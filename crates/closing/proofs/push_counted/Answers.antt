@@ -23,4 +23,4 @@ pub returns-then-is_no_later : goal.returns-then-is_no_later
 returns-then-is_no_later c = let p = c in let q = p.before.before.before in rw (sym (counts q) ∙ p.if-is_no_later.true) p.push_row.ensures
 
 pub returns : goal.returns
-returns c = rw (sym (counts c.before) ∙ c.if-is_no_later.false, fill_none) (refl, refl)
+returns c = rw (sym (counts (goal.at.returns c).After-is_no_later) ∙ c.if-is_no_later.false, fill_none) (refl, refl)

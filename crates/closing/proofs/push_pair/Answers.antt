@@ -11,7 +11,7 @@ row c = let r = c in let g = r.args in c.pair_of-row.ensures ∙ ap (λ x. pair_
 pub push_counted-requires : goal.push_counted-requires
 push_counted-requires c =
     let s = c in
-    (s.requires.0, simp (row c.before) s.requires.0.above)
+    (s.requires.0, simp (row (goal.at.push_counted-requires c).After-pair_of-row) s.requires.0.above)
 
 pub returns : goal.returns
 unfolding pair_row

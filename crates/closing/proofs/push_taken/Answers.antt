@@ -26,4 +26,4 @@ pub returns : goal.returns
 unfolding taken_row
 returns c =
     let g = c.args in
-    nothing _ g.f.since _ (taken_row (arm_of g.second) (nat_abs g.f.entry) g.f.instant g.a g.taken g.t.now g.i) _ (simp (tested c.before _ c.if-is_taken.false))
+    nothing _ g.f.since _ (taken_row (arm_of g.second) (nat_abs g.f.entry) g.f.instant g.a g.taken g.t.now g.i) _ (simp (tested (goal.at.returns c).After-is_taken _ c.if-is_taken.false))

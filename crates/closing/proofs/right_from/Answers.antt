@@ -10,16 +10,16 @@ by_ending : (c : After-ending_of-ending) (v : Ending) → c.Ending-of.result ≡
 by_ending c v h = let g = c.args in ap (λ x. right_by x g.first g.r) (sym h ∙ c.Ending-of.ensures)
 
 pub returns-in-Before : goal.returns-in-Before
-returns-in-Before c = by_ending c.before _ c.in-Before.is
+returns-in-Before c = by_ending (goal.at.returns-in-Before c).After-ending_of-ending _ c.in-Before.is
 
 pub returns-in-Within : goal.returns-in-Within
-returns-in-Within c = by_ending c.before _ c.in-Within.is
+returns-in-Within c = by_ending (goal.at.returns-in-Within c).After-ending_of-ending _ c.in-Within.is
 
 pub returns-in-Together : goal.returns-in-Together
-returns-in-Together c = by_ending c.before _ c.in-Together.is
+returns-in-Together c = by_ending (goal.at.returns-in-Together c).After-ending_of-ending _ c.in-Together.is
 
 pub returns-then-first-r : goal.returns-then-first-r
-returns-then-first-r c = simp (le-leb _ _ c.if-first-r.true) at (by_ending c.before.before _ c.in-Either.is)
+returns-then-first-r c = simp (le-leb _ _ c.if-first-r.true) at (by_ending (goal.at.returns-then-first-r c).After-ending_of-ending _ c.in-Either.is)
 
 pub returns-else-first-r : goal.returns-else-first-r
-returns-else-first-r c = simp (lt-leb _ _ c.if-first-r.false) at (by_ending c.before.before _ c.in-Either.is)
+returns-else-first-r c = simp (lt-leb _ _ c.if-first-r.false) at (by_ending (goal.at.returns-else-first-r c).After-ending_of-ending _ c.in-Either.is)

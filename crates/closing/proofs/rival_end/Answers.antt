@@ -32,7 +32,7 @@ returns-then-is_later_row c =
     simp (same32, s.ranges.a, s.ranges.x) at (same32 _ end ∙ ap (λ q. q.end) r.row_at-row.ensures ∙ rival_here (to_z w32 (of_z w32 g.a)) g.r g.t.now (to_z w32 (of_z w32 g.x)) l.loop-j.j g.e (omega arith) (sym (tested d) ∙ y.if-is_later_row.true) ∙ l.loop-j.invariant)
 
 pub loop-j-preserved : goal.loop-j-preserved
-loop-j-preserved c = rival_on _ _ _ _ _ _ (omega arith) (sym (tested c.before) ∙ c.if-is_later_row.false) ∙ c.loop-j.invariant
+loop-j-preserved c = rival_on _ _ _ _ _ _ (omega arith) (sym (tested (goal.at.loop-j-preserved c).After-is_later_row) ∙ c.if-is_later_row.false) ∙ c.loop-j.invariant
 
 pub returns : goal.returns
 returns c =

@@ -36,22 +36,22 @@ pub is_of-requires-in-loop-j : goal.is_of-requires-in-loop-j
 is_of-requires-in-loop-j c = omega (arith, c.loop-j.invariant.most)
 
 pub returns-then-is_of-2 : goal.returns-then-is_of-2
-returns-then-is_of-2 c = let e = c.before.before in simp (same32, e.ranges.b) at (one e)
+returns-then-is_of-2 c = let e = (goal.at.returns-then-is_of-2 c).Else-is_of in simp (same32, e.ranges.b) at (one e)
 
 pub is_of-requires-in-loop-j-2 : goal.is_of-requires-in-loop-j-2
 is_of-requires-in-loop-j-2 c = omega (arith, c.loop-j.invariant.most)
 
 pub returns-then-is_of-3 : goal.returns-then-is_of-3
-returns-then-is_of-3 c = let e = c.before.before in simp (same32, e.ranges.b) at (two e)
+returns-then-is_of-3 c = let e = (goal.at.returns-then-is_of-3 c).Else-is_of-2 in simp (same32, e.ranges.b) at (two e)
 
 pub is_of-requires-in-loop-j-3 : goal.is_of-requires-in-loop-j-3
 is_of-requires-in-loop-j-3 c = omega (arith, c.loop-j.invariant.most)
 
 pub returns-then-is_of-4 : goal.returns-then-is_of-4
-returns-then-is_of-4 c = let e = c.before.before in simp (same32, e.ranges.b) at (three e)
+returns-then-is_of-4 c = let e = (goal.at.returns-then-is_of-4 c).Else-is_of-3 in simp (same32, e.ranges.b) at (three e)
 
 pub loop-j-preserved : goal.loop-j-preserved
-loop-j-preserved c = same_top _ _ _ _ _ (three c.before.before) (omega arith) (omega arith) (sym c.is_of-in-loop-j-3.ensures ∙ c.if-is_of-4.false)
+loop-j-preserved c = same_top _ _ _ _ _ (three (goal.at.loop-j-preserved c).Else-is_of-3) (omega arith) (omega arith) (sym c.is_of-in-loop-j-3.ensures ∙ c.if-is_of-4.false)
 
 pub returns : goal.returns
 returns c = let l = c in simp (same32, l.ranges.b) at l.loop-j.invariant

@@ -33,7 +33,7 @@ rising_end a o l = rw (drop-length l)
 
 -- the array is full; so there are as many instants as entries
 full : (c : Start) → length c.args.t1.since ≡ 32
-full c = simp length-map at c.well-formed.0.1.1.1.1.1.1.1.1.1.0.1.0.1
+full c = simp length-map at c.well_formed.0.1.1.1.1.1.1.1.1.1.0.1.0.1
 
 long : (c : Else-state-count) → length (entry_since c.args.t1) ≡ c.args.count
 long c = length-take-le _ c.args.t1.since (omega (arith, full c.before, c.if-state-count.false, c.requires)) ∙ c.if-state-count.false
@@ -59,12 +59,12 @@ loop-i-init c = (omega arith, rw (c.first_floor-last.ensures, same32 _ (instant_
 
 pub returns-then-not-is_no_later : goal.returns-then-not-is_no_later
 returns-then-not-is_no_later c =
-    let d = c.before in
+    let d = (goal.at.returns-then-not-is_no_later c).After-is_no_later in
     sym (counted d.before.before.before.before.before ∙ next d ∙ rw (not-true d.is_no_later.result c.if-not-is_no_later.true))
 
 pub loop-i-preserved : goal.loop-i-preserved
 loop-i-preserved c =
-    let d = c.before in
+    let d = (goal.at.loop-i-preserved c).After-is_no_later in
     (omega arith, sym (next d ∙ rw (not-false d.is_no_later.result c.if-not-is_no_later.false)))
 
 pub returns : goal.returns

@@ -17,15 +17,15 @@ floor_test c =
     sym (simp (same32, (instants l c.struct_told-2-1.given).floor) at c.is_instant-2.ensures)
 
 pub returns-then-not-is_instant : goal.returns-then-not-is_instant
-returns-then-not-is_instant c = simp (failed (open_test c.before) c.if-not-is_instant.true)
+returns-then-not-is_instant c = simp (failed (open_test (goal.at.returns-then-not-is_instant c).After-is_instant) c.if-not-is_instant.true)
 
 pub returns-then-is_instant : goal.returns-then-is_instant
 returns-then-is_instant c =
-    let e = c.before.before.before.before in
+    let e = (goal.at.returns-then-is_instant c).After-is_instant-2 in
     let d = e in
     let l = d.args.limits in
     let f = instants l c.struct_told-then-is_instant-2-1.given in
     simp (passed (open_test d.before) d.if-not-is_instant.false, floor_test e ∙ c.if-is_instant.true, c.is_no_later.ensures, same32, f.instant, f.floor)
 
 pub returns-else-is_instant : goal.returns-else-is_instant
-returns-else-is_instant c = let d = c in simp (passed (open_test d.before) d.if-not-is_instant.false, floor_test c.before ∙ c.if-is_instant.false, c.if-is_instant.false)
+returns-else-is_instant c = let d = c in simp (passed (open_test d.before) d.if-not-is_instant.false, floor_test (goal.at.returns-else-is_instant c).After-is_instant-2 ∙ c.if-is_instant.false, c.if-is_instant.false)

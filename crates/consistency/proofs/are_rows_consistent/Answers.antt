@@ -63,15 +63,15 @@ pub returns-then-z-lt0 : goal.returns-then-z-lt0
 returns-then-z-lt0 c =
     let l = c in
     let g = l.args in
-    sym (not_all g.t2.rows _ l.loop-i.i c.loop-i-test.true (row_negative g.t1 g.t2 g.t.now l.loop-i.i (rw (read c.before) at c.if-z-lt0.true)))
+    sym (not_all g.t2.rows _ l.loop-i.i c.loop-i-test.true (row_negative g.t1 g.t2 g.t.now l.loop-i.i (rw (read (goal.at.returns-then-z-lt0 c).After-struct_told-1) at c.if-z-lt0.true)))
 
 pub overflow_cast-n : goal.overflow_cast-n
 unfolding last_end
-overflow_cast-n c = let f = (numbers c.row_at-row.result c.struct_told-1.given).entry in simp (same32, f) (cast_up _ f (rw (sym (read c.before) ∙ same32 _ f) at (above c)))
+overflow_cast-n c = let f = (numbers c.row_at-row.result c.struct_told-1.given).entry in simp (same32, f) (cast_up _ f (rw (sym (read (goal.at.overflow_cast-n c).After-struct_told-1) ∙ same32 _ f) at (above c)))
 
 pub returns-then-count-n : goal.returns-then-count-n
 returns-then-count-n c =
-    let d = c.before.before in
+    let d = (goal.at.returns-then-count-n c).After-struct_told-1 in
     let l = d in
     let g = l.args in
     let here = d.loop-i-test.true in
@@ -87,11 +87,11 @@ bounds-state-n c = few c
 
 pub offset_bounds-chart-n : goal.offset_bounds-chart-n
 unfolding last_end
-offset_bounds-chart-n c = record { fits = omega (arith, few c.before) }
+offset_bounds-chart-n c = record { fits = omega (arith, few (goal.at.offset_bounds-chart-n c).Else-count-n) }
 
 pub bounds-chart-n : goal.bounds-chart-n
 unfolding last_end
-bounds-chart-n c = few c.before
+bounds-chart-n c = few (goal.at.bounds-chart-n c).Else-count-n
 
 pub is_row_of-requires : goal.is_row_of-requires
 is_row_of-requires c =
@@ -102,11 +102,11 @@ is_row_of-requires c =
 
 pub returns-then-not-is_row_of : goal.returns-then-not-is_row_of
 unfolding last_end
-returns-then-not-is_row_of c = let h = c in let l = h in sym (not_all l.args.t2.rows _ l.loop-i.i h.loop-i-test.true (failed (tested c.before) c.if-not-is_row_of.true))
+returns-then-not-is_row_of c = let h = c in let l = h in sym (not_all l.args.t2.rows _ l.loop-i.i h.loop-i-test.true (failed (tested (goal.at.returns-then-not-is_row_of c).After-is_row_of) c.if-not-is_row_of.true))
 
 pub overflow_add-i : goal.overflow_add-i
 unfolding last_end
-overflow_add-i c = let h = c.before.before.before.before.before.before.before.before.before in omega (arith, room h, h.well-formed.1.1.0.0)
+overflow_add-i c = let h = (goal.at.overflow_add-i c).In-loop-i in omega (arith, room h, h.well_formed.1.1.0.0)
 
 pub loop-i-preserved : goal.loop-i-preserved
 loop-i-preserved c =

@@ -54,7 +54,7 @@ are_zeros-requires c = (omega (arith, c.if-room-rows.false), room c)
 
 pub are_rows_consistent-requires : goal.are_rows_consistent-requires
 are_rows_consistent-requires c =
-    let e = c.before.before in
+    let e = (goal.at.are_rows_consistent-requires c).Else-room-rows in
     let d = e in
     let s = d in
     (s.requires, fits e, (entries_told _ s.args.state (passed d.is_watch_in_range.ensures d.if-not-is_watch_in_range.false)).0)
@@ -62,13 +62,13 @@ are_rows_consistent-requires c =
 pub returns-then-are_zeros : goal.returns-then-are_zeros
 unfolding are_consistent
 returns-then-are_zeros c =
-    let z = c.before.before in
+    let z = (goal.at.returns-then-are_zeros c).After-are_zeros in
     let d = z in
     simp (passed d.is_watch_in_range.ensures d.if-not-is_watch_in_range.false, le-leb _ _ (fits z.before), zeros z ∙ c.if-are_zeros.true, c.are_rows_consistent.ensures)
 
 pub returns-else-are_zeros : goal.returns-else-are_zeros
 unfolding are_consistent
 returns-else-are_zeros c =
-    let z = c.before in
+    let z = (goal.at.returns-else-are_zeros c).After-are_zeros in
     let d = z in
     simp (passed d.is_watch_in_range.ensures d.if-not-is_watch_in_range.false, le-leb _ _ (fits z.before), zeros z ∙ c.if-are_zeros.false, c.if-are_zeros.false)

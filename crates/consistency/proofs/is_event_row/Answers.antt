@@ -24,18 +24,18 @@ counted c = simp (same32, (row_fits c.before.before).left) at c.if-events-left.f
 
 pub returns-then-left-lt1 : goal.returns-then-left-lt1
 unfolding is_event_row
-returns-then-left-lt1 c = simp (not_least c.args.row.left (pos 1) (simp (same32, (row_fits c.before).left) at c.if-left-lt1.true))
+returns-then-left-lt1 c = simp (not_least c.args.row.left (pos 1) (simp (same32, (row_fits (goal.at.returns-then-left-lt1 c).After-struct_told-1).left) at c.if-left-lt1.true))
 
 pub overflow_cast-left : goal.overflow_cast-left
 overflow_cast-left c =
-    let f = row_fits c.before in
+    let f = row_fits (goal.at.overflow_cast-left c).After-struct_told-1 in
     let z = c.args.row.left in
     let h : le_z (pos 1) z ≡ true = positive c in
     simp (same32, f.left) (cast_up z f.left (omega (arith, signed)))
 
 pub returns-then-events-left : goal.returns-then-events-left
 unfolding is_event_row
-returns-then-events-left c = simp (positive c.before, lt-leb _ _ (simp (same32, (row_fits c.before.before).left) at c.if-events-left.true))
+returns-then-events-left c = simp (positive (goal.at.returns-then-events-left c).Else-left-lt1, lt-leb _ _ (simp (same32, (row_fits (goal.at.returns-then-events-left c).After-struct_told-1).left) at c.if-events-left.true))
 
 pub returns-then-has_no_right : goal.returns-then-has_no_right
 unfolding is_event_row
@@ -43,4 +43,4 @@ returns-then-has_no_right c = let e = c in let d = e.before in let f = numbers d
 
 pub returns-else-has_no_right : goal.returns-else-has_no_right
 unfolding is_event_row
-returns-else-has_no_right c = let d = c.before.before in simp (positive d.before, le-leb _ _ (counted d), sym c.has_no_right.ensures ∙ c.if-has_no_right.false, c.if-has_no_right.false)
+returns-else-has_no_right c = let d = (goal.at.returns-else-has_no_right c).Else-events-left in simp (positive d.before, le-leb _ _ (counted d), sym c.has_no_right.ensures ∙ c.if-has_no_right.false, c.if-has_no_right.false)

@@ -18,12 +18,12 @@ returns-then-i-left c = simp (← c.part_at-left.ensures, le-ltb _ _ c.if-i-left
 
 pub returns-then-i-right : goal.returns-then-i-right
 unfolding is_pair_row
-returns-then-i-right c = let d = c in simp (← d.part_at-left.ensures, right c.before, lt-ltb _ _ d.if-i-left.false, le-ltb _ _ c.if-i-right.true)
+returns-then-i-right c = let d = c in simp (← d.part_at-left.ensures, right (goal.at.returns-then-i-right c).After-part_at-right, lt-ltb _ _ d.if-i-left.false, le-ltb _ _ c.if-i-right.true)
 
 pub returns-then-spans_parts : goal.returns-then-spans_parts
 unfolding is_pair_row
 returns-then-spans_parts c =
-    let z = c.before.before in
+    let z = (goal.at.returns-then-spans_parts c).After-spans_parts in
     let e = z in
     let r = e in
     let d = r in
@@ -34,4 +34,4 @@ unfolding is_pair_row
 returns-else-spans_parts c =
     let e = c in
     let d = e in
-    simp (← d.part_at-left.ensures, right e.before, lt-ltb _ _ d.if-i-left.false, lt-ltb _ _ e.if-i-right.false, spans c.before ∙ c.if-spans_parts.false, c.if-spans_parts.false)
+    simp (← d.part_at-left.ensures, right e.before, lt-ltb _ _ d.if-i-left.false, lt-ltb _ _ e.if-i-right.false, spans (goal.at.returns-else-spans_parts c).After-spans_parts ∙ c.if-spans_parts.false, c.if-spans_parts.false)

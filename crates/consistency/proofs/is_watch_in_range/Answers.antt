@@ -10,7 +10,7 @@ instants c = simp c.Limits-of.ensures at c.are_instants_in_range.ensures
 
 pub returns-then-not-are_instants_in_range : goal.returns-then-not-are_instants_in_range
 unfolding is_watch_in_range
-returns-then-not-are_instants_in_range c = simp (failed (instants c.before) c.if-not-are_instants_in_range.true)
+returns-then-not-are_instants_in_range c = simp (failed (instants (goal.at.returns-then-not-are_instants_in_range c).After-are_instants_in_range) c.if-not-are_instants_in_range.true)
 
 pub returns-then-are_counts_in_range : goal.returns-then-are_counts_in_range
 unfolding is_watch_in_range

@@ -42,18 +42,18 @@ module _ (c : Else-not-is_no_later-2) where
 
 pub returns-then-not-is_no_later : goal.returns-then-not-is_no_later
 unfolding is_within
-returns-then-not-is_no_later c = simp (failed (at_floor c.before) c.if-not-is_no_later.true)
+returns-then-not-is_no_later c = simp (failed (at_floor (goal.at.returns-then-not-is_no_later c).After-is_no_later) c.if-not-is_no_later.true)
 
 pub returns-then-not-is_no_later-2 : goal.returns-then-not-is_no_later-2
 unfolding is_within
 returns-then-not-is_no_later-2 c =
     let d = c in
-    simp (passed (at_floor d.before) d.if-not-is_no_later.false, failed (at_since c.before) c.if-not-is_no_later-2.true)
+    simp (passed (at_floor d.before) d.if-not-is_no_later.false, failed (at_since (goal.at.returns-then-not-is_no_later-2 c).After-is_no_later-2) c.if-not-is_no_later-2.true)
 
 pub returns-then-is_before : goal.returns-then-is_before
 unfolding is_within
 returns-then-is_before c =
-    let e = c.before.before.before in
+    let e = (goal.at.returns-then-is_before c).After-is_before in
     let d = e.before.before in
     let f = facts (first d).before.before.before in
     simp (passed_floor d, passed_since d, at_open e ∙ c.if-is_before.true, c.is_no_later-then-is_before.ensures, same32, f.0.last, f.1.end)
@@ -61,5 +61,5 @@ returns-then-is_before c =
 pub returns-else-is_before : goal.returns-else-is_before
 unfolding is_within
 returns-else-is_before c =
-    let d = c.before.before.before in
-    simp (passed_floor d, passed_since d, at_open c.before ∙ c.if-is_before.false, c.if-is_before.false)
+    let d = (goal.at.returns-else-is_before c).Else-not-is_no_later-2 in
+    simp (passed_floor d, passed_since d, at_open (goal.at.returns-else-is_before c).After-is_before ∙ c.if-is_before.false, c.if-is_before.false)

@@ -32,23 +32,23 @@ told c = same32 _ (numbers c.row_at-part.result c.struct_told-2-1.given).entry �
 
 pub returns-then-left-lt0 : goal.returns-then-left-lt0
 unfolding part_at
-returns-then-left-lt0 c = simp (not_least c.args.row.left (pos 0) (simp (same32, (row_fits c.before).left) at c.if-left-lt0.true))
+returns-then-left-lt0 c = simp (not_least c.args.row.left (pos 0) (simp (same32, (row_fits (goal.at.returns-then-left-lt0 c).After-struct_told-1).left) at c.if-left-lt0.true))
 
 pub overflow_cast-j : goal.overflow_cast-j
 overflow_cast-j c =
-    let f = row_fits c.before in
+    let f = row_fits (goal.at.overflow_cast-j c).After-struct_told-1 in
     simp (same32, f.left) (cast_up _ f.left (above c))
 
 pub returns-then-i-j : goal.returns-then-i-j
 unfolding part_at
 returns-then-i-j c =
-    let d = c.before in
+    let d = (goal.at.returns-then-i-j c).Else-left-lt0 in
     let g = d.args in
     simp (above d, le-ltb (nat_abs g.row.left) g.i (simp (same32, (row_fits d.before).left) at c.if-i-j.true))
 
 pub overflow_cast-n : goal.overflow_cast-n
 overflow_cast-n c =
-    let d = c.before in
+    let d = (goal.at.overflow_cast-n c).After-row_at-part in
     let s = d in
     let f = (numbers d.row_at-part.result c.struct_told-2-1.given).entry in
     simp (same32, f) (cast_up _ f (rw (read d) (s.requires.above (nat_abs s.args.row.left) (lower d.before))))
@@ -56,13 +56,13 @@ overflow_cast-n c =
 pub returns-then-n-a : goal.returns-then-n-a
 unfolding part_at
 returns-then-n-a c =
-    let d = c.before in
+    let d = (goal.at.returns-then-n-a c).After-struct_told-2-1 in
     let e = d.before.before in
     simp (same32, (row_fits e.before.before).left, above e.before, lt-ltb _ _ (lower e), eq-eqb _ _ (ap nat_abs (sym (told d)) ∙ c.if-n-a.true))
 
 pub returns-else-n-a : goal.returns-else-n-a
 unfolding part_at
 returns-else-n-a c =
-    let d = c.before in
+    let d = (goal.at.returns-else-n-a c).After-struct_told-2-1 in
     let e = d.before.before in
     simp (above e.before, lt-ltb _ _ (lower e), ne_eqb _ _ (λ h. c.if-n-a.false (ap nat_abs (told d) ∙ h)))

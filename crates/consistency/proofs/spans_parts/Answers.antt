@@ -22,7 +22,7 @@ starts c =
 pub returns-then-is_same : goal.returns-then-is_same
 unfolding spans_parts
 returns-then-is_same c =
-    let e = c.before.before.before in
+    let e = (goal.at.returns-then-is_same c).After-is_same in
     let d = e in
     let g = d.args in
     let m : SFits w32 d.greatest_end-end.result = record { sfits = d.greatest_end-end.type-inv } in
@@ -34,4 +34,4 @@ returns-then-is_same c =
 
 pub returns-else-is_same : goal.returns-else-is_same
 unfolding spans_parts
-returns-else-is_same c = simp (starts c.before ∙ c.if-is_same.false, c.if-is_same.false)
+returns-else-is_same c = simp (starts (goal.at.returns-else-is_same c).After-is_same ∙ c.if-is_same.false, c.if-is_same.false)

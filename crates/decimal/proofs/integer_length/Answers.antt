@@ -17,14 +17,14 @@ digits c = c.digit_count-digits.ensures ∙ simp (same32, c.ranges.x) at (ap (λ
 pub returns-then-x-ge0 : goal.returns-then-x-ge0
 returns-then-x-ge0 c =
     let f = c.ranges.x in
-    digits c.before ∙ sym (ap length (signed_plain spelled_number _ (simp (same32, f) at c.if-x-ge0.true)))
+    digits (goal.at.returns-then-x-ge0 c).After-digit_count-digits ∙ sym (ap length (signed_plain spelled_number _ (simp (same32, f) at c.if-x-ge0.true)))
 
 pub overflow_add-result : goal.overflow_add-result
 overflow_add-result c =
     let s = c in
-    omega (arith, digits c.before, number_digits_most 9 (nat_abs s.args.x) (fits_below s.args.x s.ranges.x))
+    omega (arith, digits (goal.at.overflow_add-result c).After-digit_count-digits, number_digits_most 9 (nat_abs s.args.x) (fits_below s.args.x s.ranges.x))
 
 pub returns : goal.returns
 returns c =
     let s = c in
-    omega (arith, digits c.before, ap length (signed_minus spelled_number s.args.x (simp (same32, s.ranges.x) at c.if-x-ge0.false)))
+    omega (arith, digits (goal.at.returns c).After-digit_count-digits, ap length (signed_minus spelled_number s.args.x (simp (same32, s.ranges.x) at c.if-x-ge0.false)))

@@ -17,12 +17,12 @@ pub overflow_cast-result : goal.overflow_cast-result
 overflow_cast-result c = simp (same32, c.ranges.x) (widened _ c.ranges.x)
 
 pub overflow_sub-result : goal.overflow_sub-result
-overflow_sub-result c = let f = c.ranges.x in simp (same32, f, same64, widened c.args.x f, opposite) (wide_opposite c.before)
+overflow_sub-result c = let f = c.ranges.x in simp (same32, f, same64, widened c.args.x f, opposite) (wide_opposite (goal.at.overflow_sub-result c).Start)
 
 pub overflow_cast-result-then-x-lt0 : goal.overflow_cast-result-then-x-lt0
 overflow_cast-result-then-x-lt0 c = let x = c.args.x in
     let f = c.ranges.x in
-    simp (same32, f, same64, widened x f, opposite, wide_opposite c.before, opposite_abs)
+    simp (same32, f, same64, widened x f, opposite, wide_opposite (goal.at.overflow_cast-result-then-x-lt0 c).Start, opposite_abs)
     (opposite_sign x (simp (same32, f) at c.if-x-lt0.true), record { fits = omega (arith, fits_below x f) })
 
 pub overflow_cast-result-else-x-lt0 : goal.overflow_cast-result-else-x-lt0
@@ -31,4 +31,4 @@ overflow_cast-result-else-x-lt0 c = let x = c.args.x in
     simp (same32, f) (cast_up x f (is_le (pos 0) x (lt_false x (pos 0) (simp (same32, f) at c.if-x-lt0.false))))
 
 pub returns-then-x-lt0 : goal.returns-then-x-lt0
-returns-then-x-lt0 c = let f = c.ranges.x in simp (same32, f, same64, widened c.args.x f, opposite, wide_opposite c.before, opposite_abs)
+returns-then-x-lt0 c = let f = c.ranges.x in simp (same32, f, same64, widened c.args.x f, opposite, wide_opposite (goal.at.returns-then-x-lt0 c).Start, opposite_abs)

@@ -22,7 +22,7 @@ overflow_sub-result-then-has_point c = omega (arith, long c)
 
 pub bounds-s-n : goal.bounds-s-n
 unfolding parts_of
-bounds-s-n c = omega (arith, long c.before)
+bounds-s-n c = omega (arith, long (goal.at.bounds-s-n c).Then-has_point)
 
 pub returns-then-has_point : goal.returns-then-has_point
 unfolding parts_of

@@ -13,11 +13,10 @@ use Rattle.decimal.specs.declared.Number.{Number}
 use Rattle.decimal.specs.Spelling.{is_digit, all_digits, value_from}
 use Rattle.decimal.proofs.Digits.{digit_below, below_digits, above_digits, in_digits}
 use Rattle.decimal.proofs.read_digits.Goals.{In-loop-i}
+use Rattle.decimal.proofs.read_digits.Invariants.{carried}
 use Rattle.decimal.proofs.read_digits.Goals as goal
 
 -- what digits after a value n give
-abbrev carried : ℕ → List ℕ → Number
-carried n s = cond (all_digits s) (Number.Value (value_from n s)) Number.Malformed
 
 module _ (s : List ℕ) (i n : ℕ) where
   stop : i < length s → is_digit (get_or s i 0) ≡ false → carried n (drop i s) ≡ Number.Malformed
@@ -55,10 +54,10 @@ returns-then-b-gt57 c =
     ∙ s.loop-i.invariant.2
 
 pub overflow_mul-value : goal.overflow_mul-value
-overflow_mul-value c = let h = nine_digits c.before.before.before in omega arith
+overflow_mul-value c = let h = nine_digits (goal.at.overflow_mul-value c).In-loop-i in omega arith
 
 pub overflow_add-value : goal.overflow_add-value
-overflow_add-value c = let h = nine_digits c.before.before.before.before in omega arith
+overflow_add-value c = let h = nine_digits (goal.at.overflow_add-value c).In-loop-i in omega arith
 
 pub loop-i-preserved : goal.loop-i-preserved
 loop-i-preserved c =

@@ -37,7 +37,7 @@ instant c =
     ∙ ap (λ r. cond (eqb g.sign_size-from.result 0) (without_minus r) (with_minus r)) (sym (read c))
 
 -- the number there
-below : (c : In-Value) → c.n-1.given.0.0 < 10 ^ 10
+below : (c : In-Value) → c.in-Value.v < 10 ^ 10
 below c = length_below _ _ (sym (read c.before) ∙ c.in-Value.is)
 
 within : (c : After-sign_size-from) → c.sign_size-from.result ≤ length c.args.s.now
@@ -56,17 +56,17 @@ pub slice_bounds-read_length-start : goal.slice_bounds-read_length-start
 slice_bounds-read_length-start c = within c
 
 pub returns-in_default : goal.returns-in_default
-returns-in_default c = neither (eqb c.sign_size-from.result 0) _ c.in_default.is ∙ sym (instant c.before)
+returns-in_default c = neither (eqb c.sign_size-from.result 0) _ c.in_default.is ∙ sym (instant (goal.at.returns-in_default c).After-read_length-n)
 
 pub overflow_cast-result : goal.overflow_cast-result
-overflow_cast-result c = record { sfits = omega (arith, below c.before) }
+overflow_cast-result c = record { sfits = omega (arith, below (goal.at.overflow_cast-result c).In-Value) }
 
 pub returns-then-from-eq0 : goal.returns-then-from-eq0
 unfolding without_minus
 returns-then-from-eq0 c =
-    let k = c.before in
+    let k = (goal.at.returns-then-from-eq0 c).In-Value in
     let h = below k in
-    simp (to_z_pos w64 k.n-1.given.0.0 (omega arith))
+    simp (to_z_pos w64 k.in-Value.v (omega arith))
     (sym (instant k.before ∙ rw (eq-eqb _ _ c.if-from-eq0.true) (ap without_minus k.in-Value.is)))
 
 pub returns-then-v-eq0 : goal.returns-then-v-eq0
@@ -76,18 +76,18 @@ returns-then-v-eq0 c =
     sym (instant k.before ∙ rw (ne_eqb _ _ c.if-from-eq0.false) (ap with_minus k.in-Value.is ∙ simp (eq-eqb _ _ c.if-v-eq0.true)))
 
 pub overflow_cast-result-2 : goal.overflow_cast-result-2
-overflow_cast-result-2 c = record { sfits = omega (arith, below c.before.before) }
+overflow_cast-result-2 c = record { sfits = omega (arith, below (goal.at.overflow_cast-result-2 c).In-Value) }
 
 pub overflow_sub-result : goal.overflow_sub-result
-overflow_sub-result c = let h = below c.before.before in
-    let v = c.n-1.given.0.0 in
+overflow_sub-result c = let h = below (goal.at.overflow_sub-result c).In-Value in
+    let v = c.in-Value.v in
     simp (to_z_pos w64 v (omega arith), opposite) (opposite_fits (pos v) (omega arith))
 
 pub returns : goal.returns
 unfolding with_minus
 returns c =
-    let k = c.before.before in
-    let v = k.n-1.given.0.0 in
+    let k = (goal.at.returns c).In-Value in
+    let v = k.in-Value.v in
     let h = below k in
     let f = opposite_fits (pos v) (omega arith) in
     simp (to_z_pos w64 v (omega arith), opposite, same64, f)

@@ -23,8 +23,8 @@ written c =
     part_written (spelled_instant s.args.x) s.args.out.now s.args.at (omega (arith, few s, s.requires)) (simp (same32, s.ranges.x) at c.write_instant-n.ensures)
 
 pub overflow_add-result : goal.overflow_add-result
-overflow_add-result c = let s = c.before.before.before.before.before in
-    omega (arith, (written c.before.before).0, few s, s.requires, s.well-formed.1.0)
+overflow_add-result c = let s = (goal.at.overflow_add-result c).Start in
+    omega (arith, (written (goal.at.overflow_add-result c).After-write_instant-n).0, few s, s.requires, s.well_formed.1.0)
 
 pub returns : goal.returns
-returns c = let w = written c.before.before in (omega (arith, w.0), w.1, omega (arith, w.0, few c.before.before.before.before.before))
+returns c = let w = written (goal.at.returns c).After-write_instant-n in (omega (arith, w.0), w.1, omega (arith, w.0, few (goal.at.returns c).Start))

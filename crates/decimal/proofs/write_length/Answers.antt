@@ -49,13 +49,13 @@ pub bounds-out-n : goal.bounds-out-n
 bounds-out-n c = omega (arith, room c, kept c)
 
 pub overflow_add-out-2 : goal.overflow_add-out-2
-overflow_add-out-2 c = omega (arith, room c, c.well-formed.1.0)
+overflow_add-out-2 c = omega (arith, room c, c.well_formed.1.0)
 
 pub bounds-out-n-2 : goal.bounds-out-n-2
 bounds-out-n-2 c = simp length-set (omega (arith, room c, kept c))
 
 pub overflow_add-result : goal.overflow_add-result
-overflow_add-result c = omega (arith, room c, c.well-formed.1.0)
+overflow_add-result c = omega (arith, room c, c.well_formed.1.0)
 
 pub returns : goal.returns
 unfolding spelled_length

@@ -18,7 +18,7 @@ written c =
 
 pub overflow_add-result : goal.overflow_add-result
 overflow_add-result c = let s = c in
-    omega (arith, (written c.before.before).0, s.requires, s.well-formed.1.0)
+    omega (arith, (written (goal.at.overflow_add-result c).After-write_number-n).0, s.requires, s.well_formed.1.0)
 
 pub returns : goal.returns
-returns c = let w = written c.before.before in (omega (arith, w.0), w.1)
+returns c = let w = written (goal.at.returns c).After-write_number-n in (omega (arith, w.0), w.1)

@@ -25,10 +25,10 @@ minus c =
     ∙ sym (signed_minus (spelled_in s.args.point) _ (simp (same32, s.ranges.z) at c.if-z-ge0.false))
 
 pub returns-then-z-ge0 : goal.returns-then-z-ge0
-returns-then-z-ge0 c = rw (← plain c.before.before.before.before) c.write_unsigned.ensures
+returns-then-z-ge0 c = rw (← plain (goal.at.returns-then-z-ge0 c).Then-z-ge0) c.write_unsigned.ensures
 
 pub returns-then-out-eq0 : goal.returns-then-out-eq0
-returns-then-out-eq0 c = rw (← minus c.before) (written_none (45 ∷ spelled_in _ _) _ (omega arith))
+returns-then-out-eq0 c = rw (← minus (goal.at.returns-then-out-eq0 c).Else-z-ge0) (written_none (45 ∷ spelled_in _ _) _ (omega arith))
 
 pub returns-then-n-eq0 : goal.returns-then-n-eq0
 returns-then-n-eq0 c = let d = c in rw (← minus d.before.before.before) (minus_none _ _ d.write_unsigned-n.ensures (in_nonempty _ _) c.if-n-eq0.true)

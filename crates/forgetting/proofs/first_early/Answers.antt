@@ -24,7 +24,7 @@ pub is_early-requires : goal.is_early-requires
 is_early-requires c = (omega arith, omega arith)
 
 pub returns-then-is_early : goal.returns-then-is_early
-returns-then-is_early c = (omega arith, passed c.before.before.before)
+returns-then-is_early c = (omega arith, passed (goal.at.returns-then-is_early c).At-loop-i)
 
 pub loop-i-preserved : goal.loop-i-preserved
 loop-i-preserved c =
@@ -37,4 +37,4 @@ loop-i-preserved c =
     (omega arith, below_more _ _ l.loop-i.invariant.1 late)
 
 pub returns : goal.returns
-returns c = (omega arith, passed c.before)
+returns c = (omega arith, passed (goal.at.returns c).At-loop-i)

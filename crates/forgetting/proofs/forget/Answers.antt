@@ -11,7 +11,7 @@ asks : (c : After-arities_of-arities) → RowsReady (event_in c.arities_of-ariti
 asks c = ready_rows _ c.args.state _ c.args.floor c.requires _ c.arities_of-arities.ensures
 
 pub first_early-first-requires : goal.first_early-first-requires
-first_early-first-requires c = let a = asks c.before in (a.few, a.fit)
+first_early-first-requires c = let a = asks c in (a.few, a.fit)
 
 pub keep_rows-kept-requires : goal.keep_rows-kept-requires
 keep_rows-kept-requires c =
@@ -19,7 +19,7 @@ keep_rows-kept-requires c =
     (asks f.before.before, f.first_early-first.ensures.0, f.first_early-first.ensures.1)
 
 pub overflow_mul-rows : goal.overflow_mul-rows
-overflow_mul-rows c = omega (arith, (asks c.before.before.before.before.before.before.before.before.before).few)
+overflow_mul-rows c = omega (arith, (asks (goal.at.overflow_mul-rows c).After-arities_of-arities).few)
 
 pub zero_part-requires : goal.zero_part-requires
 zero_part-requires c =

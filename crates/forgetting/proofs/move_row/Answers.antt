@@ -49,7 +49,7 @@ fit_right : (c : After-struct_told-2-1) → SFits w32 c.row_at-row.result.right
 fit_right c = record { sfits = c.struct_told-2-1.given.1.1.0.1 }
 
 pub shift_at-requires : goal.shift_at-requires
-shift_at-requires c = here c.before.before.before
+shift_at-requires c = here (goal.at.shift_at-requires c).Start
 
 pub overflow_mul-row : goal.overflow_mul-row
 overflow_mul-row c = omega (arith, fits c)
@@ -61,11 +61,11 @@ pub overflow_cast-row : goal.overflow_cast-row
 overflow_cast-row c = omega (arith, fits c)
 
 pub put_row-requires : goal.put_row-requires
-put_row-requires c = room c.before.before
+put_row-requires c = room (goal.at.put_row-requires c).After-shift_at
 
 pub returns-then-event : goal.returns-then-event
 returns-then-event c =
-    let a = c.before.before.before.before in
+    let a = (goal.at.returns-then-event c).After-shift_at in
     let g = (s a).args in
     c.put_row.ensures ∙ ap (λ r. put_row g.p r g.table.now) (moved_event g.event g.i g.p g.entry g.table.now _ a.row_at-row.ensures _ (marked a) c.if-event.true)
 
@@ -77,11 +77,11 @@ place_of-requires c =
 
 pub place_of-requires-2 : goal.place_of-requires-2
 place_of-requires-2 c =
-    let a = c.before.before.before.before.before.before in
+    let a = (goal.at.place_of-requires-2 c).Start in
     there (s a) _ _ (fit_right c) (ap (λ (r : Row). r.right) a.row_at-row.ensures) (s a).requires.right
 
 pub put_row-requires-2 : goal.put_row-requires-2
-put_row-requires-2 c = room c.before.before.before.before.before.before.before.before
+put_row-requires-2 c = room (goal.at.put_row-requires-2 c).After-shift_at
 
 pub returns : goal.returns
 returns c =

@@ -38,13 +38,13 @@ pub shift_at-shift-requires : goal.shift_at-shift-requires
 shift_at-shift-requires c = rw (same32 _ c.ranges.z) (mark c)
 
 pub overflow_sub-result : goal.overflow_sub-result
-overflow_sub-result c = rw (same32 _ c.ranges.z) (omega (arith, told c, (mark c.before).lower))
+overflow_sub-result c = rw (same32 _ c.ranges.z) (omega (arith, told c, (mark (goal.at.overflow_sub-result c).Else-z-lt0).lower))
 
 pub overflow_cast-result : goal.overflow_cast-result
-overflow_cast-result c = rw (same32 _ c.ranges.z) (omega (arith, (mark c.before).entry.few))
+overflow_cast-result c = rw (same32 _ c.ranges.z) (omega (arith, (mark (goal.at.overflow_cast-result c).Else-z-lt0).entry.few))
 
 pub returns : goal.returns
 returns c =
     let s = c in
     let z = s.args.z in
-    rw (same32 _ s.ranges.z) (to_z_pos w32 (nat_abs z - c.shift_at-shift.result) (omega (arith, (mark c.before).entry.few)) ∙ ap (λ k. pos (nat_abs z - k)) (told c) ∙ renumber_some _ z (sign c.before))
+    rw (same32 _ s.ranges.z) (to_z_pos w32 (nat_abs z - c.shift_at-shift.result) (omega (arith, (mark (goal.at.returns c).Else-z-lt0).entry.few)) ∙ ap (λ k. pos (nat_abs z - k)) (told c) ∙ renumber_some _ z (sign (goal.at.returns c).Else-z-lt0))

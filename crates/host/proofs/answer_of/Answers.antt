@@ -8,7 +8,7 @@ use Rattle.host.proofs.answer_of.Goals as goal
 
 pub returns-in-Value : goal.returns-in-Value
 returns-in-Value c =
-    let fit : SFits w64 c.i-1.given.0.0 = record { sfits = c.known_told-1.given.0.1 } in
+    let fit : SFits w64 c.in-Value.z = record { sfits = c.in-Value.known_told-1-own.given.0.1 } in
     simp (same64 _ fit) (sym (ap tenths_of c.in-Value.is))
 
 pub returns-in-Malformed : goal.returns-in-Malformed

@@ -12,10 +12,10 @@ use Rattle.host.proofs.chronicle_read_length.Goals.{In-Value}
 use Rattle.host.proofs.chronicle_read_length.Goals as goal
 
 -- the length that was read
-value : (c : In-Value) → length_of c.args.bytes.now ≡ Number.Value c.n-1.given.0.0
+value : (c : In-Value) → length_of c.args.bytes.now ≡ Number.Value c.in-Value.v
 value c = sym c.read_length-n.ensures ∙ c.in-Value.is
 
-below : (c : In-Value) → c.n-1.given.0.0 < 10 ^ 10
+below : (c : In-Value) → c.in-Value.v < 10 ^ 10
 below c = length_below _ _ (value c)
 
 pub returns-in_default : goal.returns-in_default
@@ -26,6 +26,6 @@ overflow_cast-v c = record { sfits = omega (arith, below c) }
 
 pub returns : goal.returns
 returns c =
-    let v = c.n-1.given.0.0 in
-    let h = below c.before in
-    simp (to_z_pos w64 v (omega arith)) at c.answer_of-2.ensures ∙ ap tenths_of (sym (length_instant _ v (value c.before)))
+    let v = c.in-Value.v in
+    let h = below (goal.at.returns c).In-Value in
+    simp (to_z_pos w64 v (omega arith)) at c.answer_of-2.ensures ∙ ap tenths_of (sym (length_instant _ v (value (goal.at.returns c).In-Value)))

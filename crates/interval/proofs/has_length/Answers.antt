@@ -21,12 +21,12 @@ taken c = let f = c.ranges in simp (same32, f.start, f.end) at c.length_of-n.ens
 
 pub returns-in-Lasts : goal.returns-in-Lasts
 unfolding has_length
-returns-in-Lasts c = let s = c.before.before in simp (c.in-Lasts.is, taken c.before, eq_bits w64 _ _ (difference s) (limit s))
+returns-in-Lasts c = let s = (goal.at.returns-in-Lasts c).Start in simp (c.in-Lasts.is, taken (goal.at.returns-in-Lasts c).After-length_of-n, eq_bits w64 _ _ (difference s) (limit s))
 
 pub returns-in-AtMost : goal.returns-in-AtMost
 unfolding has_length
-returns-in-AtMost c = let s = c.before.before in simp (c.in-AtMost.is, taken c.before, same64 _ (difference s), to_z_pos w64 _ (limit s).sfits)
+returns-in-AtMost c = let s = (goal.at.returns-in-AtMost c).Start in simp (c.in-AtMost.is, taken (goal.at.returns-in-AtMost c).After-length_of-n, same64 _ (difference s), to_z_pos w64 _ (limit s).sfits)
 
 pub returns-in-AtLeast : goal.returns-in-AtLeast
 unfolding has_length
-returns-in-AtLeast c = let s = c.before.before in simp (c.in-AtLeast.is, taken c.before, same64 _ (difference s), to_z_pos w64 _ (limit s).sfits)
+returns-in-AtLeast c = let s = (goal.at.returns-in-AtLeast c).Start in simp (c.in-AtLeast.is, taken (goal.at.returns-in-AtLeast c).After-length_of-n, same64 _ (difference s), to_z_pos w64 _ (limit s).sfits)

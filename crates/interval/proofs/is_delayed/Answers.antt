@@ -32,10 +32,10 @@ within c =
     is_fit32 _ (omega (arith, lt_false (pos 2147483647) (whole d) l, add_fact s.args.part (pos s.args.d), fits32 _ s.ranges.part))
 
 pub returns-then-z-gt2147483647 : goal.returns-then-z-gt2147483647
-returns-then-z-gt2147483647 c = let d = c.before in simp (not_eq d.args.end (whole d) (λ e. omega (arith, eq_fact e, lt_true (pos 2147483647) (whole d) (above c), most32 _ d.ranges.end)))
+returns-then-z-gt2147483647 c = let d = (goal.at.returns-then-z-gt2147483647 c).After-delayed-z in simp (not_eq d.args.end (whole d) (λ e. omega (arith, eq_fact e, lt_true (pos 2147483647) (whole d) (above c), most32 _ d.ranges.end)))
 
 pub overflow_cast-result : goal.overflow_cast-result
-overflow_cast-result c = simp (sum c.before, same64 _ (wide c.before)) (within c)
+overflow_cast-result c = simp (sum (goal.at.overflow_cast-result c).After-delayed-z, same64 _ (wide (goal.at.overflow_cast-result c).After-delayed-z)) (within c)
 
 pub returns : goal.returns
-returns c = let d = c.before in simp (sum d, same64 _ (wide d), eq_bits w32 _ _ d.ranges.end (within c))
+returns c = let d = (goal.at.returns c).After-delayed-z in simp (sum d, same64 _ (wide d), eq_bits w32 _ _ d.ranges.end (within c))

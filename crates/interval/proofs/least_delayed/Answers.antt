@@ -41,10 +41,10 @@ pub overflow_cast-limit : goal.overflow_cast-limit
 overflow_cast-limit c = rw (same32 _ c.ranges.limit) (widened _ c.ranges.limit)
 
 pub overflow_cast-result : goal.overflow_cast-result
-overflow_cast-result c = simp (sum c.before, same64 _ (wide c.before)) (narrow c)
+overflow_cast-result c = simp (sum (goal.at.overflow_cast-result c).After-delayed-z, same64 _ (wide (goal.at.overflow_cast-result c).After-delayed-z)) (narrow c)
 
 pub returns-then-z-limit : goal.returns-then-z-limit
-returns-then-z-limit c = simp (sum c.before, same64 _ (wide c.before), same32 _ (narrow c), early c)
+returns-then-z-limit c = simp (sum (goal.at.returns-then-z-limit c).After-delayed-z, same64 _ (wide (goal.at.returns-then-z-limit c).After-delayed-z), same32 _ (narrow c), early c)
 
 pub returns-else-z-limit : goal.returns-else-z-limit
 returns-else-z-limit c = simp (same32 _ c.ranges.limit, late c)

@@ -8,7 +8,7 @@ use Rattle.log_line.proofs.read_event.Goals.{In-Value}
 use Rattle.log_line.proofs.read_event.Goals as goal
 
 -- the number that was read
-value : (c : In-Value) → number_of c.args.s.now ≡ Number.Value c.n-1.given.0.0
+value : (c : In-Value) → number_of c.args.s.now ≡ Number.Value c.in-Value.code
 value c = sym c.read_number-n.ensures ∙ c.in-Value.is
 
 pub returns-in_default : goal.returns-in_default
@@ -17,8 +17,8 @@ returns-in_default c = sym (ap event_call (sym c.read_number-n.ensures ∙ c.in_
 
 pub returns-then-code-gt255 : goal.returns-then-code-gt255
 unfolding event_call word_call
-returns-then-code-gt255 c = sym (ap event_call (value c.before) ∙ simp (lt-leb _ _ c.if-code-gt255.true))
+returns-then-code-gt255 c = sym (ap event_call (value (goal.at.returns-then-code-gt255 c).In-Value) ∙ simp (lt-leb _ _ c.if-code-gt255.true))
 
 pub returns : goal.returns
 unfolding event_call word_call
-returns c = sym (ap event_call (value c.before) ∙ simp (le-leb _ _ c.if-code-gt255.false))
+returns c = sym (ap event_call (value (goal.at.returns c).In-Value) ∙ simp (le-leb _ _ c.if-code-gt255.false))

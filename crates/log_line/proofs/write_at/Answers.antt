@@ -50,17 +50,17 @@ left_end c =
 
 pub returns-then-not-is_wide_instant : goal.returns-then-not-is_wide_instant
 returns-then-not-is_wide_instant c = let s = c in
-    let none = line_none (word_of s.args.word) s.args.t (known c.before ∙ not-true _ c.if-not-is_wide_instant.true) in
+    let none = line_none (word_of s.args.word) s.args.t (known (goal.at.returns-then-not-is_wide_instant c).After-is_wide_instant ∙ not-true _ c.if-not-is_wide_instant.true) in
     (sym (ap length none), sym (ap (sets s.args.out.now 0) none))
 
 pub overflow_cast-t : goal.overflow_cast-t
-overflow_cast-t c = let w = c.before.before in subst (SFits w32) (sym (same64 _ w.ranges.t)) (same w)
+overflow_cast-t c = let w = (goal.at.overflow_cast-t c).After-write_word-from in subst (SFits w32) (sym (same64 _ w.ranges.t)) (same w)
 
 pub shape_of-out : goal.shape_of-out
-shape_of-out c = simp length-set (left_end c.before.before).same
+shape_of-out c = simp length-set (left_end (goal.at.shape_of-out c).After-write_instant_at-end).same
 
 pub returns : goal.returns
-returns c = let e = c.before.before in
+returns c = let e = (goal.at.returns c).After-write_instant_at-end in
     let w = e in
     let s = w in
     let line = line_instant (word_of s.args.word) s.args.t (inside w.before.before) in

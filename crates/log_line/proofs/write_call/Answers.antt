@@ -18,7 +18,7 @@ returns-in-Event c =
     let h = w in
     let k = h in
     let e = k in
-    event_written e.args.out.now e.if-out-lt-LINE_SIZE.false _ _ _ _ h.known_told-1.given.0.1 k.in-Event.is w.write_event.ensures
+    event_written e.args.out.now e.if-out-lt-LINE_SIZE.false _ _ _ _ h.in-Event.known_told-1-own.given.0.1 k.in-Event.is w.write_event.ensures
 
 pub returns-in-Clock : goal.returns-in-Clock
 returns-in-Clock c =
@@ -26,7 +26,7 @@ returns-in-Clock c =
     let h = w in
     let k = h in
     let e = k in
-    let fit : SFits w64 k.call-in-Clock-1.given.0.0 = record { sfits = h.known_told-in-Clock-1.given.0.1 } in
+    let fit : SFits w64 k.in-Clock.t = record { sfits = h.in-Clock.known_told-in-Clock-1-own.given.0.1 } in
     at_written e.args.out.now e.if-out-lt-LINE_SIZE.false _ _ _ Word.Clock _ (clock_line _ _ k.in-Clock.is) (simp (same64 _ fit) at w.write_at.ensures)
 
 pub returns-in-Open : goal.returns-in-Open
@@ -35,7 +35,7 @@ returns-in-Open c =
     let h = w in
     let k = h in
     let e = k in
-    let fit : SFits w64 k.call-in-Open-1.given.0.0 = record { sfits = h.known_told-in-Open-1.given.0.1 } in
+    let fit : SFits w64 k.in-Open.o = record { sfits = h.in-Open.known_told-in-Open-1-own.given.0.1 } in
     at_written e.args.out.now e.if-out-lt-LINE_SIZE.false _ _ _ Word.Open _ (open_line _ _ k.in-Open.is) (simp (same64 _ fit) at w.write_at-in-Open.ensures)
 
 pub returns-in-Forget : goal.returns-in-Forget
@@ -44,7 +44,7 @@ returns-in-Forget c =
     let h = w in
     let k = h in
     let e = k in
-    let fit : SFits w64 k.call-in-Forget-1.given.0.0 = record { sfits = h.known_told-in-Forget-1.given.0.1 } in
+    let fit : SFits w64 k.in-Forget.f = record { sfits = h.in-Forget.known_told-in-Forget-1-own.given.0.1 } in
     at_written e.args.out.now e.if-out-lt-LINE_SIZE.false _ _ _ Word.Forget _ (forget_line _ _ k.in-Forget.is) (simp (same64 _ fit) at w.write_at-in-Forget.ensures)
 
 pub returns-in-Malformed : goal.returns-in-Malformed

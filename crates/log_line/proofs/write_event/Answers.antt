@@ -39,18 +39,18 @@ place c =
     omega (arith, c.write_number_at-end.ensures.0, w.write_bytes-from.ensures.0, few w.before.before.before.before)
 
 pub write_number_at-end-requires : goal.write_number_at-end-requires
-write_number_at-end-requires c = let w = c.before.before.before in
+write_number_at-end-requires c = let w = (goal.at.write_number_at-end-requires c).After-write_bytes-from in
     let s = w.before.before.before.before in
     omega (arith, w.write_bytes-from.ensures.0, (left_code w).same, few s, s.requires)
 
 pub bounds-out-end : goal.bounds-out-end
-bounds-out-end c = let e = c.before.before in let s = e in omega (arith, place e, (left_end e).same, s.requires)
+bounds-out-end c = let e = (goal.at.bounds-out-end c).After-write_number_at-end in let s = e in omega (arith, place e, (left_end e).same, s.requires)
 
 pub overflow_add-result : goal.overflow_add-result
-overflow_add-result c = record { fits = omega (arith, place c.before.before) }
+overflow_add-result c = record { fits = omega (arith, place (goal.at.overflow_add-result c).After-write_number_at-end) }
 
 pub shape_of-out : goal.shape_of-out
-shape_of-out c = simp length-set (left_end c.before.before).same
+shape_of-out c = simp length-set (left_end (goal.at.shape_of-out c).After-write_number_at-end).same
 
 pub returns : goal.returns
-returns c = let done = remaining_last (left_end c.before.before) refl refl in (omega (arith, done.0), done.1)
+returns c = let done = remaining_last (left_end (goal.at.returns c).After-write_number_at-end) refl refl in (omega (arith, done.0), done.1)

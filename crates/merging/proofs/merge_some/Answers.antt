@@ -57,17 +57,17 @@ returns-then-not-is_go c =
     simp (same64 _ s.ranges.instant) at (turning_stop _ _ _ _ _ _ _ _ _ _ l.loop-out.invariant o.loop-out-test.true _ (step o) (sym d.is_go.ensures ∙ not-true _ c.if-not-is_go.true) _ c.turned.ensures)
 
 pub write_line-place-requires : goal.write_line-place-requires
-write_line-place-requires c = let o = c.before.before.before in turning_room _ _ _ _ _ _ _ _ _ _ o.loop-out.invariant o.loop-out-test.true _ (step o)
+write_line-place-requires c = let o = (goal.at.write_line-place-requires c).After-one_step-st in turning_room _ _ _ _ _ _ _ _ _ _ o.loop-out.invariant o.loop-out-test.true _ (step o)
 
 pub overflow_add-i : goal.overflow_add-i
-overflow_add-i c = let e = c.before.before.before.before.before in record { fits = omega (arith, in_first e, e.well-formed.1.1.0) }
+overflow_add-i c = let e = (goal.at.overflow_add-i c).Else-not-is_go in record { fits = omega (arith, in_first e, e.well_formed.1.1.0) }
 
 pub overflow_add-j : goal.overflow_add-j
-overflow_add-j c = let e = c.before.before.before.before.before.before in record { fits = omega (arith, in_second e, e.well-formed.1.1.1.0) }
+overflow_add-j c = let e = (goal.at.overflow_add-j c).Else-not-is_go in record { fits = omega (arith, in_second e, e.well_formed.1.1.1.0) }
 
 pub loop-out-smaller : goal.loop-out-smaller
 loop-out-smaller c =
-    let e = c.before.before.before.before.before.before.before in
+    let e = (goal.at.loop-out-smaller c).Else-not-is_go in
     let o = e.before.before in
     turning_less _ _ _ _ _ _ _ _ _ _ o.loop-out.invariant o.loop-out-test.true _ (step o) (goes e)
 

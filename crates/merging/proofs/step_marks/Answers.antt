@@ -15,12 +15,12 @@ behind c = let f = c.ranges in sym (simp (same64 _ f.s, same64 _ f.t) at c.is_wi
 
 pub returns-then-is_wide_before : goal.returns-then-is_wide_before
 unfolding step_marks
-returns-then-is_wide_before c = let b = c.before.before in
+returns-then-is_wide_before c = let b = (goal.at.returns-then-is_wide_before c).After-is_wide_before in
     rw (before b ∙ c.if-is_wide_before.true) (simp (same64 _ b.ranges.s) at c.step_to.ensures)
 
 pub returns-then-is_wide_before-2 : goal.returns-then-is_wide_before-2
 unfolding step_marks
-returns-then-is_wide_before-2 c = let d = c.before.before in
+returns-then-is_wide_before-2 c = let d = (goal.at.returns-then-is_wide_before-2 c).After-is_wide_before-2 in
     let b = d.before.before in
     rw (before b ∙ d.if-is_wide_before.false, behind d ∙ c.if-is_wide_before-2.true) (simp (same64 _ b.ranges.t) at c.step_to-then-is_wide_before-2.ensures)
 

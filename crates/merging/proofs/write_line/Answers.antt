@@ -18,7 +18,7 @@ written c =
     line_written s.args.call s.args.out.now s.args.at s.requires c.write_call-n.auto.1.0 c.write_call-n.ensures
 
 pub overflow_add-result : goal.overflow_add-result
-overflow_add-result c = let s = c in record { fits = omega (arith, (written c.before.before).2, s.well-formed.1.0) }
+overflow_add-result c = let s = c in record { fits = omega (arith, (written (goal.at.overflow_add-result c).After-write_call-n).2, s.well_formed.1.0) }
 
 pub returns : goal.returns
-returns c = let w = written c.before.before in (omega (arith, w.0), w.1, w.2)
+returns c = let w = written (goal.at.returns c).After-write_call-n in (omega (arith, w.0), w.1, w.2)

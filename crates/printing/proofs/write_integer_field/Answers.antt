@@ -27,10 +27,10 @@ pub slice_bounds-write_integer-start : goal.slice_bounds-write_integer-start
 slice_bounds-write_integer-start c = simp length-set (omega arith)
 
 pub overflow_add-result : goal.overflow_add-result
-overflow_add-result c = let s = c in omega (arith, (written c.before.before).2, s.requires, s.well-formed.1.0)
+overflow_add-result c = let s = c in omega (arith, (written (goal.at.overflow_add-result c).After-write_integer-n).2, s.requires, s.well_formed.1.0)
 
 pub shape_of-out : goal.shape_of-out
-shape_of-out c = ap length (written c.before.before).1 ∙ simp length-sets
+shape_of-out c = ap length (written (goal.at.shape_of-out c).After-write_integer-n).1 ∙ simp length-sets
 
 pub returns : goal.returns
-returns c = written c.before.before
+returns c = written (goal.at.returns c).After-write_integer-n

@@ -21,13 +21,13 @@ pub write_number_field-end-requires : goal.write_number_field-end-requires
 write_number_field-end-requires c = let s = c in omega (arith, s.requires, length-append (9 ∷ spelled_number s.args.m) (10 ∷ []))
 
 pub bounds-out-end : goal.bounds-out-end
-bounds-out-end c = let l = c.before.before in let s = l in omega (arith, (left_end l).ends, (left_end l).same, s.requires)
+bounds-out-end c = let l = (goal.at.bounds-out-end c).After-write_number_field-end in let s = l in omega (arith, (left_end l).ends, (left_end l).same, s.requires)
 
 pub overflow_add-result : goal.overflow_add-result
-overflow_add-result c = let l = c.before.before in let s = l in omega (arith, (left_end l).ends, s.requires, s.well-formed.0)
+overflow_add-result c = let l = (goal.at.overflow_add-result c).After-write_number_field-end in let s = l in omega (arith, (left_end l).ends, s.requires, s.well_formed.0)
 
 pub shape_of-out : goal.shape_of-out
-shape_of-out c = simp length-set (left_end c.before.before).same
+shape_of-out c = simp length-set (left_end (goal.at.shape_of-out c).After-write_number_field-end).same
 
 pub returns : goal.returns
-returns c = remaining_last (left_end c.before.before) refl refl
+returns c = remaining_last (left_end (goal.at.returns c).After-write_number_field-end) refl refl

@@ -38,12 +38,12 @@ pub returns-then-out-lt-REFUSAL_SIZE : goal.returns-then-out-lt-REFUSAL_SIZE
 returns-then-out-lt-REFUSAL_SIZE c = none_where _ _ (refusal_short c.args.out.now c.if-out-lt-REFUSAL_SIZE.true)
 
 pub write_number_field-b-requires : goal.write_number_field-b-requires
-write_number_field-b-requires c = let w = c.before.before.before in
+write_number_field-b-requires c = let w = (goal.at.write_number_field-b-requires c).After-write_bytes-a in
     let e = w in
     omega (arith, w.write_bytes-a.ensures.0, (left_number w).same, few e.before.before, e.if-out-lt-REFUSAL_SIZE.false)
 
 pub write_last_field-requires : goal.write_last_field-requires
-write_last_field-requires c = let n = c.before.before.before in
+write_last_field-requires c = let n = (goal.at.write_last_field-requires c).After-write_number_field-b in
     let w = n in
     let e = w in
     omega (arith, w.write_bytes-a.ensures.0, n.write_number_field-b.ensures.0, (left_line n).same, few e.before.before, e.if-out-lt-REFUSAL_SIZE.false)

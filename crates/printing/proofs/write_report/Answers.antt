@@ -46,14 +46,14 @@ pub returns-then-out-tallies : goal.returns-then-out-tallies
 returns-then-out-tallies c = let g = c.args in none_where _ _ (report_short g.tallies.now g.out.now (omega (arith, c.if-out-tallies.true, c.if-out-lt-TOTAL_SIZE.false)))
 
 pub write_tallies-a-requires : goal.write_tallies-a-requires
-write_tallies-a-requires c = omega (arith, room c.before)
+write_tallies-a-requires c = omega (arith, room (goal.at.write_tallies-a-requires c).Else-out-tallies)
 
 pub write_bytes-b-requires : goal.write_bytes-b-requires
-write_bytes-b-requires c = let w = c.before.before.before.before in
+write_bytes-b-requires c = let w = (goal.at.write_bytes-b-requires c).After-write_tallies-a in
     omega (arith, w.write_tallies-a.ensures.2, (left_total w).same, room w.before.before)
 
 pub write_last_field-requires : goal.write_last_field-requires
-write_last_field-requires c = let b = c.before.before.before in
+write_last_field-requires c = let b = (goal.at.write_last_field-requires c).After-write_bytes-b in
     omega (arith, total_fits b, (left_number b).same)
 
 pub returns : goal.returns

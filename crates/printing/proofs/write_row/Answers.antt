@@ -107,31 +107,31 @@ pub write_number_at-number-requires : goal.write_number_at-number-requires
 write_number_at-number-requires c = let s = c in omega (arith, s.requires, wide_digits_most s.args.i s.ranges.i.fits)
 
 pub write_integer_field-entry-requires : goal.write_integer_field-entry-requires
-write_integer_field-entry-requires c = let n = c.before.before.before.before in room (at_number n) 20 12 (after_number n) (omega arith)
+write_integer_field-entry-requires c = let n = (goal.at.write_integer_field-entry-requires c).After-write_number_at-number in room (at_number n) 20 12 (after_number n) (omega arith)
 
 pub write_integer_field-left-requires : goal.write_integer_field-left-requires
-write_integer_field-left-requires c = let n = c.before.before.before.before in room (at_number (at_entry n)) 32 12 (after_entry n) (omega arith)
+write_integer_field-left-requires c = let n = (goal.at.write_integer_field-left-requires c).After-write_integer_field-entry in room (at_number (at_entry n)) 32 12 (after_entry n) (omega arith)
 
 pub write_integer_field-right-requires : goal.write_integer_field-right-requires
-write_integer_field-right-requires c = let n = c.before.before.before.before in room (at_number (at_entry (at_left n))) 44 12 (after_left n) (omega arith)
+write_integer_field-right-requires c = let n = (goal.at.write_integer_field-right-requires c).After-write_integer_field-left in room (at_number (at_entry (at_left n))) 44 12 (after_left n) (omega arith)
 
 pub write_instant_field-start-requires : goal.write_instant_field-start-requires
-write_instant_field-start-requires c = let n = c.before.before.before.before in room (at_number (at_entry (at_left (at_right n)))) 56 13 (after_right n) (omega arith)
+write_instant_field-start-requires c = let n = (goal.at.write_instant_field-start-requires c).After-write_integer_field-right in room (at_number (at_entry (at_left (at_right n)))) 56 13 (after_right n) (omega arith)
 
 pub write_instant_field-behind-requires : goal.write_instant_field-behind-requires
-write_instant_field-behind-requires c = let n = c.before.before.before.before in room (at_number (at_entry (at_left (at_right (at_start n))))) 69 13 (after_start n) (omega arith)
+write_instant_field-behind-requires c = let n = (goal.at.write_instant_field-behind-requires c).After-write_instant_field-start in room (at_number (at_entry (at_left (at_right (at_start n))))) 69 13 (after_start n) (omega arith)
 
 pub bounds-out-behind : goal.bounds-out-behind
-bounds-out-behind c = let n = c.before.before in omega (arith, room (at_number (at_entry (at_left (at_right (at_start (at_end n)))))) 82 1 (after_end n) (omega arith))
+bounds-out-behind c = let n = (goal.at.bounds-out-behind c).After-write_instant_field-behind in omega (arith, room (at_number (at_entry (at_left (at_right (at_start (at_end n)))))) 82 1 (after_end n) (omega arith))
 
 pub overflow_add-result : goal.overflow_add-result
-overflow_add-result c = let n = c.before.before in omega (arith, room (at_number (at_entry (at_left (at_right (at_start (at_end n)))))) 82 1 (after_end n) (omega arith), (after_end n).rest.same, (at_number (at_entry (at_left (at_right (at_start (at_end n)))))).well-formed.1.1.0)
+overflow_add-result c = let n = (goal.at.overflow_add-result c).After-write_instant_field-behind in omega (arith, room (at_number (at_entry (at_left (at_right (at_start (at_end n)))))) 82 1 (after_end n) (omega arith), (after_end n).rest.same, (at_number (at_entry (at_left (at_right (at_start (at_end n)))))).well-formed.1.1.0)
 
 pub shape_of-out : goal.shape_of-out
-shape_of-out c = let n = c.before.before in simp length-set (after_end n).rest.same
+shape_of-out c = let n = (goal.at.shape_of-out c).After-write_instant_field-behind in simp length-set (after_end n).rest.same
 
 pub returns : goal.returns
-returns c = let n = c.before.before in
+returns c = let n = (goal.at.returns c).After-write_instant_field-behind in
     let s = at_number (at_entry (at_left (at_right (at_start (at_end n))))) in
     let done = remaining_last (after_end n).rest refl refl in
     (done.0, done.1, omega (arith, (after_end n).few))

@@ -14,13 +14,13 @@ pub loop-e-init : goal.loop-e-init
 loop-e-init c = let g = c.args in (omega arith, omega arith, remaining_all g.out.now 0 (tally_texts 0 g.tallies.now))
 
 pub offset_bounds-tallies-e : goal.offset_bounds-tallies-e
-offset_bounds-tallies-e c = omega (arith, c.well-formed.0.1, c.loop-e-test.true)
+offset_bounds-tallies-e c = omega (arith, c.well_formed.0.1, c.loop-e-test.true)
 
 pub write_tally-place-requires : goal.write_tally-place-requires
 write_tally-place-requires c = let l = c in omega (arith, l.requires, l.loop-e.invariant.2.same, l.loop-e.invariant.1)
 
 pub overflow_add-e : goal.overflow_add-e
-overflow_add-e c = omega (arith, c.well-formed.0.0)
+overflow_add-e c = omega (arith, c.well_formed.0.0)
 
 pub loop-e-preserved : goal.loop-e-preserved
 loop-e-preserved c = let w = c in

@@ -25,10 +25,10 @@ left_rows c =
     remaining_less (remaining_all g.out.now g.at (spelled_number g.e ++ last_field g.n)) (spelled_number g.e) (last_field g.n) refl e.0 e.1
 
 pub write_number_at-behind-requires : goal.write_number_at-behind-requires
-write_number_at-behind-requires c = let s = c.before.before in omega (arith, few s, s.requires)
+write_number_at-behind-requires c = let s = (goal.at.write_number_at-behind-requires c).Start in omega (arith, few s, s.requires)
 
 pub write_last_field-requires : goal.write_last_field-requires
-write_last_field-requires c = let w = c.before.before.before in let s = w.before.before.before in omega (arith, few s, s.requires, w.write_number_at-behind.ensures.0, (left_rows w).same)
+write_last_field-requires c = let w = (goal.at.write_last_field-requires c).After-write_number_at-behind in let s = w.before.before.before in omega (arith, few s, s.requires, w.write_number_at-behind.ensures.0, (left_rows w).same)
 
 pub returns : goal.returns
 returns c = let l = c in

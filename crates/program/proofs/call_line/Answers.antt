@@ -17,7 +17,7 @@ returns-in-Clock c =
     let n = c in
     let h = n in
     let k = h in
-    let x : SFits w64 k.c-in-Clock-1.given.0.0 = record { sfits = h.known_told-in-Clock-1.given.0.1 } in
+    let x : SFits w64 k.in-Clock.x = record { sfits = h.in-Clock.known_told-in-Clock-1-own.given.0.1 } in
     let f : SFits w32 n.narrowed.result = record { sfits = n.narrowed.type-inv } in
     let is = same32 _ f ∙ simp (same64 _ x) at n.narrowed.ensures in
     let own = c.clock_unchecked.ensures in
@@ -28,7 +28,7 @@ returns-in-Forget c =
     let n = c in
     let h = n in
     let k = h in
-    let x : SFits w64 k.c-in-Forget-1.given.0.0 = record { sfits = h.known_told-in-Forget-1.given.0.1 } in
+    let x : SFits w64 k.in-Forget.f = record { sfits = h.in-Forget.known_told-in-Forget-1-own.given.0.1 } in
     let f : SFits w32 n.narrowed-in-Forget.result = record { sfits = n.narrowed-in-Forget.type-inv } in
     let is = same32 _ f ∙ simp (same64 _ x) at n.narrowed-in-Forget.ensures in
     let own = c.forget_unchecked.ensures in

@@ -22,7 +22,7 @@ loop-size-init c =
     (refl, c.line_size-size.ensures, read_none _ _ (subst (λ r. Reached (record { run = r; table = s.args.table.now })) (is_playing _ _ s.requires.1 s.requires.0) s.requires.0))
 
 pub overflow_add-end : goal.overflow_add-end
-overflow_add-end c = let l = c.before in omega (arith, next_inside _ _ _ _ _ l.loop-size.invariant.2 l.loop-size.invariant.1, (start_of l).well-formed.1.1.0)
+overflow_add-end c = let l = (goal.at.overflow_add-end c).At-loop-size in omega (arith, next_inside _ _ _ _ _ l.loop-size.invariant.2 l.loop-size.invariant.1, (start_of l).well-formed.1.1.0)
 
 pub overflow_sub-end : goal.overflow_sub-end
 overflow_sub-end c = omega (arith, c.loop-size-test.true)
@@ -38,7 +38,7 @@ call_line-a-requires c = let l = c in playing_consistent _ _ _ _ l.loop-size.inv
 
 pub overflow_add-line : goal.overflow_add-line
 overflow_add-line c =
-    let l = c.before.before.before.before.before.before in
+    let l = (goal.at.overflow_add-line c).At-loop-size in
     record { fits = line_room _ _ _ _ _ _ _ _ _ l.loop-size.invariant.2 (omega (arith, c.loop-size-test.true, next_inside _ _ _ _ _ l.loop-size.invariant.2 l.loop-size.invariant.1)) (start_of l).requires.2 }
 
 pub shape_of-table-then-refusal-ne0 : goal.shape_of-table-then-refusal-ne0
@@ -47,7 +47,7 @@ shape_of-table-then-refusal-ne0 c = let l = c in c.call_line-a.auto.1.1.0 ∙ l.
 pub returns-then-refusal-ne0 : goal.returns-then-refusal-ne0
 returns-then-refusal-ne0 c =
     let k = c.call_line-a in
-    let l = c.before.before.before.before.before.before.before in
+    let l = (goal.at.returns-then-refusal-ne0 c).At-loop-size in
     let s = start_of l in
     let some = c.loop-size-test.true in
     let h = l.loop-size.invariant.2 in
@@ -58,11 +58,11 @@ returns-then-refusal-ne0 c =
 
 pub overflow_add-line-in-loop-size : goal.overflow_add-line-in-loop-size
 overflow_add-line-in-loop-size c =
-    let l = c.before.before.before.before.before.before.before.before.before.before.before in
+    let l = (goal.at.overflow_add-line-in-loop-size c).At-loop-size in
     record { fits = line_room _ _ _ _ _ _ _ _ _ l.loop-size.invariant.2 (omega (arith, c.loop-size-test.true, next_inside _ _ _ _ _ l.loop-size.invariant.2 l.loop-size.invariant.1)) (start_of l).requires.2 }
 
 pub overflow_add-at : goal.overflow_add-at
-overflow_add-at c = let l = c.before.before.before.before.before.before.before.before.before.before.before in omega (arith, next_inside _ _ _ _ _ l.loop-size.invariant.2 l.loop-size.invariant.1, (start_of l).well-formed.1.1.0)
+overflow_add-at c = let l = (goal.at.overflow_add-at c).At-loop-size in omega (arith, next_inside _ _ _ _ _ l.loop-size.invariant.2 l.loop-size.invariant.1, (start_of l).well-formed.1.1.0)
 
 pub slice_bounds-line_size-count : goal.slice_bounds-line_size-count
 slice_bounds-line_size-count c = let l = c in next_inside _ _ _ _ _ l.loop-size.invariant.2 l.loop-size.invariant.1
@@ -89,7 +89,7 @@ shape_of-table c = c.loop-size.invariant.0
 
 pub returns : goal.returns
 returns c =
-    let l = c.before.before in
+    let l = (goal.at.returns c).At-loop-size in
     let s = start_of l in
     let t = l.loop-size.table in
     let r = subst (λ y. Read (playing s.args.run.chart s.args.run.watch s.args.run.line s.args.table.now) (record { run = y; table = t }) l.loop-size.at s.args.s.now) (sym c.calls_run.ensures) l.loop-size.invariant.2 in

@@ -21,7 +21,7 @@ returns-then-not-is_early c =
     (l.loop-size.invariant.2, λ z. never (sym e ∙ z))
 
 pub overflow_add-end : goal.overflow_add-end
-overflow_add-end c = let l = c in omega (arith, next_inside _ _ _ _ _ l.loop-size.invariant.2 l.loop-size.invariant.1, l.well-formed.1.1.0)
+overflow_add-end c = let l = c in omega (arith, next_inside _ _ _ _ _ l.loop-size.invariant.2 l.loop-size.invariant.1, l.well_formed.1.1.0)
 
 pub overflow_sub-end : goal.overflow_sub-end
 overflow_sub-end c = let l = c in omega (arith, c.loop-size-test.true)
@@ -40,7 +40,7 @@ early_line-next-requires c =
     (h.reached, lines_left _ _ _ 1 _ _ h (omega (arith, some, next_inside _ _ _ _ _ l.loop-size.invariant.2 l.loop-size.invariant.1)) l.requires.1, sym c.is_early.ensures ∙ not-false _ c.if-not-is_early.false, next_short _ _ _ _ _ h l.loop-size.invariant.1 some)
 
 pub overflow_add-at : goal.overflow_add-at
-overflow_add-at c = let l = c in omega (arith, next_inside _ _ _ _ _ l.loop-size.invariant.2 l.loop-size.invariant.1, l.well-formed.1.1.0)
+overflow_add-at c = let l = c in omega (arith, next_inside _ _ _ _ _ l.loop-size.invariant.2 l.loop-size.invariant.1, l.well_formed.1.1.0)
 
 pub slice_bounds-line_size-count : goal.slice_bounds-line_size-count
 slice_bounds-line_size-count c = let l = c in next_inside _ _ _ _ _ l.loop-size.invariant.2 l.loop-size.invariant.1

@@ -17,7 +17,7 @@ fits c = instant_fits _ (known c.before ∙ not-false _ c.if-not-is_wide_instant
 
 pub returns-then-not-is_wide_instant : goal.returns-then-not-is_wide_instant
 unfolding narrowed
-returns-then-not-is_wide_instant c = simp (known c.before ∙ not-true _ c.if-not-is_wide_instant.true)
+returns-then-not-is_wide_instant c = simp (known (goal.at.returns-then-not-is_wide_instant c).After-is_wide_instant ∙ not-true _ c.if-not-is_wide_instant.true)
 
 pub overflow_cast-result : goal.overflow_cast-result
 unfolding narrowed
@@ -25,4 +25,4 @@ overflow_cast-result c = subst (SFits w32) (sym (same64 _ c.ranges.x)) (fits c)
 
 pub returns : goal.returns
 unfolding narrowed
-returns c = simp (same64 _ c.ranges.x, same32 _ (fits c), known c.before ∙ not-false _ c.if-not-is_wide_instant.false)
+returns c = simp (same64 _ c.ranges.x, same32 _ (fits c), known (goal.at.returns c).After-is_wide_instant ∙ not-false _ c.if-not-is_wide_instant.false)

@@ -31,7 +31,7 @@ returns-then-not-is_wide_instant c =
     open_out s.args.run _ s.args.table.now s.args.o s.requires.1 (known d.before ∙ not-true _ d.if-not-is_wide_instant.true) c.refused_run.ensures
 
 pub overflow_cast-o : goal.overflow_cast-o
-overflow_cast-o c = let d = c.before.before in subst (SFits w32) (sym (same64 _ d.ranges.o)) (fits d)
+overflow_cast-o c = let d = (goal.at.overflow_cast-o c).Else-not-is_wide_instant in subst (SFits w32) (sym (same64 _ d.ranges.o)) (fits d)
 
 pub returns-then-a-ne0 : goal.returns-then-a-ne0
 returns-then-a-ne0 c = let d = c in let o = d.before.before.before in step_refused _ _ _ _ _ (opened o) d.if-a-ne0.true c.refused_run-then-a-ne0.ensures

@@ -9,7 +9,7 @@ use Rattle.program.proofs.opening_line.Goals as goal
 pub returns-in-Open : goal.returns-in-Open
 returns-in-Open c =
     let k = c in
-    let fits : SFits w64 k.c-1.given.0.0 = record { sfits = c.known_told-1.given.0.1 } in
+    let fits : SFits w64 k.in-Open.o = record { sfits = c.in-Open.known_told-1-own.given.0.1 } in
     opening_open _ _ _ _ _ _ (sym k.read_call-c.ensures.0 ∙ k.in-Open.is) (simp (same64 _ fits) at c.open_at.ensures)
 
 pub returns-in-Malformed : goal.returns-in-Malformed

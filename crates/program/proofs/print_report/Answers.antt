@@ -15,10 +15,10 @@ few c =
     subst (λ p. p.entries ≤ length p.tallies) (report_passed g.chart g.watch.state g.table.now s.requires ∙ sym c.report_unchecked-report.ensures) (report_within g.chart g.watch.state g.table.now)
 
 pub slice_bounds-tallies-end : goal.slice_bounds-tallies-end
-slice_bounds-tallies-end c = few c.before
+slice_bounds-tallies-end c = few (goal.at.slice_bounds-tallies-end c).After-report_unchecked-report
 
 pub slice_bounds-write_report-end : goal.slice_bounds-write_report-end
-slice_bounds-write_report-end c = sym (length-take-le _ _ (few c.before.before))
+slice_bounds-write_report-end c = sym (length-take-le _ _ (few (goal.at.slice_bounds-write_report-end c).After-report_unchecked-report))
 
 pub returns : goal.returns
 returns c =

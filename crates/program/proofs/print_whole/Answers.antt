@@ -17,7 +17,7 @@ ready : (c : After-start-first) → let s = c.before.before.before.before.before
 ready c =
     let s = c in
     let e = sym c.start-first.ensures in
-    (subst (λ r. Reached (record { run = r; table = s.args.table.now })) e (start_reached s.args.table.now), subst (λ r. HasLines r (length s.args.input.now + 1)) e (start_lines _ (omega (arith, s.well-formed.1.0))))
+    (subst (λ r. Reached (record { run = r; table = s.args.table.now })) e (start_reached s.args.table.now), subst (λ r. HasLines r (length s.args.input.now + 1)) e (start_lines _ (omega (arith, s.well_formed.1.0))))
 
 -- the run of the whole input
 run_is : (c : After-finish-last) →
@@ -37,23 +37,23 @@ pub returns-then-out-needed : goal.returns-then-out-needed
 returns-then-out-needed c = whole_none _ _ _ _ (rw (← c.bytes_for-needed.ensures) c.if-out-needed.true)
 
 pub feed-fed-requires : goal.feed-fed-requires
-feed-fed-requires c = ready c.before
+feed-fed-requires c = ready (goal.at.feed-fed-requires c).After-start-first
 
 pub finish-last-requires : goal.finish-last-requires
 finish-last-requires c =
-    let k = ready c.before.before.before.before.before in
+    let k = ready (goal.at.finish-last-requires c).After-start-first in
     let e = c.feed-fed.ensures.0 in
     (bytes_lines _ _ _ k.1 e, bytes_few _ _ _ k.0 e)
 
 pub print-requires : goal.print-requires
 print-requires c =
-    let f = c.before.before in
+    let f = (goal.at.print-requires c).After-struct_known-1 in
     let s = f in
     subst (λ x. Printable s.args.format x.run x.table) (run_is f) (whole_printable s.args.table.now (s.args.input.now ∷ []) s.args.format)
 
 pub returns : goal.returns
 returns c =
-    let f = c.before.before.before.before.before in
+    let f = (goal.at.returns c).After-struct_known-1 in
     let b = f in
     let g = b.args in
     let p = c.print.ensures in

@@ -31,20 +31,20 @@ pub loop-i-init : goal.loop-i-init
 loop-i-init c = (omega arith, omega arith, refl)
 
 pub offset_bounds-t-at : goal.offset_bounds-t-at
-offset_bounds-t-at c = let l = c in omega (arith, l.well-formed.0.1)
+offset_bounds-t-at c = let l = c in omega (arith, l.well_formed.0.1)
 
 pub loop-i-preserved-then-t-at-ne0 : goal.loop-i-preserved-then-t-at-ne0
 loop-i-preserved-then-t-at-ne0 c =
     let l = c in
     let g = l.args in
-    let not = zeros_not l.loop-i.i g.e g.t.now (omega arith) (omega arith) (eq_z_no _ (pos 0) (fits c.before) zero_fits c.if-t-at-ne0.true) in
+    let not = zeros_not l.loop-i.i g.e g.t.now (omega arith) (omega arith) (eq_z_no _ (pos 0) (fits (goal.at.loop-i-preserved-then-t-at-ne0 c).After-t10-1) zero_fits c.if-t-at-ne0.true) in
     (omega arith, omega arith, sym (both_false l.loop-i.zeros) ∙ ap (λ b. l.loop-i.zeros && b) (sym not) ∙ l.loop-i.invariant.2)
 
 pub loop-i-preserved : goal.loop-i-preserved
 loop-i-preserved c =
     let l = c in
     let g = l.args in
-    let on = zeros_on l.loop-i.i g.e g.t.now (omega arith) (omega arith) (eq_z_yes _ (pos 0) (fits c.before) zero_fits c.if-t-at-ne0.false) in
+    let on = zeros_on l.loop-i.i g.e g.t.now (omega arith) (omega arith) (eq_z_yes _ (pos 0) (fits (goal.at.loop-i-preserved c).After-t10-1) zero_fits c.if-t-at-ne0.false) in
     (omega arith, omega arith, ap (λ b. l.loop-i.zeros && b) (sym on) ∙ l.loop-i.invariant.2)
 
 pub returns : goal.returns

@@ -13,16 +13,16 @@ arity c s h =
     ap arity_by (sym h ∙ c.shape_of-shape.ensures ∙ ap shape_of c.kind_of-kind.ensures) ∙ sym (shape_arity (kind_of e.op) e.a e.b)
 
 pub returns-in-Leaf : goal.returns-in-Leaf
-returns-in-Leaf c = arity c.before _ c.in-Leaf.is
+returns-in-Leaf c = arity (goal.at.returns-in-Leaf c).After-shape_of-shape _ c.in-Leaf.is
 
 pub returns-in-Single : goal.returns-in-Single
-returns-in-Single c = arity c.before _ c.in-Single.is
+returns-in-Single c = arity (goal.at.returns-in-Single c).After-shape_of-shape _ c.in-Single.is
 
 pub returns-in-Arms : goal.returns-in-Arms
-returns-in-Arms c = arity c.before _ c.in-Arms.is
+returns-in-Arms c = arity (goal.at.returns-in-Arms c).After-shape_of-shape _ c.in-Arms.is
 
 pub returns-in-Double : goal.returns-in-Double
-returns-in-Double c = arity c.before _ c.in-Double.is
+returns-in-Double c = arity (goal.at.returns-in-Double c).After-shape_of-shape _ c.in-Double.is
 
 pub returns-in-Delayed : goal.returns-in-Delayed
-returns-in-Delayed c = arity c.before _ c.in-Delayed.is
+returns-in-Delayed c = arity (goal.at.returns-in-Delayed c).After-shape_of-shape _ c.in-Delayed.is

@@ -25,12 +25,12 @@ loop-low-init c = search_holds _ _ _ _
 pub loop-low-preserved-then-ends_before : goal.loop-low-preserved-then-ends_before
 loop-low-preserved-then-ends_before c =
     let l = c in
-    search_up _ _ _ _ l.requires.1 _ _ l.loop-low.invariant _ (omega arith) (omega arith) (sym (tested c.before) ∙ c.if-ends_before.true)
+    search_up _ _ _ _ l.requires.1 _ _ l.loop-low.invariant _ (omega arith) (omega arith) (sym (tested (goal.at.loop-low-preserved-then-ends_before c).After-ends_before) ∙ c.if-ends_before.true)
 
 pub loop-low-preserved : goal.loop-low-preserved
 loop-low-preserved c =
     let l = c in
-    search_down _ _ _ _ l.requires.1 _ _ l.loop-low.invariant _ (omega arith) (omega arith) (sym (tested c.before) ∙ c.if-ends_before.false)
+    search_down _ _ _ _ l.requires.1 _ _ l.loop-low.invariant _ (omega arith) (omega arith) (sym (tested (goal.at.loop-low-preserved c).After-ends_before) ∙ c.if-ends_before.false)
 
 pub returns : goal.returns
 returns c =

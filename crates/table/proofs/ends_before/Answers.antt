@@ -14,7 +14,7 @@ pub overflow_cast-z : goal.overflow_cast-z
 overflow_cast-z c = rw (same32 _ c.ranges.end) (widened _ c.ranges.end)
 
 pub returns-then-included : goal.returns-then-included
-returns-then-included c = let s = c.before.before in simp (c.if-included.true, c.is_wide_no_later.ensures, end_is s, same64 _ s.ranges.e)
+returns-then-included c = let s = (goal.at.returns-then-included c).Start in simp (c.if-included.true, c.is_wide_no_later.ensures, end_is s, same64 _ s.ranges.e)
 
 pub returns : goal.returns
-returns c = let s = c.before.before in simp (c.if-included.false, c.is_wide_before.ensures, end_is s, same64 _ s.ranges.e)
+returns c = let s = (goal.at.returns c).Start in simp (c.if-included.false, c.is_wide_before.ensures, end_is s, same64 _ s.ranges.e)

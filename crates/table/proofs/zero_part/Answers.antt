@@ -16,13 +16,13 @@ pub loop-i-init : goal.loop-i-init
 loop-i-init c = (omega arith, omega arith, omega arith, sym (zero_none _ _ (omega arith)))
 
 pub offset_bounds-t-i : goal.offset_bounds-t-i
-offset_bounds-t-i c = let l = c in omega (arith, l.well-formed.0.1)
+offset_bounds-t-i c = let l = c in omega (arith, l.well_formed.0.1)
 
 pub slice_set_of-t : goal.slice_set_of-t
-slice_set_of-t c = omega (arith, kept c.before)
+slice_set_of-t c = omega (arith, kept (goal.at.slice_set_of-t c).At-loop-i)
 
 pub overflow_add-i : goal.overflow_add-i
-overflow_add-i c = let l = c in omega (arith, l.well-formed.0.0)
+overflow_add-i c = let l = c in omega (arith, l.well_formed.0.0)
 
 pub loop-i-preserved : goal.loop-i-preserved
 loop-i-preserved c =
@@ -30,7 +30,7 @@ loop-i-preserved c =
     (omega arith, omega arith, omega arith, ap (λ x. set x l.loop-i.i (pos 0)) l.loop-i.invariant.3 ∙ zero_step l.args.a l.loop-i.i l.args.t.now (omega arith) (omega arith))
 
 pub shape_of-t : goal.shape_of-t
-shape_of-t c = kept c.before
+shape_of-t c = kept (goal.at.shape_of-t c).At-loop-i
 
 pub returns : goal.returns
 returns c =

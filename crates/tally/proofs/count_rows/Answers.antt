@@ -46,13 +46,13 @@ pub overflow_cast-entry : goal.overflow_cast-entry
 overflow_cast-entry c =
     let l = c in
     let above = l.requires.entry_above l.loop-i.i c.loop-i-test.true in
-    rw (same32 _ (fit c)) (cast_up _ (fit c) (rw c.row_at-row.ensures above))
+    rw (same32 _ (fit (goal.at.overflow_cast-entry c).After-struct_told-1)) (cast_up _ (fit (goal.at.overflow_cast-entry c).After-struct_told-1) (rw c.row_at-row.ensures above))
 
 pub offset_bounds-tallies-entry : goal.offset_bounds-tallies-entry
-offset_bounds-tallies-entry c = record { fits = omega (arith, few c) }
+offset_bounds-tallies-entry c = record { fits = omega (arith, few (goal.at.offset_bounds-tallies-entry c).After-struct_told-1) }
 
 pub bounds-tallies-entry : goal.bounds-tallies-entry
-bounds-tallies-entry c = few c
+bounds-tallies-entry c = few (goal.at.bounds-tallies-entry c).After-struct_told-1
 
 pub overflow_add-tallies : goal.overflow_add-tallies
 overflow_add-tallies c =

@@ -34,16 +34,16 @@ pub returns-then-s-i : goal.returns-then-s-i
 returns-then-s-i c = c.loop-i.invariant
 
 pub returns-then-s-i-2 : goal.returns-then-s-i-2
-returns-then-s-i-2 c = (omega arith, one c.before.before)
+returns-then-s-i-2 c = (omega arith, one (goal.at.returns-then-s-i-2 c).Else-s-i)
 
 pub returns-then-s-i-3 : goal.returns-then-s-i-3
-returns-then-s-i-3 c = (omega arith, two c.before.before)
+returns-then-s-i-3 c = (omega arith, two (goal.at.returns-then-s-i-3 c).Else-s-i-2)
 
 pub returns-then-s-i-4 : goal.returns-then-s-i-4
-returns-then-s-i-4 c = (omega arith, three c.before.before)
+returns-then-s-i-4 c = (omega arith, three (goal.at.returns-then-s-i-4 c).Else-s-i-3)
 
 pub loop-i-preserved : goal.loop-i-preserved
-loop-i-preserved c = (omega arith, index_step _ _ _ _ (three c.before.before) (omega arith) (omega arith) c.if-s-i-4.false)
+loop-i-preserved c = (omega arith, index_step _ _ _ _ (three (goal.at.loop-i-preserved c).Else-s-i-3) (omega arith) (omega arith) c.if-s-i-4.false)
 
 pub returns : goal.returns
 returns c = c.loop-i.invariant

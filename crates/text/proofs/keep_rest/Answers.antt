@@ -34,16 +34,16 @@ pub loop-i-init : goal.loop-i-init
 loop-i-init c = (refl, omega arith)
 
 pub overflow_add-buf : goal.overflow_add-buf
-overflow_add-buf c = record { fits = omega (arith, inside c, c.well-formed.0.0) }
+overflow_add-buf c = record { fits = omega (arith, inside c, c.well_formed.0.0) }
 
 pub bounds-buf-from : goal.bounds-buf-from
-bounds-buf-from c = omega (arith, inside c.before, size c.before)
+bounds-buf-from c = omega (arith, inside (goal.at.bounds-buf-from c).In-loop-i, size (goal.at.bounds-buf-from c).In-loop-i)
 
 pub bounds-buf-i : goal.bounds-buf-i
-bounds-buf-i c = omega (arith, inside c.before, size c.before)
+bounds-buf-i c = omega (arith, inside (goal.at.bounds-buf-i c).In-loop-i, size (goal.at.bounds-buf-i c).In-loop-i)
 
 pub overflow_add-i : goal.overflow_add-i
-overflow_add-i c = record { fits = omega (arith, inside c.before, c.well-formed.0.0) }
+overflow_add-i c = record { fits = omega (arith, inside (goal.at.overflow_add-i c).In-loop-i, c.well_formed.0.0) }
 
 pub loop-i-smaller : goal.loop-i-smaller
 loop-i-smaller c = let t = c.loop-i-test.true in omega (arith, t)
@@ -53,7 +53,7 @@ loop-i-preserved c =
     let l = c in
     let g = l.args in
     let t = c.loop-i-test.true in
-    (ap (λ b. set b l.loop-i.i (get_or b (g.from + l.loop-i.i) 0)) l.loop-i.invariant.0 ∙ moved_more g.from l.loop-i.i g.buf.now (inside c.before), omega (arith, t))
+    (ap (λ b. set b l.loop-i.i (get_or b (g.from + l.loop-i.i) 0)) l.loop-i.invariant.0 ∙ moved_more g.from l.loop-i.i g.buf.now (inside (goal.at.loop-i-preserved c).In-loop-i), omega (arith, t))
 
 pub shape_of-buf : goal.shape_of-buf
 shape_of-buf c =

@@ -24,12 +24,12 @@ slice_bounds-find-end c =
 
 pub returns-then-end-w : goal.returns-then-end-w
 returns-then-end-w c =
-    let f = c.before in
+    let f = (goal.at.returns-then-end-w c).After-find-end in
     let s = f.args.s.now in
     sym (size_found s (omega (arith, found f, seen f, c.if-end-w.true)) ∙ simp (← found f))
 
 pub returns-else-end-w : goal.returns-else-end-w
 returns-else-end-w c =
-    let f = c.before in
+    let f = (goal.at.returns-else-end-w c).After-find-end in
     let s = f.args.s.now in
     sym (size_none s (omega (arith, found f, seen f, c.if-end-w.false)))

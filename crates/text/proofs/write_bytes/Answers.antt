@@ -20,7 +20,7 @@ pub loop-i-init : goal.loop-i-init
 loop-i-init c = (omega arith, first c.args.out.now c.args.at c.args.s.now)
 
 pub overflow_add-out : goal.overflow_add-out
-overflow_add-out c = let s = c in omega (arith, s.requires, s.well-formed.1.0.0)
+overflow_add-out c = let s = c in omega (arith, s.requires, s.well_formed.1.0.0)
 
 pub bounds-out-at : goal.bounds-out-at
 bounds-out-at c = let l = c in omega (arith, l.requires, l.loop-i.invariant.1.same)
@@ -32,7 +32,7 @@ loop-i-preserved c = let l = c in
     (omega arith, remaining_less l.loop-i.invariant.1 (get_or s i 0 ∷ []) (drop (i + 1) s) (next s i c.loop-i-test.true) (omega arith) refl)
 
 pub overflow_add-result : goal.overflow_add-result
-overflow_add-result c = let s = c in omega (arith, s.requires, s.well-formed.1.0.0)
+overflow_add-result c = let s = c in omega (arith, s.requires, s.well_formed.1.0.0)
 
 pub shape_of-out : goal.shape_of-out
 shape_of-out c = c.loop-i.invariant.1.same

@@ -13,7 +13,7 @@ found : (c : After-integer_length-n) → c.integer_length-n.result ≡ length (s
 found c = simp (same32, c.ranges.serial) at c.integer_length-n.ensures
 
 pub returns-then-n-limit : goal.returns-then-n-limit
-returns-then-n-limit c = is_within_lem _ _ _ (omega (arith, found c.before)) (omega (arith, found c.before))
+returns-then-n-limit c = is_within_lem _ _ _ (omega (arith, found (goal.at.returns-then-n-limit c).After-integer_length-n)) (omega (arith, found (goal.at.returns-then-n-limit c).After-integer_length-n))
 
 pub returns-else-n-limit : goal.returns-else-n-limit
-returns-else-n-limit c = is_over _ _ (omega (arith, found c.before))
+returns-else-n-limit c = is_over _ _ (omega (arith, found (goal.at.returns-else-n-limit c).After-integer_length-n))

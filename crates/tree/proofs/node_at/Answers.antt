@@ -29,18 +29,18 @@ row_at-row-requires c = rw (same32 _ c.ranges.z) (omega (arith, low c, c.require
 
 pub overflow_cast-entry : goal.overflow_cast-entry
 overflow_cast-entry c =
-    let r = c.before.before in
+    let r = (goal.at.overflow_cast-entry c).After-row_at-row in
     rw (same32 _ (fit c)) (cast_up _ (fit c) (rw (read r) (r.requires.0.entry_above _ (low r.before))))
 
 pub bounds-arities-entry : goal.bounds-arities-entry
 bounds-arities-entry c =
-    let r = c.before.before in
-    rw (same32 _ (fit c), read r) (r.requires.0.entry_below _ (low r.before))
+    let r = (goal.at.bounds-arities-entry c).After-struct_known-1 in
+    rw (same32 _ (fit (goal.at.bounds-arities-entry c).After-struct_told-1), read r) (r.requires.0.entry_below _ (low r.before))
 
 pub returns : goal.returns
 unfolding node_at
 returns c =
-    let e = c.before.before.before in
+    let e = (goal.at.returns c).After-way_told-1 in
     let r = e.before.before in
     let left : SFits w32 r.row_at-row.result.left = record { sfits = c.struct_told-3-1.given.1.0.1 } in
     let right : SFits w32 r.row_at-row.result.right = record { sfits = c.struct_told-3-1.given.1.1.0.1 } in

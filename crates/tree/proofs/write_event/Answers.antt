@@ -26,10 +26,10 @@ pub slice_bounds-write_integer-start : goal.slice_bounds-write_integer-start
 slice_bounds-write_integer-start c = simp length-set (omega arith)
 
 pub overflow_add-result : goal.overflow_add-result
-overflow_add-result c = omega (arith, (written c.before.before).0, c.well-formed.1.0)
+overflow_add-result c = omega (arith, (written (goal.at.overflow_add-result c).After-write_integer-n).0, c.well_formed.1.0)
 
 pub shape_of-out : goal.shape_of-out
-shape_of-out c = ap length (written c.before.before).1 ∙ simp length-sets
+shape_of-out c = ap length (written (goal.at.shape_of-out c).After-write_integer-n).1 ∙ simp length-sets
 
 pub returns : goal.returns
-returns c = let w = written c.before.before in (omega (arith, w.0), w.1)
+returns c = let w = written (goal.at.returns c).After-write_integer-n in (omega (arith, w.0), w.1)

@@ -22,16 +22,16 @@ lent : (c : Start) → Word c.args.letters.now c.args.sizes.now c.args.i
 lent c = word c.args.letters.now c.args.sizes.now c.requires.1 c.requires.2 c.args.i c.requires.0
 
 pub returns-then-s-n : goal.returns-then-s-n
-returns-then-s-n c = let g = c.args in sym (same_lengths g.s.now (get_or words g.i []) (λ e. c.if-s-n.true (e ∙ (lent c.before.before).size)))
+returns-then-s-n c = let g = c.args in sym (same_lengths g.s.now (get_or words g.i []) (λ e. c.if-s-n.true (e ∙ (lent (goal.at.returns-then-s-n c).Start).size)))
 
 pub loop-k-init : goal.loop-k-init
 loop-k-init c = (omega arith, c.if-s-n.false, refl)
 
 pub overflow_add-i : goal.overflow_add-i
-overflow_add-i c = let s = c.before.before.before.before.before in omega (arith, (lent s).small)
+overflow_add-i c = let s = (goal.at.overflow_add-i c).After-way_told-1 in omega (arith, (lent s).small)
 
 pub bounds-letters-i : goal.bounds-letters-i
-bounds-letters-i c = let s = c.before.before.before.before.before in omega (arith, (lent s).small)
+bounds-letters-i c = let s = (goal.at.bounds-letters-i c).After-n-1 in omega (arith, (lent s).small)
 
 pub returns-then-s-k : goal.returns-then-s-k
 returns-then-s-k c =

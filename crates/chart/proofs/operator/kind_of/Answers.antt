@@ -20,13 +20,13 @@ unfolding kind_of
 past op h = simp (ne_eqb op 0 (λ e. omega arith), ne_eqb op 1 (λ e. omega arith), ne_eqb op 2 (λ e. omega arith), ne_eqb op 3 (λ e. omega arith))
 
 pub returns-in-0 : goal.returns-in-0
-returns-in-0 c = simp (c.match.keys1, single.0)
+returns-in-0 c = simp (c.in-0.is, single.0)
 
 pub returns-in-1 : goal.returns-in-1
-returns-in-1 c = simp (c.match.keys2, single.1)
+returns-in-1 c = simp (c.in-1.is, single.1)
 
 pub returns-in-2 : goal.returns-in-2
-returns-in-2 c = simp (c.match.keys3, single.2)
+returns-in-2 c = simp (c.in-2.is, single.2)
 
 pub returns-in-3 : goal.returns-in-3
 returns-in-3 c = simp (c.in-3.is, single.3)

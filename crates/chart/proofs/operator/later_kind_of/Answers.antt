@@ -3,13 +3,13 @@ use borrow.Author.Tests.{ne_eqb}
 use Rattle.chart.proofs.operator.later_kind_of.Goals as goal
 
 pub returns-in-17 : goal.returns-in-17
-returns-in-17 c = rw c.match.keys1
+returns-in-17 c = rw c.in-17.is
 
 pub returns-in-18 : goal.returns-in-18
-returns-in-18 c = rw c.match.keys2
+returns-in-18 c = rw c.in-18.is
 
 pub returns-in-19 : goal.returns-in-19
 returns-in-19 c = rw c.in-19.is
 
 pub returns-in_default : goal.returns-in_default
-returns-in_default c = let r = c.match.rest in simp (ne_eqb _ _ r.0.0.1, ne_eqb _ _ r.0.1, ne_eqb _ _ r.1)
+returns-in_default c = let r = c.in_default.in_default-own.rest in simp (ne_eqb _ _ r.0.0.1, ne_eqb _ _ r.0.1, ne_eqb _ _ r.1)

@@ -5,7 +5,7 @@ use Rattle.chart.proofs.operator.length_test_of.Goals as goal
 
 pub returns-in-14 : goal.returns-in-14
 unfolding length_test_of
-returns-in-14 c = rw c.match.keys1
+returns-in-14 c = rw c.in-14.is
 
 pub returns-in-15 : goal.returns-in-15
 unfolding length_test_of
@@ -13,4 +13,4 @@ returns-in-15 c = rw c.in-15.is
 
 pub returns-in_default : goal.returns-in_default
 unfolding length_test_of
-returns-in_default c = let r = c.match.rest in simp (ne_eqb _ _ r.0.1, ne_eqb _ _ r.1)
+returns-in_default c = let r = c.in_default.in_default-own.rest in simp (ne_eqb _ _ r.0.1, ne_eqb _ _ r.1)

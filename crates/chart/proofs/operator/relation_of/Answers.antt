@@ -5,19 +5,19 @@ use Rattle.chart.proofs.operator.relation_of.Goals as goal
 
 pub returns-in-8 : goal.returns-in-8
 unfolding relation_of
-returns-in-8 c = rw c.match.keys1
+returns-in-8 c = rw c.in-8.is
 
 pub returns-in-9 : goal.returns-in-9
 unfolding relation_of
-returns-in-9 c = rw c.match.keys2
+returns-in-9 c = rw c.in-9.is
 
 pub returns-in-10 : goal.returns-in-10
 unfolding relation_of
-returns-in-10 c = rw c.match.keys3
+returns-in-10 c = rw c.in-10.is
 
 pub returns-in-11 : goal.returns-in-11
 unfolding relation_of
-returns-in-11 c = rw c.match.keys4
+returns-in-11 c = rw c.in-11.is
 
 pub returns-in-12 : goal.returns-in-12
 unfolding relation_of
@@ -25,4 +25,4 @@ returns-in-12 c = rw c.in-12.is
 
 pub returns-in_default : goal.returns-in_default
 unfolding relation_of
-returns-in_default c = let r = c.match.rest in simp (ne_eqb _ _ r.0.0.0.0.1, ne_eqb _ _ r.0.0.0.1, ne_eqb _ _ r.0.0.1, ne_eqb _ _ r.0.1, ne_eqb _ _ r.1)
+returns-in_default c = let r = c.in_default.in_default-own.rest in simp (ne_eqb _ _ r.0.0.0.0.1, ne_eqb _ _ r.0.0.0.1, ne_eqb _ _ r.0.0.1, ne_eqb _ _ r.0.1, ne_eqb _ _ r.1)

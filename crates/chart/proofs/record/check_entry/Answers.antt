@@ -46,5 +46,5 @@ overflow_cast-result-2 c = record { fits = (fits c).second }
 pub returns : goal.returns
 unfolding checked_entry
 returns c =
-    let r = c.before.before.before in
-    simp (eq-eqb _ _ r.if-entry-n.false, ranged r ∙ not-false _ c.if-not-in_range.false, lowered c.before ∙ not-false _ c.if-not-are_lower.false)
+    let r = (goal.at.returns c).After-in_range in
+    simp (eq-eqb _ _ r.if-entry-n.false, ranged r ∙ not-false _ c.if-not-in_range.false, lowered (goal.at.returns c).After-are_lower ∙ not-false _ c.if-not-are_lower.false)

@@ -17,20 +17,20 @@ returns-then-t-s c = sym (parsed_one _ (sym c.find-t.ensures ∙ c.if-t-s.true))
 
 pub slice_bounds-read_number-end : goal.slice_bounds-read_number-end
 unfolding parsed_line
-slice_bounds-read_number-end c = sym (length-take-le _ _ (omega (arith, (cut c.before).within)))
+slice_bounds-read_number-end c = sym (length-take-le _ _ (omega (arith, (cut c).within)))
 
 pub overflow_add-t : goal.overflow_add-t
 unfolding parsed_line
-overflow_add-t c = omega (arith, (cut c.before.before).within)
+overflow_add-t c = omega (arith, (cut (goal.at.overflow_add-t c).Else-t-s).within)
 
 pub slice_bounds-read_numbered-count : goal.slice_bounds-read_numbered-count
 unfolding parsed_line
-slice_bounds-read_numbered-count c = omega (arith, (cut c.before.before).within)
+slice_bounds-read_numbered-count c = omega (arith, (cut (goal.at.slice_bounds-read_numbered-count c).Else-t-s).within)
 
 pub slice_bounds-read_numbered-start : goal.slice_bounds-read_numbered-start
 unfolding parsed_line
-slice_bounds-read_numbered-start c = omega (arith, (cut c.before.before).within)
+slice_bounds-read_numbered-start c = omega (arith, (cut (goal.at.slice_bounds-read_numbered-start c).Else-t-s).within)
 
 pub returns : goal.returns
 unfolding parsed_line
-returns c = rw ((cut c.before.before.before.before).parts, ← c.read_number-n.ensures) (simp part_from at c.read_numbered.ensures)
+returns c = rw ((cut (goal.at.returns c).Else-t-s).parts, ← c.read_number-n.ensures) (simp part_from at c.read_numbered.ensures)

@@ -17,20 +17,20 @@ returns-then-t-s c = sym (operands_one _ _ _ (sym c.find-t.ensures ∙ c.if-t-s.
 
 pub slice_bounds-read_number-end : goal.slice_bounds-read_number-end
 unfolding operands_line
-slice_bounds-read_number-end c = sym (length-take-le _ _ (omega (arith, (cut c.before).within)))
+slice_bounds-read_number-end c = sym (length-take-le _ _ (omega (arith, (cut c).within)))
 
 pub overflow_add-t : goal.overflow_add-t
 unfolding operands_line
-overflow_add-t c = omega (arith, (cut c.before.before).within)
+overflow_add-t c = omega (arith, (cut (goal.at.overflow_add-t c).Else-t-s).within)
 
 pub slice_bounds-read_second-count : goal.slice_bounds-read_second-count
 unfolding operands_line
-slice_bounds-read_second-count c = omega (arith, (cut c.before.before).within)
+slice_bounds-read_second-count c = omega (arith, (cut (goal.at.slice_bounds-read_second-count c).Else-t-s).within)
 
 pub slice_bounds-read_second-start : goal.slice_bounds-read_second-start
 unfolding operands_line
-slice_bounds-read_second-start c = omega (arith, (cut c.before.before).within)
+slice_bounds-read_second-start c = omega (arith, (cut (goal.at.slice_bounds-read_second-start c).Else-t-s).within)
 
 pub returns : goal.returns
 unfolding operands_line
-returns c = rw ((cut c.before.before.before.before).parts, ← c.read_number-x.ensures) (simp part_from at c.read_second.ensures)
+returns c = rw ((cut (goal.at.returns c).Else-t-s).parts, ← c.read_number-x.ensures) (simp part_from at c.read_second.ensures)

@@ -17,20 +17,20 @@ returns-then-t-s c = sym (operator_one _ _ (sym c.find-t.ensures ∙ c.if-t-s.tr
 
 pub slice_bounds-operator_of-end : goal.slice_bounds-operator_of-end
 unfolding operator_line
-slice_bounds-operator_of-end c = sym (length-take-le _ _ (omega (arith, (cut c.before).within)))
+slice_bounds-operator_of-end c = sym (length-take-le _ _ (omega (arith, (cut c).within)))
 
 pub overflow_add-t : goal.overflow_add-t
 unfolding operator_line
-overflow_add-t c = omega (arith, (cut c.before.before).within)
+overflow_add-t c = omega (arith, (cut (goal.at.overflow_add-t c).Else-t-s).within)
 
 pub slice_bounds-by_operator-count : goal.slice_bounds-by_operator-count
 unfolding operator_line
-slice_bounds-by_operator-count c = omega (arith, (cut c.before.before).within)
+slice_bounds-by_operator-count c = omega (arith, (cut (goal.at.slice_bounds-by_operator-count c).Else-t-s).within)
 
 pub slice_bounds-by_operator-start : goal.slice_bounds-by_operator-start
 unfolding operator_line
-slice_bounds-by_operator-start c = omega (arith, (cut c.before.before).within)
+slice_bounds-by_operator-start c = omega (arith, (cut (goal.at.slice_bounds-by_operator-start c).Else-t-s).within)
 
 pub returns : goal.returns
 unfolding operator_line
-returns c = rw ((cut c.before.before.before.before).parts, ← c.operator_of-op.ensures) (simp part_from at c.by_operator.ensures)
+returns c = rw ((cut (goal.at.returns c).Else-t-s).parts, ← c.operator_of-op.ensures) (simp part_from at c.by_operator.ensures)

@@ -37,12 +37,12 @@ pub feed_early-head-requires : goal.feed_early-head-requires
 feed_early-head-requires c = let s = c in (s.requires.0, lines_fewer _ _ _ (omega arith) s.requires.1)
 
 pub slice_bounds-feed_calls-count : goal.slice_bounds-feed_calls-count
-slice_bounds-feed_calls-count c = omega (arith, (early c.before.before.before.before).inside)
+slice_bounds-feed_calls-count c = omega (arith, (early (goal.at.slice_bounds-feed_calls-count c).After-feed_early-head).inside)
 
 pub feed_calls-rest-requires : goal.feed_calls-rest-requires
 unfolding is_refused
 feed_calls-rest-requires c =
-    let f = c.before.before.before.before.before in
+    let f = (goal.at.feed_calls-rest-requires c).After-feed_early-head in
     let s = f in
     let told = c.in-Calls.is in
     let h = early f in
@@ -50,44 +50,44 @@ feed_calls-rest-requires c =
 
 pub overflow_add-at : goal.overflow_add-at
 overflow_add-at c =
-    let h = (all c.before.before.before).0 in
+    let h = (all (goal.at.overflow_add-at c).After-feed_calls-rest).0 in
     let s = c in
-    omega (arith, h.inside, s.well-formed.1.1.0)
+    omega (arith, h.inside, s.well_formed.1.1.0)
 
 pub settled-requires : goal.settled-requires
 settled-requires c =
-    let h = (all c.before.before.before).0 in
+    let h = (all (goal.at.settled-requires c).After-feed_calls-rest).0 in
     let s = c in
     (h.inside, lines_left _ _ _ _ _ _ h (omega (arith, h.inside)) s.requires.1, reached_few _ h.reached)
 
 pub settled-requires-in-Entries : goal.settled-requires-in-Entries
 settled-requires-in-Entries c =
-    let f = c.before.before.before in
+    let f = (goal.at.settled-requires-in-Entries c).After-feed_early-head in
     let s = f in
     let h = early f in
     (h.inside, lines_left _ _ _ _ _ _ h (omega (arith, h.inside)) s.requires.1, reached_few _ h.reached)
 
 pub settled-requires-in-Opening : goal.settled-requires-in-Opening
 settled-requires-in-Opening c =
-    let f = c.before.before.before in
+    let f = (goal.at.settled-requires-in-Opening c).After-feed_early-head in
     let s = f in
     let h = early f in
     (h.inside, lines_left _ _ _ _ _ _ h (omega (arith, h.inside)) s.requires.1, reached_few _ h.reached)
 
 pub settled-requires-in-Refused : goal.settled-requires-in-Refused
 settled-requires-in-Refused c =
-    let f = c.before.before.before in
+    let f = (goal.at.settled-requires-in-Refused c).After-feed_early-head in
     let s = f in
     let h = early f in
     (h.inside, lines_left _ _ _ _ _ _ h (omega (arith, h.inside)) s.requires.1, reached_few _ h.reached)
 
 pub returns-in-Calls : goal.returns-in-Calls
-returns-in-Calls c = let h = all c.before.before.before.before in let y = settled_as _ _ _ _ _ h.0 h.1 c.settled.ensures in (y.all, y.inside, y.kept)
+returns-in-Calls c = let h = all (goal.at.returns-in-Calls c).After-feed_calls-rest in let y = settled_as _ _ _ _ _ h.0 h.1 c.settled.ensures in (y.all, y.inside, y.kept)
 
 pub returns-in-Entries : goal.returns-in-Entries
 unfolding is_early is_refused
 returns-in-Entries c =
-    let f = c.before.before.before.before in
+    let f = (goal.at.returns-in-Entries c).After-feed_early-head in
     let told = c.in-Entries.is in
     let y = settled_as _ _ _ _ _ (early f) (λ z. f.feed_early-head.ensures.1 (ap is_early told)) c.settled-in-Entries.ensures in
     (y.all, y.inside, y.kept)
@@ -95,7 +95,7 @@ returns-in-Entries c =
 pub returns-in-Opening : goal.returns-in-Opening
 unfolding is_early is_refused
 returns-in-Opening c =
-    let f = c.before.before.before.before in
+    let f = (goal.at.returns-in-Opening c).After-feed_early-head in
     let told = c.in-Opening.is in
     let y = settled_as _ _ _ _ _ (early f) (λ z. f.feed_early-head.ensures.1 (ap is_early told)) c.settled-in-Opening.ensures in
     (y.all, y.inside, y.kept)
@@ -103,7 +103,7 @@ returns-in-Opening c =
 pub returns-in-Refused : goal.returns-in-Refused
 unfolding is_early is_refused
 returns-in-Refused c =
-    let f = c.before.before.before.before in
+    let f = (goal.at.returns-in-Refused c).After-feed_early-head in
     let told = c.in-Refused.is in
     let y = settled_as _ _ _ _ _ (early f) (λ z. never (sym z ∙ ap is_refused told)) c.settled-in-Refused.ensures in
     (y.all, y.inside, y.kept)

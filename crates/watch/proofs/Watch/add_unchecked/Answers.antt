@@ -48,7 +48,7 @@ extended-requires c =
 
 pub returns : goal.returns
 returns c =
-    let k = c.before in
+    let k = (goal.at.returns c).After-struct_known-3-1 in
     let g = (start k).args in
     let e = (a k).read-added.ensures in
     ap₂ (λ w x. addition 0 0 w x.chart) (c.extended.ensures ∙ ap (λ x. extended g.self.state (x.chart.count - g.chart.count)) e) e

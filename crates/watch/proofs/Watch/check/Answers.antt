@@ -14,7 +14,7 @@ pub returns-then-not-is_usable : goal.returns-then-not-is_usable
 returns-then-not-is_usable c = sym (check_14 _ _ _ (sym c.is_usable.ensures ∙ not-true _ c.if-not-is_usable.true))
 
 pub is_consistent-requires : goal.is_consistent-requires
-is_consistent-requires c = usable c.before
+is_consistent-requires c = usable (goal.at.is_consistent-requires c).Else-not-is_usable
 
 pub returns-then-not-is_consistent : goal.returns-then-not-is_consistent
 returns-then-not-is_consistent c = let j = c in sym (check_13 _ _ _ (usable j.before.before) (sym j.is_consistent.ensures ∙ not-true _ c.if-not-is_consistent.true))

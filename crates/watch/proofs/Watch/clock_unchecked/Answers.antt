@@ -33,18 +33,18 @@ closed : (c : After-close-n) → let g = c.args in
 closed c = simp (same32 _ c.ranges.instant) at c.close-n.ensures
 
 pub returns-then-is_mark_refused : goal.returns-then-is_mark_refused
-returns-then-is_mark_refused c = let g = c.args in parts (clock_8 g.chart g.self.state g.table.now g.instant (early c.before ∙ c.if-is_mark_refused.true))
+returns-then-is_mark_refused c = let g = c.args in parts (clock_8 g.chart g.self.state g.table.now g.instant (early (goal.at.returns-then-is_mark_refused c).After-is_mark_refused ∙ c.if-is_mark_refused.true))
 
 pub close-n-requires : goal.close-n-requires
 close-n-requires c =
     let s = c in
     let j = told s.args.chart s.args.self.state s.args.table.now s.requires in
-    let later = is_lt s.args.self.state.instant s.args.instant (mark_taken _ _ (in_time c.before.before)).later in
+    let later = is_lt s.args.self.state.instant s.args.instant (mark_taken _ _ (in_time (goal.at.close-n-requires c).Else-is_mark_refused)).later in
     record { ready = j.ready; ended = j.ended; few = j.few; counted = j.counted; most = j.most; later = simp (same32 _ s.ranges.instant) later }
 
 pub returns-then-room-n : goal.returns-then-room-n
 returns-then-room-n c =
-    let k = c.before.before in
+    let k = (goal.at.returns-then-room-n c).After-close-n in
     let r = k in
     let g = r.args in
     let h : room_in g.table.now < closed_number g.chart g.self.state g.instant g.table.now = omega (arith, c.if-room-n.true, r.rows_that_fit-room.ensures, (closed k).0) in

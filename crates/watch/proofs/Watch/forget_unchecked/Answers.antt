@@ -20,7 +20,7 @@ barred c =
     sym (simp (same32 _ s.ranges.f, same32 _ now, same32 _ floor) at c.is_forget_refused.ensures)
 
 pub returns-then-is_forget_refused : goal.returns-then-is_forget_refused
-returns-then-is_forget_refused c = let g = c.args in parts (forget_11 g.chart g.self.state g.table.now g.f (barred c.before ∙ c.if-is_forget_refused.true))
+returns-then-is_forget_refused c = let g = c.args in parts (forget_11 g.chart g.self.state g.table.now g.f (barred (goal.at.returns-then-is_forget_refused c).After-is_forget_refused ∙ c.if-is_forget_refused.true))
 
 pub forget-n-requires : goal.forget-n-requires
 forget-n-requires c = let s = c in (told s.args.chart s.args.self.state s.args.table.now s.requires).ready

@@ -32,20 +32,20 @@ returns-then-not-is_usable c =
 
 pub returns-then-not-is_instant : goal.returns-then-not-is_instant
 returns-then-not-is_instant c =
-    let i = c.before.before in
+    let i = (goal.at.returns-then-not-is_instant c).After-is_instant in
     let d = i.before in
     let g = d.args in
     let p = parts (opening_8 g.chart g.table.now g.instant (usable d) (instant i ∙ not-true _ c.if-not-is_instant.true)) in
     (ap (λ w. record { refusal = 8; watch = w }) c.empty-then-not-is_instant.ensures ∙ p.0, p.1)
 
 pub overflow_mul-room : goal.overflow_mul-room
-overflow_mul-room c = let z = c in omega (arith, c.rows_that_fit-room.ensures, capacity_fits (length z.args.table.now), z.well-formed.1.0.0)
+overflow_mul-room c = let z = c in omega (arith, c.rows_that_fit-room.ensures, capacity_fits (length z.args.table.now), z.well_formed.1.0.0)
 
 pub zero_part-requires : goal.zero_part-requires
 zero_part-requires c = let z = c in (omega arith, omega (arith, c.rows_that_fit-room.ensures, capacity_fits (length z.args.table.now)))
 
 pub opened-requires : goal.opened-requires
-opened-requires c = let d = c.before.before.before.before.before.before in usable_few d.args.chart (usable d)
+opened-requires c = let d = (goal.at.opened-requires c).Else-not-is_usable in usable_few d.args.chart (usable d)
 
 pub returns : goal.returns
 returns c =

@@ -14,19 +14,19 @@ in_table c =
     subst (InTable g.chart g.self.state g.table.now g.end) (sym e) (part_in_table g.chart g.self.state g.table.now g.end)
 
 pub overflow_mul-from : goal.overflow_mul-from
-overflow_mul-from c = omega (arith, (in_table c.before).fit, c.well-formed)
+overflow_mul-from c = omega (arith, (in_table (goal.at.overflow_mul-from c).After-rows_ending_at-part).fit, c.well_formed)
 
 pub overflow_mul-to : goal.overflow_mul-to
-overflow_mul-to c = omega (arith, (in_table c.before.before).fit, c.well-formed)
+overflow_mul-to c = omega (arith, (in_table (goal.at.overflow_mul-to c).After-rows_ending_at-part).fit, c.well_formed)
 
 pub overflow_add-to : goal.overflow_add-to
-overflow_add-to c = omega (arith, (in_table c.before.before).fit, c.well-formed)
+overflow_add-to c = omega (arith, (in_table (goal.at.overflow_add-to c).After-rows_ending_at-part).fit, c.well_formed)
 
 pub offset_bounds-table-from : goal.offset_bounds-table-from
-offset_bounds-table-from c = omega (arith, (in_table c.before.before).fit, c.well-formed)
+offset_bounds-table-from c = omega (arith, (in_table (goal.at.offset_bounds-table-from c).After-rows_ending_at-part).fit, c.well_formed)
 
 pub slice_bounds-result-end : goal.slice_bounds-result-end
-slice_bounds-result-end c = (in_table c.before.before).fit
+slice_bounds-result-end c = (in_table (goal.at.slice_bounds-result-end c).After-rows_ending_at-part).fit
 
 pub returns : goal.returns
-returns c = (in_table c.before.before.before).is
+returns c = (in_table (goal.at.returns c).After-rows_ending_at-part).is

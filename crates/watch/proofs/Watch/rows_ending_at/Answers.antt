@@ -32,17 +32,17 @@ returns-then-n-ne0 c =
     sym (rows_refused g.chart g.self.state g.table.now g.end (λ z. c.if-n-ne0.true (k.check-n.ensures ∙ z)))
 
 pub ending_before-first-requires : goal.ending_before-first-requires
-ending_before-first-requires c = ordered c.before
+ending_before-first-requires c = ordered (goal.at.ending_before-first-requires c).Else-n-ne0
 
 pub ending_by-past-requires : goal.ending_by-past-requires
-ending_by-past-requires c = ordered c.before.before
+ending_by-past-requires c = ordered (goal.at.ending_by-past-requires c).Else-n-ne0
 
 pub overflow_sub-result : goal.overflow_sub-result
 overflow_sub-result c =
     let g = c.args in
-    omega (arith, before_is c.before, by_is c, ends_low g.end g.self.state.rows g.table.now)
+    omega (arith, before_is (goal.at.overflow_sub-result c).After-ending_before-first, by_is c, ends_low g.end g.self.state.rows g.table.now)
 
 pub returns : goal.returns
 returns c =
     let g = c.args in
-    ap₂ (λ a b. row_part a (b - a)) (before_is c.before) (by_is c) ∙ sym (rows_read g.chart g.self.state g.table.now g.end (passed c.before.before.before))
+    ap₂ (λ a b. row_part a (b - a)) (before_is (goal.at.returns c).After-ending_before-first) (by_is c) ∙ sym (rows_read g.chart g.self.state g.table.now g.end (passed (goal.at.returns c).Else-n-ne0))

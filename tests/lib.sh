@@ -1,6 +1,6 @@
 # shellcheck shell=bash disable=SC2034
 # What tests/run, bench/run and examples/run share. They source it with the repository's root as the current folder.
-# Everything built goes below target/, which git ignores and `rt ci` removes.
+# Everything built goes below target/, which git ignores, but for what rt itself keeps in crates/CRATE/out.
 built=target/tests
 archives=target/staticlib
 programs=target/bin
@@ -32,27 +32,31 @@ is_first() {
     [ -z "$before" ]
 }
 
-# make_archive CRATE: the proved crate as target/staticlib/libCRATE.a, for C and Rust to link. `rt ci` writes no
-# archive, so `rt staticlib CRATE` proves the crate and builds it here. It proves one crate after another, `rt check` as
-# many at once as there are processors: so that one proves the crates below first.
+# make_archive CRATE: the proved static library as target/staticlib/libCRATE.a, for C and Rust to link. `rt ci` writes no
+# archive, so `rt lib` proves the crate here, and those below it, and builds it.
 make_archive() {
-    local below
-    read -ra below < <(sed -n "s/^$1://p" crates.txt)
-    make_proved "crates below $1" check "${below[@]}"
-    make_proved "archive of $1" staticlib "$1"
+    is_first "archive of $1" || return 0
+    heading "proved archive of $1"
+    make_proved "$1" lib
+    mkdir -p "$archives"
+    cp "crates/$1/out/lib$1.a" "$archives"
 }
 
-# make_program CRATE: the proved program as target/bin/CRATE.
-make_program() { make_proved "program $1" check "$1"; }
+# make_program CRATE: the proved program as target/bin/CRATE. `rt run` proves it, builds it and runs it once, on nothing.
+make_program() {
+    is_first "program $1" || return 0
+    heading "proved program $1"
+    make_proved "$1" run
+    mkdir -p "$programs"
+    cp "crates/$1/out/$1" "$programs"
+}
 
-# make_proved WHAT COMMAND CRATE...: what `rt COMMAND CRATE...` writes; its last line is shown, or all of them where it
-# fails.
+# make_proved CRATE COMMAND: what `rt COMMAND` writes in the crate's folder; its verdict is shown, or all that it says
+# where it fails.
 make_proved() {
-    is_first "$1" || return 0
-    heading "proved $1"
     mkdir -p target
-    rt "${@:2}" >"target/$2.log" 2>&1 || { cat "target/$2.log" >&2; fail "rt ${*:2} failed"; }
-    tail -n 1 "target/$2.log"
+    (cd "crates/$1" && rt "$2") >"target/$1.log" 2>&1 </dev/null || { cat "target/$1.log" >&2; fail "rt $2 failed for $1"; }
+    grep '^logic=proved' "target/$1.log" | tail -n 1
 }
 
 # rust SOURCE OUTPUT [WORD...]: compiles one Rust crate, release build, no crate from outside.

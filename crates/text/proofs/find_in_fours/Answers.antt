@@ -1,28 +1,26 @@
 -- `find_in_fours` meets its contract: the search of what is left, added to what was passed, is the search of the whole.
-use Prim.Native.Nat.{ℕ, ◌+◌, ◌-◌}
+use Prim.Native.Nat.{ℕ, ◌+◌, ◌-◌, ◌≤◌}
 use mathlib.Core.Path.{◌≡◌}
 use native.Mathlib.Omega.{arith}
-use lib.ListN.{drop}
+use mathlib.Core.List.{List}
+use lib.ListN.{length, get_or, drop}
 use Rattle.text.specs.Text.{index_of}
 use Rattle.text.proofs.Laws.{index_step}
-use Rattle.text.proofs.find_in_fours.Goals.{Else-s-i, Else-s-i-2, Else-s-i-3, In-loop-i}
 use Rattle.text.proofs.find_in_fours.Goals as goal
 
 -- k of the four bytes are passed
-abbrev Passed : In-loop-i → ℕ → Type 0
-Passed c k =
-    let l = c in
-    let g = l.args in
-    l.loop-i.i + k + index_of g.b (drop (l.loop-i.i + k) g.s.now) ≡ index_of g.b g.s.now
+module _ (b : ℕ) (s : List ℕ) (i : ℕ) (start : i + index_of b (drop i s) ≡ index_of b s) (four : 4 ≤ length s - i) where
+  abbrev Passed : ℕ → Type 0
+  Passed k = i + k + index_of b (drop (i + k) s) ≡ index_of b s
 
-one : (c : Else-s-i) → Passed c.before.before 1
-one c = index_step _ _ _ _ c.loop-i.invariant.1 (omega arith) (omega arith) c.if-s-i.false
+  one : (get_or s i 0 ≡ b → ⊥) → Passed 1
+  one e = index_step _ _ _ _ start (omega arith) (omega arith) e
 
-two : (c : Else-s-i-2) → Passed c.before.before.before.before 2
-two c = index_step _ _ _ _ (one c.before.before) (omega arith) (omega arith) c.if-s-i-2.false
+  two : (get_or s i 0 ≡ b → ⊥) → (get_or s (i + 1) 0 ≡ b → ⊥) → Passed 2
+  two e f = index_step _ _ _ _ (one e) (omega arith) (omega arith) f
 
-three : (c : Else-s-i-3) → Passed c.before.before.before.before.before.before 3
-three c = index_step _ _ _ _ (two c.before.before) (omega arith) (omega arith) c.if-s-i-3.false
+  three : (get_or s i 0 ≡ b → ⊥) → (get_or s (i + 1) 0 ≡ b → ⊥) → (get_or s (i + 2) 0 ≡ b → ⊥) → Passed 3
+  three e f g = index_step _ _ _ _ (two e f) (omega arith) (omega arith) g
 
 pub loop-i-init : goal.loop-i-init
 loop-i-init c = (omega arith, omega arith)
@@ -34,16 +32,16 @@ pub returns-then-s-i : goal.returns-then-s-i
 returns-then-s-i c = c.loop-i.invariant
 
 pub returns-then-s-i-2 : goal.returns-then-s-i-2
-returns-then-s-i-2 c = (omega arith, one (goal.at.returns-then-s-i-2 c).Else-s-i)
+returns-then-s-i-2 c = (omega arith, one _ _ _ c.loop-i.invariant.1 (omega arith) c.if-s-i.false)
 
 pub returns-then-s-i-3 : goal.returns-then-s-i-3
-returns-then-s-i-3 c = (omega arith, two (goal.at.returns-then-s-i-3 c).Else-s-i-2)
+returns-then-s-i-3 c = (omega arith, two _ _ _ c.loop-i.invariant.1 (omega arith) c.if-s-i.false c.if-s-i-2.false)
 
 pub returns-then-s-i-4 : goal.returns-then-s-i-4
-returns-then-s-i-4 c = (omega arith, three (goal.at.returns-then-s-i-4 c).Else-s-i-3)
+returns-then-s-i-4 c = (omega arith, three _ _ _ c.loop-i.invariant.1 (omega arith) c.if-s-i.false c.if-s-i-2.false c.if-s-i-3.false)
 
 pub loop-i-preserved : goal.loop-i-preserved
-loop-i-preserved c = (omega arith, index_step _ _ _ _ (three (goal.at.loop-i-preserved c).Else-s-i-3) (omega arith) (omega arith) c.if-s-i-4.false)
+loop-i-preserved c = (omega arith, index_step _ _ _ _ (three _ _ _ c.loop-i.invariant.1 (omega arith) c.if-s-i.false c.if-s-i-2.false c.if-s-i-3.false) (omega arith) (omega arith) c.if-s-i-4.false)
 
 pub returns : goal.returns
 returns c = c.loop-i.invariant

@@ -17,10 +17,10 @@ few s = written_instant_few s.args.x s.ranges.x
 
 written : (c : After-write_instant-n) →
     let g = c.args in
-    (c.write_instant-n.result ≡ length (spelled_instant g.x)) × (with_part g.out.now g.at c.write_instant-n.new.1.0 ≡ sets g.out.now g.at (spelled_instant g.x))
+    (c.write_instant-n.result ≡ length (spelled_instant g.x)) × (with_part g.out.now g.at c.write_instant-n.new.out ≡ sets g.out.now g.at (spelled_instant g.x))
 written c =
-    let s = c.before.before.before in
-    part_written (spelled_instant s.args.x) s.args.out.now s.args.at (omega (arith, few s, s.requires)) (simp (same32, s.ranges.x) at c.write_instant-n.ensures)
+    let g = c.args in
+    part_written (spelled_instant g.x) g.out.now g.at (omega (arith, written_instant_few g.x c.ranges.x, c.requires)) (simp (same32, c.ranges.x) at c.write_instant-n.ensures)
 
 pub overflow_add-result : goal.overflow_add-result
 overflow_add-result c = let s = (goal.at.overflow_add-result c).Start in

@@ -16,20 +16,15 @@ use Rattle.decimal.proofs.write_length.Goals as goal
 -- where something was written, the point and the digit have room behind it
 room : (c : Else-n-eq0) → c.write_number-n.result + 2 ≤ length c.args.out.now
 room c =
-    let d = c in
-    let e = d in
-    let g = e.args in
-    point_room (spelled_number (g.m / 10)) g.out.now 0 e.if-out-lt2.false d.write_number-n.ensures c.if-n-eq0.false
+    let g = c.args in
+    point_room (spelled_number (g.m / 10)) g.out.now 0 c.if-out-lt2.false c.write_number-n.ensures c.if-n-eq0.false
 
 kept : (c : Else-n-eq0) →
-    let d = c.before.before.before in
-    let out = d.args.out.now in
-    length (d.write_number-n.new.1.0 ++ drop (length out - 2) out) ≡ length out
+    let out = c.args.out.now in
+    length (c.write_number-n.new.out ++ drop (length out - 2) out) ≡ length out
 kept c =
-    let d = c in
-    let e = d in
-    let g = e.args in
-    point_kept (spelled_number (g.m / 10)) g.out.now 0 e.if-out-lt2.false d.write_number-n.ensures c.if-n-eq0.false
+    let g = c.args in
+    point_kept (spelled_number (g.m / 10)) g.out.now 0 c.if-out-lt2.false c.write_number-n.ensures c.if-n-eq0.false
 
 pub returns-then-out-lt2 : goal.returns-then-out-lt2
 returns-then-out-lt2 c = let g = c.args in written_none (spelled_length g.m) g.out.now (omega (arith, length_size g.m))
@@ -40,10 +35,8 @@ slice_bounds-write_number-end-2 c = sym (length-take-le _ _ (omega arith))
 pub returns-then-n-eq0 : goal.returns-then-n-eq0
 unfolding spelled_length
 returns-then-n-eq0 c =
-    let d = c in
-    let e = d in
-    let g = e.args in
-    point_none (spelled_number (g.m / 10)) g.out.now _ e.if-out-lt2.false d.write_number-n.ensures (spelled_nonempty _) c.if-n-eq0.true
+    let g = c.args in
+    point_none (spelled_number (g.m / 10)) g.out.now _ c.if-out-lt2.false c.write_number-n.ensures (spelled_nonempty _) c.if-n-eq0.true
 
 pub bounds-out-n : goal.bounds-out-n
 bounds-out-n c = omega (arith, room c, kept c)
@@ -60,7 +53,5 @@ overflow_add-result c = omega (arith, room c, c.well_formed.1.0)
 pub returns : goal.returns
 unfolding spelled_length
 returns c =
-    let d = c in
-    let e = d in
-    let g = e.args in
-    point_all (spelled_number (g.m / 10)) g.out.now _ e.if-out-lt2.false d.write_number-n.ensures c.if-n-eq0.false
+    let g = c.args in
+    point_all (spelled_number (g.m / 10)) g.out.now _ c.if-out-lt2.false c.write_number-n.ensures c.if-n-eq0.false

@@ -11,7 +11,7 @@ use Rattle.decimal.proofs.write_number_at.Goals as goal
 
 written : (c : After-write_number-n) →
     let g = c.args in
-    (c.write_number-n.result ≡ length (spelled_number g.m)) × (with_part g.out.now g.at c.write_number-n.new.1.0 ≡ sets g.out.now g.at (spelled_number g.m))
+    (c.write_number-n.result ≡ length (spelled_number g.m)) × (with_part g.out.now g.at c.write_number-n.new.out ≡ sets g.out.now g.at (spelled_number g.m))
 written c =
     let s = c in
     part_written (spelled_number s.args.m) s.args.out.now s.args.at s.requires c.write_number-n.ensures

@@ -31,12 +31,10 @@ pub returns-then-out-eq0 : goal.returns-then-out-eq0
 returns-then-out-eq0 c = rw (← minus (goal.at.returns-then-out-eq0 c).Else-z-ge0) (written_none (45 ∷ spelled_in _ _) _ (omega arith))
 
 pub returns-then-n-eq0 : goal.returns-then-n-eq0
-returns-then-n-eq0 c = let d = c in rw (← minus d.before.before.before) (minus_none _ _ d.write_unsigned-n.ensures (in_nonempty _ _) c.if-n-eq0.true)
+returns-then-n-eq0 c = rw (← minus (goal.at.returns-then-n-eq0 c).Else-z-ge0) (minus_none _ _ c.write_unsigned-n.ensures (in_nonempty _ _) c.if-n-eq0.true)
 
 pub overflow_add-result : goal.overflow_add-result
-overflow_add-result c = let d = c in
-    let e = d in
-    omega (arith, minus_most (spelled_in e.args.point e.magnitude-m.result) e.args.out.now d.write_unsigned-n.ensures)
+overflow_add-result c = omega (arith, minus_most (spelled_in c.args.point c.magnitude-m.result) c.args.out.now c.write_unsigned-n.ensures)
 
 pub returns : goal.returns
-returns c = let d = c in rw (← minus d.before.before.before) (minus_all _ _ d.write_unsigned-n.ensures (omega arith) c.if-n-eq0.false)
+returns c = rw (← minus (goal.at.returns c).Else-z-ge0) (minus_all _ _ c.write_unsigned-n.ensures (omega arith) c.if-n-eq0.false)

@@ -10,7 +10,7 @@ pub slice_bounds-read_event-start : goal.slice_bounds-read_event-start
 slice_bounds-read_event-start c = word_room event_word_lem _ c.starts_with.ensures c.if-starts_with.true
 
 pub returns-then-starts_with : goal.returns-then-starts_with
-returns-then-starts_with c = let t = c in word_read event_word_lem _ t.starts_with.ensures t.if-starts_with.true c.read_event.ensures
+returns-then-starts_with c = word_read event_word_lem _ c.starts_with.ensures c.if-starts_with.true c.read_event.ensures
 
 pub slice_bounds-read_at-count : goal.slice_bounds-read_at-count
 slice_bounds-read_at-count c = word_room clock_word_lem _ c.starts_with-2.ensures c.if-starts_with-2.true
@@ -19,7 +19,7 @@ pub slice_bounds-read_at-start : goal.slice_bounds-read_at-start
 slice_bounds-read_at-start c = word_room clock_word_lem _ c.starts_with-2.ensures c.if-starts_with-2.true
 
 pub returns-then-starts_with-2 : goal.returns-then-starts_with-2
-returns-then-starts_with-2 c = let t = c in word_read clock_word_lem _ t.starts_with-2.ensures t.if-starts_with-2.true c.read_at.ensures
+returns-then-starts_with-2 c = word_read clock_word_lem _ c.starts_with-2.ensures c.if-starts_with-2.true c.read_at.ensures
 
 pub slice_bounds-read_at-count-then-starts_with-3 : goal.slice_bounds-read_at-count-then-starts_with-3
 slice_bounds-read_at-count-then-starts_with-3 c = word_room forget_word_lem _ c.starts_with-3.ensures c.if-starts_with-3.true
@@ -28,7 +28,7 @@ pub slice_bounds-read_at-start-then-starts_with-3 : goal.slice_bounds-read_at-st
 slice_bounds-read_at-start-then-starts_with-3 c = word_room forget_word_lem _ c.starts_with-3.ensures c.if-starts_with-3.true
 
 pub returns-then-starts_with-3 : goal.returns-then-starts_with-3
-returns-then-starts_with-3 c = let t = c in word_read forget_word_lem _ t.starts_with-3.ensures t.if-starts_with-3.true c.read_at-then-starts_with-3.ensures
+returns-then-starts_with-3 c = word_read forget_word_lem _ c.starts_with-3.ensures c.if-starts_with-3.true c.read_at-then-starts_with-3.ensures
 
 pub slice_bounds-read_at-count-then-starts_with-4 : goal.slice_bounds-read_at-count-then-starts_with-4
 slice_bounds-read_at-count-then-starts_with-4 c = word_room open_word_lem _ c.starts_with-4.ensures c.if-starts_with-4.true
@@ -37,14 +37,12 @@ pub slice_bounds-read_at-start-then-starts_with-4 : goal.slice_bounds-read_at-st
 slice_bounds-read_at-start-then-starts_with-4 c = word_room open_word_lem _ c.starts_with-4.ensures c.if-starts_with-4.true
 
 pub returns-then-starts_with-4 : goal.returns-then-starts_with-4
-returns-then-starts_with-4 c = let t = c in word_read open_word_lem _ t.starts_with-4.ensures t.if-starts_with-4.true c.read_at-then-starts_with-4.ensures
+returns-then-starts_with-4 c = word_read open_word_lem _ c.starts_with-4.ensures c.if-starts_with-4.true c.read_at-then-starts_with-4.ensures
 
 pub returns : goal.returns
-returns c = let f = c in
-    let k = f in
-    let e = k in
+returns c =
     no_call _
     (sym c.starts_with-4.ensures ∙ c.if-starts_with-4.false)
-    (sym e.starts_with.ensures ∙ e.if-starts_with.false)
-    (sym k.starts_with-2.ensures ∙ k.if-starts_with-2.false)
-    (sym f.starts_with-3.ensures ∙ f.if-starts_with-3.false)
+    (sym c.starts_with.ensures ∙ c.if-starts_with.false)
+    (sym c.starts_with-2.ensures ∙ c.if-starts_with-2.false)
+    (sym c.starts_with-3.ensures ∙ c.if-starts_with-3.false)

@@ -2,7 +2,6 @@
 use Prim.Native.Nat.{◌-◌}
 use mathlib.Core.Path.{◌≡◌, refl, sym, ◌∙◌}
 use native.Mathlib.Omega.{arith}
-use borrow.Author.Tests.{not-true, not-false}
 use Rattle.chart.proofs.Below.{none_below, one_more}
 use Rattle.chart.proofs.Charts.{usable_none, usable_over, usable_broken, usable}
 use Rattle.chart.proofs.is_usable.Goals as goal
@@ -19,15 +18,15 @@ loop-i-init c = (omega arith, omega arith, omega arith, refl, none_below _)
 pub returns-then-not-entry_fits : goal.returns-then-not-entry_fits
 returns-then-not-entry_fits c =
     let l = c in
-    sym (usable_broken _ l.loop-i.i (omega arith) (sym c.entry_fits.ensures ∙ not-true _ c.if-not-entry_fits.true))
+    sym (usable_broken _ l.loop-i.i (omega arith) (sym c.entry_fits.ensures ∙ c.if-not-entry_fits.true))
 
 pub loop-i-preserved : goal.loop-i-preserved
 loop-i-preserved c =
     let l = c in
-    (omega arith, omega arith, omega arith, refl, one_more _ _ l.loop-i.invariant.4 (sym c.entry_fits.ensures ∙ not-false _ c.if-not-entry_fits.false))
+    (omega arith, omega arith, omega arith, refl, one_more _ _ l.loop-i.invariant.4 (sym c.entry_fits.ensures ∙ c.if-not-entry_fits.false))
 
 pub returns : goal.returns
 returns c =
     let l = c in
-    let all : l.loop-i.i ≡ l.args.t1.count = omega arith in
+    let all : l.loop-i.i ≡ l.args.chart.count = omega arith in
     sym (usable _ (omega arith) (omega arith) (rw (← all) l.loop-i.invariant.4))

@@ -28,28 +28,28 @@ pub loop-k-init : goal.loop-k-init
 loop-k-init c = (omega arith, c.if-s-n.false, refl)
 
 pub overflow_add-i : goal.overflow_add-i
-overflow_add-i c = let s = (goal.at.overflow_add-i c).After-way_told-1 in omega (arith, (lent s).small)
+overflow_add-i c = let s = (goal.at.overflow_add-i c).Start in omega (arith, (lent s).small)
 
 pub bounds-letters-i : goal.bounds-letters-i
-bounds-letters-i c = let s = (goal.at.bounds-letters-i c).After-n-1 in omega (arith, (lent s).small)
+bounds-letters-i c = let s = (goal.at.bounds-letters-i c).Start in omega (arith, (lent s).small)
 
 pub returns-then-s-k : goal.returns-then-s-k
 returns-then-s-k c =
     let l = c in
     let g = l.args in
-    let w = lent l.before.before.before in
+    let w = lent (goal.at.returns-then-s-k c).Start in
     sym (same_not g.s.now (get_or words g.i []) l.loop-k.k (omega arith) (omega (arith, w.size)) (λ e. c.if-s-k.true (e ∙ w.letter l.loop-k.k (omega arith)))) ∙ l.loop-k.invariant.2
 
 pub loop-k-preserved : goal.loop-k-preserved
 loop-k-preserved c =
     let l = c in
     let g = l.args in
-    let w = lent l.before.before.before in
+    let w = lent (goal.at.loop-k-preserved c).Start in
     (omega arith, l.loop-k.invariant.1, sym (same_on g.s.now (get_or words g.i []) l.loop-k.k (omega arith) (omega (arith, w.size)) (c.if-s-k.false ∙ sym (w.letter l.loop-k.k (omega arith)))) ∙ l.loop-k.invariant.2)
 
 pub returns : goal.returns
 returns c =
     let l = c in
     let g = l.args in
-    let w = lent l.before.before.before in
+    let w = lent (goal.at.returns c).Start in
     sym (same_end g.s.now (get_or words g.i []) l.loop-k.k (omega arith) (omega (arith, w.size))) ∙ l.loop-k.invariant.2

@@ -18,12 +18,12 @@ pub returns-then-is_word : goal.returns-then-is_word
 unfolding operator_of
 returns-then-is_word c =
     let l = c in
-    omega (arith, place_hit l.args.s.now words l.loop-i.i (omega (arith, word_count)) (sym c.is_IsWord.ensures ∙ c.if-is_word.true))
+    omega (arith, place_hit l.args.s.now words l.loop-i.i (omega (arith, word_count)) (sym c.is_word.ensures ∙ c.if-is_word.true))
 
 pub loop-i-preserved : goal.loop-i-preserved
 loop-i-preserved c =
     let l = c in
-    (omega arith, omega (arith, place_on l.args.s.now words l.loop-i.i (omega (arith, word_count)) (sym c.is_IsWord.ensures ∙ c.if-is_word.false)))
+    (omega arith, omega (arith, place_on l.args.s.now words l.loop-i.i (omega (arith, word_count)) (sym c.is_word.ensures ∙ c.if-is_word.false)))
 
 pub returns : goal.returns
 unfolding operator_of

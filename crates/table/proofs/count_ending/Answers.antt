@@ -12,11 +12,9 @@ use Rattle.table.proofs.count_ending.Goals.{After-ends_before}
 use Rattle.table.proofs.count_ending.Goals as goal
 
 -- the test of the middle row
-tested : (c : After-ends_before) → let l = c.before.before.before in let g = l.args in c.ends_before.result ≡ ends_before g.included (to_z w64 (of_z w64 g.e)) (cell g.table.now (l.loop-low.low + (l.loop-low.high - l.loop-low.low) / 2) 4)
+tested : (c : After-ends_before) → c.ends_before.result ≡ ends_before c.args.included (to_z w64 (of_z w64 c.args.e)) (cell c.args.table.now (c.loop-low.low + (c.loop-low.high - c.loop-low.low) / 2) 4)
 tested c =
-    let l = c in
-    let g = l.args in
-    let f : SFits w32 (cell g.table.now (l.loop-low.low + (l.loop-low.high - l.loop-low.low) / 2) 4) = record { sfits = c.end-1.given } in
+    let f : SFits w32 (cell c.args.table.now (c.loop-low.low + (c.loop-low.high - c.loop-low.low) / 2) 4) = record { sfits = c.end-1.given } in
     simp (same32, f) at c.ends_before.ensures
 
 pub loop-low-init : goal.loop-low-init
@@ -24,16 +22,13 @@ loop-low-init c = search_holds _ _ _ _
 
 pub loop-low-preserved-then-ends_before : goal.loop-low-preserved-then-ends_before
 loop-low-preserved-then-ends_before c =
-    let l = c in
-    search_up _ _ _ _ l.requires.1 _ _ l.loop-low.invariant _ (omega arith) (omega arith) (sym (tested (goal.at.loop-low-preserved-then-ends_before c).After-ends_before) ∙ c.if-ends_before.true)
+    search_up _ _ _ _ c.requires.1 _ _ c.loop-low.invariant _ (omega arith) (omega arith) (sym (tested (goal.at.loop-low-preserved-then-ends_before c).After-ends_before) ∙ c.if-ends_before.true)
 
 pub loop-low-preserved : goal.loop-low-preserved
 loop-low-preserved c =
-    let l = c in
-    search_down _ _ _ _ l.requires.1 _ _ l.loop-low.invariant _ (omega arith) (omega arith) (sym (tested (goal.at.loop-low-preserved c).After-ends_before) ∙ c.if-ends_before.false)
+    search_down _ _ _ _ c.requires.1 _ _ c.loop-low.invariant _ (omega arith) (omega arith) (sym (tested (goal.at.loop-low-preserved c).After-ends_before) ∙ c.if-ends_before.false)
 
 pub returns : goal.returns
 returns c =
-    let l = c in
-    let s = simp (same64, l.ranges.e) at l.loop-low.invariant in
+    let s = simp (same64, c.ranges.e) at c.loop-low.invariant in
     search_ends _ _ _ _ _ _ s c.loop-low-test.false

@@ -9,6 +9,7 @@ use lib.ListN.{length}
 use native.Mathlib.Omega.{arith}
 use mir.Syntax.{w32}
 use mir.Val.{SFits, to_z, of_z}
+use Rattle.std.proofs.Common.{rules}
 use Rattle.interval.specs.Instants.{eq_z}
 use Rattle.interval.proofs.Machine.{same32}
 use Rattle.model.specs.Lists.{each}
@@ -28,9 +29,8 @@ held c = let a = c.requires in omega (arith, a.held, a.fit, a.inside)
 -- the first candidate
 first : (c : After-first_of-i) → let g = c.args in Found (to_z w32 (of_z w32 g.a)) g.f.first g.f.end g.t.now c.first_of-i.result
 first c =
-    let s = c in
-    let g = s.args in
-    found g.n g.t.now g.t.now (λ i k p q. refl) _ g.f.first g.f.end c.first_of-i.result s.requires.few s.requires.inside c.first_of-i.ensures
+    let g = c.args in
+    found g.n g.t.now g.t.now (λ i k p q. refl) _ g.f.first g.f.end c.first_of-i.result c.requires.few c.requires.inside c.first_of-i.ensures
 
 -- the place where each search begins
 top_below : (c : After-top_of-top) → c.top_of-top.result ≤ c.args.f.end
@@ -56,29 +56,25 @@ module _ (r : After-row_at-row) where
 -- the row before place j is within the candidate
 within : (c : After-is_within) → let l = c.before.before.before in c.is_within.result ≡ is_within l.row_at-row.result.start (t (o l.before)) l.loop-row.j
 within c =
-    let l = c in
-    let f : SFits w32 l.row_at-row.result.start = record { sfits = c.struct_told-1.given.1.1.1.0.1 } in
+    let f : SFits w32 c.row_at-row.result.start = search rules in
     simp (same32 _ f) at c.is_within.ensures
 
 some_left : (c : In-loop-row) → 0 < c.loop-row.j
 some_left c =
-    let l = c in
-    let r = l.before in
-    within_some (s (o r)).args.edges (B (o r)) r.row_at-row.result.start r.row_at-row.result.end (t (o r)) l.loop-row.j (sym (within c.before) ∙ c.loop-row-test.true)
+    let r = c.before in
+    within_some (s (o r)).args.edges (B (o r)) r.row_at-row.result.start r.row_at-row.result.end (t (o r)) c.loop-row.j (sym (within c.before) ∙ c.loop-row-test.true)
 
 -- no row forbids the candidate
 free : (c : After-loop-row) → let r = c.before.before.before.before.before in is_barred r (top (o r)) ≡ false
 free c =
-    let l = c in
-    let r = l.before in
-    sym l.loop-row.invariant.1 ∙ forbidden_end (s (o r)).args.edges (B (o r)) r.row_at-row.result.start r.row_at-row.result.end (t (o r)) l.loop-row.j (sym (within c.before) ∙ c.loop-row-test.false)
+    let r = c.before in
+    sym c.loop-row.invariant.1 ∙ forbidden_end (s (o r)).args.edges (B (o r)) r.row_at-row.result.start r.row_at-row.result.end (t (o r)) c.loop-row.j (sym (within c.before) ∙ c.loop-row-test.false)
 
 -- what was to be appended
 whole : (c : After-top_of-top) → let s = c.before.before.before.before.before in let g = s.args in each (absence_row g.edges (nat_abs g.f.entry) g.f.instant (to_z w32 (of_z w32 g.a)) (to_z w32 (of_z w32 g.b)) c.top_of-top.result g.t.now) (span g.f.first g.f.end) ≡ absence_rows g.edges (nat_abs g.f.entry) g.f.instant g.a g.b g.f.first g.f.end g.t.now
 unfolding absence_rows
 whole c =
-    let s = c in
-    simp (same32 _ s.ranges.a, same32 _ s.ranges.b) (simp (simp (same32 _ s.ranges.b) at c.top_of-top.ensures))
+    simp (same32 _ c.ranges.a, same32 _ c.ranges.b) (simp (simp (same32 _ c.ranges.b) at c.top_of-top.ensures))
 
 pub first_of-i-requires : goal.first_of-i-requires
 first_of-i-requires c = let s = c.before in (s.requires.few, held s)
@@ -90,10 +86,9 @@ pub returns-then-end-i : goal.returns-then-end-i
 unfolding absence_rows
 returns-then-end-i c =
     let d = (goal.at.returns-then-end-i c).After-first_of-i in
-    let s = d in
-    let g = s.args in
+    let g = d.args in
     let f = first d in
-    simp (same32 _ s.ranges.a) at (over _ d.first_of-i.result g.f.end (past _ _ _ (begin _ g.f.since _ _ g.t.now s.requires.fit) _ f.least f.most (λ j p q. absence_other g.edges (nat_abs g.f.entry) g.f.instant _ g.b (top_of g.b g.f.end g.t.now) g.t.now j (f.none j p q))) c.if-end-i.true)
+    simp (same32 _ d.ranges.a) at (over _ d.first_of-i.result g.f.end (past _ _ _ (begin _ g.f.since _ _ g.t.now d.requires.fit) _ f.least f.most (λ j p q. absence_other g.edges (nat_abs g.f.entry) g.f.instant _ g.b (top_of g.b g.f.end g.t.now) g.t.now j (f.none j p q))) c.if-end-i.true)
 
 pub top_of-top-requires : goal.top_of-top-requires
 top_of-top-requires c = held (goal.at.top_of-top-requires c).Start
@@ -101,13 +96,12 @@ top_of-top-requires c = held (goal.at.top_of-top-requires c).Start
 pub candidates-init : goal.candidates-init
 candidates-init c =
     let d = (goal.at.candidates-init c).Start in
-    let s = d in
-    let g = s.args in
+    let g = d.args in
     let f = first d in
-    past _ _ _ (begin _ _ _ _ _ s.requires.fit) _ f.least f.most (λ j p q. absence_other g.edges (nat_abs g.f.entry) g.f.instant _ _ c.top_of-top.result g.t.now j (f.none j p q))
+    past _ _ _ (begin _ _ _ _ _ d.requires.fit) _ f.least f.most (λ j p q. absence_other g.edges (nat_abs g.f.entry) g.f.instant _ _ c.top_of-top.result g.t.now j (f.none j p q))
 
 pub is_of-requires : goal.is_of-requires
-is_of-requires c = let k = c in omega (arith, held k.before.before.before.before.before.before, k.candidates.invariant.size)
+is_of-requires c = omega (arith, held c.before.before.before.before.before.before, c.candidates.invariant.size)
 
 pub row_at-row-requires : goal.row_at-row-requires
 row_at-row-requires c = let d = (goal.at.row_at-row-requires c).In-candidates in omega (arith, low d, long d)
@@ -116,13 +110,13 @@ pub loop-row-init : goal.loop-row-init
 loop-row-init c = (omega arith, refl)
 
 pub is_within-requires : goal.is_within-requires
-is_within-requires c = let l = c in let d = o l.before in omega (arith, long d, top_below (k d).before, l.loop-row.invariant.0)
+is_within-requires c = let d = o c.before in omega (arith, long d, top_below (k d).before, c.loop-row.invariant.0)
 
 pub overflow_sub-j : goal.overflow_sub-j
 overflow_sub-j c = omega (arith, some_left c)
 
 pub is_forbidding_row-requires : goal.is_forbidding_row-requires
-is_forbidding_row-requires c = let y = (goal.at.is_forbidding_row-requires c).After-is_within in let l = y in let d = o l.before in omega (arith, some_left y, long d, top_below (k d).before, l.loop-row.invariant.0)
+is_forbidding_row-requires c = let y = (goal.at.is_forbidding_row-requires c).After-is_within in let d = o y.before in omega (arith, some_left y, long d, top_below (k d).before, y.loop-row.invariant.0)
 
 pub candidates-smaller-then-is_forbidding_row : goal.candidates-smaller-then-is_forbidding_row
 candidates-smaller-then-is_forbidding_row c = omega (arith, low (o (goal.at.candidates-smaller-then-is_forbidding_row c).After-row_at-row))
@@ -130,22 +124,18 @@ candidates-smaller-then-is_forbidding_row c = omega (arith, low (o (goal.at.cand
 -- a candidate that is forbidden
 pub candidates-preserved-then-is_forbidding_row : goal.candidates-preserved-then-is_forbidding_row
 candidates-preserved-then-is_forbidding_row c =
-    let y = c in
-    let l = y in
-    let r = l.before in
-    let hit = forbidden_one (s (o r)).args.edges (B (o r)) r.row_at-row.result.start r.row_at-row.result.end (t (o r)) l.loop-row.j (sym (within y.before) ∙ y.loop-row-test.true) (sym c.is_forbidding_row.ensures ∙ c.if-is_forbidding_row.true) in
-    skip _ (i (o r)) (end (o r)) (k (o r)).candidates.inv (low (o r)) (barred r (sym l.loop-row.invariant.1 ∙ hit))
+    let r = c.before in
+    let hit = forbidden_one (s (o r)).args.edges (B (o r)) r.row_at-row.result.start r.row_at-row.result.end (t (o r)) c.loop-row.j (sym (within c.before) ∙ c.loop-row-test.true) (sym c.is_forbidding_row.ensures ∙ c.if-is_forbidding_row.true) in
+    skip _ (i (o r)) (end (o r)) (k (o r)).candidates.inv (low (o r)) (barred r (sym c.loop-row.invariant.1 ∙ hit))
 
 pub loop-row-smaller : goal.loop-row-smaller
 loop-row-smaller c = omega (arith, some_left (goal.at.loop-row-smaller c).In-loop-row)
 
 pub loop-row-preserved : goal.loop-row-preserved
 loop-row-preserved c =
-    let y = c in
-    let l = y in
-    let r = l.before in
-    let on = forbidden_on (s (o r)).args.edges (B (o r)) r.row_at-row.result.start r.row_at-row.result.end (t (o r)) l.loop-row.j (sym (within y.before) ∙ y.loop-row-test.true) (sym c.is_forbidding_row.ensures ∙ c.if-is_forbidding_row.false) in
-    (omega (arith, l.loop-row.invariant.0), sym on ∙ l.loop-row.invariant.1)
+    let r = c.before in
+    let on = forbidden_on (s (o r)).args.edges (B (o r)) r.row_at-row.result.start r.row_at-row.result.end (t (o r)) c.loop-row.j (sym (within c.before) ∙ c.loop-row-test.true) (sym c.is_forbidding_row.ensures ∙ c.if-is_forbidding_row.false) in
+    (omega (arith, c.loop-row.invariant.0), sym on ∙ c.loop-row.invariant.1)
 
 pub push_part-count-requires : goal.push_part-count-requires
 push_part-count-requires c =
@@ -154,15 +144,13 @@ push_part-count-requires c =
 
 pub shape_of-t-then-room-count : goal.shape_of-t-then-room-count
 shape_of-t-then-room-count c =
-    let d = c in
-    d.push_part-count.auto.0 ∙ (k (o d.before.before.before.before.before.before.before)).candidates.inv.size
+    c.push_part-count.auto.0 ∙ (k (o c.before.before.before.before.before.before.before)).candidates.inv.size
 
 pub returns-then-room-count : goal.returns-then-room-count
 returns-then-room-count c =
-    let d = c in
-    let y = d.before.before in
+    let y = c.before.before in
     let r = y.before.before.before.before.before in
-    simp (whole (k (o r)).before) at (stop _ (i (o r)) (end (o r)) (k (o r)).candidates.inv (low (o r)) (stands r (free y)) d.push_part-count.ensures c.if-room-count.true)
+    simp (whole (k (o r)).before) at (stop _ (i (o r)) (end (o r)) (k (o r)).candidates.inv (low (o r)) (stands r (free y)) c.push_part-count.ensures c.if-room-count.true)
 
 pub candidates-smaller-else-room-count : goal.candidates-smaller-else-room-count
 candidates-smaller-else-room-count c = omega (arith, low (o (goal.at.candidates-smaller-else-room-count c).After-row_at-row))
@@ -170,10 +158,9 @@ candidates-smaller-else-room-count c = omega (arith, low (o (goal.at.candidates-
 -- a candidate that is appended
 pub candidates-preserved-else-room-count : goal.candidates-preserved-else-room-count
 candidates-preserved-else-room-count c =
-    let d = c in
-    let y = d.before.before in
+    let y = c.before.before in
     let r = y.before.before.before.before.before in
-    turn _ (i (o r)) (end (o r)) (k (o r)).candidates.inv (low (o r)) (stands r (free y)) d.push_part-count.ensures c.if-room-count.false
+    turn _ (i (o r)) (end (o r)) (k (o r)).candidates.inv (low (o r)) (stands r (free y)) c.push_part-count.ensures c.if-room-count.false
 
 pub candidates-smaller : goal.candidates-smaller
 candidates-smaller c = omega (arith, low (goal.at.candidates-smaller c).After-is_of)
@@ -189,5 +176,4 @@ shape_of-t c = c.candidates.invariant.size
 
 pub returns : goal.returns
 returns c =
-    let k = c in
-    simp (whole k.before) at (over _ k.candidates.i k.args.f.end k.candidates.invariant (omega arith))
+    simp (whole c.before) at (over _ c.candidates.i c.args.f.end c.candidates.invariant (omega arith))

@@ -10,6 +10,7 @@ use lib.Signed.{lt_z}
 use mir.Syntax.{w32}
 use mir.Val.{SFits, to_z, of_z}
 use mir.ValLaws.{to_z_pos}
+use Rattle.std.proofs.Common.{rules}
 use Rattle.interval.proofs.Machine.{same32}
 use Rattle.interval.proofs.Signed.{lt_true, is_lt, is_le, le_z→, add_fact}
 use Rattle.chart.proofs.Usable.{usable_few, usable_fits}
@@ -41,14 +42,13 @@ below c = omega arith
 -- an entry's number
 number : (c : In-loop-i) → (c.loop-i.i < 32) × (to_z w32 c.loop-i.i ≡ pos c.loop-i.i)
 number c =
-    let s = c in
-    let few = usable_few s.args.t1 s.requires.0 in
+    let few = usable_few c.args.t1 c.requires.0 in
     let low : c.loop-i.i < 32 = omega arith in
     (low, to_z_pos w32 c.loop-i.i (omega arith))
 
 -- the instant, as it is read
 instant : (c : After-struct_told-in-loop-i-1) → SFits w32 c.args.jump.instant
-instant c = record { sfits = c.struct_told-in-loop-i-1.given.0.1 }
+instant c = search rules
 
 -- the limit is behind the instant
 behind : (c : At-loop-i) → lt_z c.args.jump.instant (to_z w32 c.loop-i.next) ≡ true
@@ -68,23 +68,22 @@ module _ (c : After-struct_told-in-loop-i-2-1) where
   turned l v z =
       let g = (start d).args in
       let x = (at d).loop in
-      let next : SFits w32 d.entry-rows.result.next = record { sfits = c.struct_told-in-loop-i-2-1.given.1.0.1 } in
+      let next : SFits w32 d.entry-rows.result.next = search rules in
       let m = (known d).more l v z in
       let due = next_more _ _ (o d +ℤ pos 1) g.jump.mark (to_z w32 x.next) d.entry-rows.result.next x.inv.4 (next_told d) in
       rw (same32 _ next, m.0, ends_more g.t1 g.since.now (start d).pre.0 (rows_in x.n x.t) _ (i d) (below d.before.before.before.before.before) m.1) due
 
 pub loop-i-init : goal.loop-i-init
 loop-i-init c =
-    let s = c in
-    let g = s.args in
+    let g = c.args in
     let o = g.jump.instant in
     let x = g.jump.mark in
-    let f : SFits w32 x = record { sfits = c.struct_told-1.given.1.0.1 } in (
+    let f : SFits w32 x = search rules in (
       omega arith,
       refl,
-      grown_none o g.rows g.t.now s.requires.1,
-      closing_none _ _ _ _ s.requires.2,
-      rw (same32 _ f) (next_none (o +ℤ pos 1) x (omega (arith, lt_true o x s.requires.6, add_fact o (pos 1)))),
+      grown_none o g.rows g.t.now c.requires.1,
+      closing_none _ _ _ _ c.requires.2,
+      rw (same32 _ f) (next_none (o +ℤ pos 1) x (omega (arith, lt_true o x c.requires.6, add_fact o (pos 1)))),
     )
 
 pub offset_bounds-chart-i : goal.offset_bounds-chart-i
@@ -143,12 +142,10 @@ later_start_first-requires c =
 
 pub loop-i-preserved-then-first-n : goal.loop-i-preserved-then-first-n
 loop-i-preserved-then-first-n c =
-    let v = c in
-    let y = v in
-    let f = y.if-room-n.false in
-    let s = y.before.before in
-    let w = (known (d s)).next f v.later_start_first.new.0 v.later_start_first.ensures in
-    (omega (arith, below (d s).before.before.before.before.before), refl, w.1, w.0, turned s f v.later_start_first.new.0 v.later_start_first.ensures)
+    let f = c.if-room-n.false in
+    let s = c.before.before in
+    let w = (known (d s)).next f c.later_start_first.new.0 c.later_start_first.ensures in
+    (omega (arith, below (d s).before.before.before.before.before), refl, w.1, w.0, turned s f c.later_start_first.new.0 c.later_start_first.ensures)
 
 -- nothing was appended, and nothing is in order
 pub loop-i-preserved : goal.loop-i-preserved
@@ -165,11 +162,10 @@ shape_of-t c = same_size c.loop-i.invariant.3
 
 pub returns : goal.returns
 returns c =
-    let l = c in
-    let s = l.before.before in
+    let s = c.before.before in
     let g = s.args in
     let o = g.jump.instant in
-    let z : l.loop-i.i ≡ g.t1.count = omega (arith, l.loop-i.invariant.0, l.loop-i.invariant.1, c.loop-i-test.false) in (
-      simp (whole s) at (closing_ended l.loop-i.invariant.3 (left_last g.t1 g.since.now o (events_at o g.p g.codes.now) l.loop-i.i l.loop-i.n l.loop-i.t (omega arith))),
-      λ h. (grown_settled o g.rows l.loop-i.n l.loop-i.t l.loop-i.invariant.2, subst (λ x. NextDue x (o +ℤ pos 1) g.jump.mark (to_z w32 l.loop-i.next)) (ap (entry_ends g.t1 g.since.now (rows_in l.loop-i.n l.loop-i.t)) z ∙ ends_all g.t1 g.since.now (rows_in l.loop-i.n l.loop-i.t)) l.loop-i.invariant.4),
+    let z : c.loop-i.i ≡ g.t1.count = omega (arith, c.loop-i.invariant.0, c.loop-i.invariant.1, c.loop-i-test.false) in (
+      simp (whole s) at (closing_ended c.loop-i.invariant.3 (left_last g.t1 g.since.now o (events_at o g.p g.codes.now) c.loop-i.i c.loop-i.n c.loop-i.t (omega arith))),
+      λ h. (grown_settled o g.rows c.loop-i.n c.loop-i.t c.loop-i.invariant.2, subst (λ x. NextDue x (o +ℤ pos 1) g.jump.mark (to_z w32 c.loop-i.next)) (ap (entry_ends g.t1 g.since.now (rows_in c.loop-i.n c.loop-i.t)) z ∙ ends_all g.t1 g.since.now (rows_in c.loop-i.n c.loop-i.t)) c.loop-i.invariant.4),
     )

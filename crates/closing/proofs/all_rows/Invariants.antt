@@ -1,8 +1,6 @@
 use Prim.Native.Nat.{◌+◌, ◌-◌, ◌≤◌}
 use mathlib.Core.Path.{◌≡◌}
 use lib.IntN.{ℤ, pos, ◌+ℤ◌}
-use mir.Syntax.{w32}
-use mir.Val.{to_z}
 use Rattle.model.specs.Statements.{NextDue}
 use Rattle.table.specs.Table.{rows_in}
 use Rattle.closing.specs.Added.{events_at}
@@ -18,7 +16,7 @@ invariant-loop-i l =
     (l.count ≡ l.chart.count) ×
     Grown o l.rows l.n l.t ×
     Closing l.jump.room l.rows (left_rows l.chart l.since o (events_at o l.p l.codes) 0 l.rows l.initial.t) l.initial.t l.n (left_rows l.chart l.since o (events_at o l.p l.codes) l.i l.n l.t) l.t ×
-    NextDue (entry_ends l.chart l.since (rows_in l.n l.t) l.i) (o +ℤ pos 1) l.jump.mark (to_z w32 l.next)
+    NextDue (entry_ends l.chart l.since (rows_in l.n l.t) l.i) (o +ℤ pos 1) l.jump.mark l.next
 
 abbrev pub decreases-loop-i : goal.decreases-loop-i
 decreases-loop-i l = l.chart.count - l.i

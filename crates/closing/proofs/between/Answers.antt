@@ -4,6 +4,7 @@ use native.Mathlib.Omega.{arith}
 use mathlib.Core.Path.{◌≡◌, ap, ◌∙◌}
 use mir.Syntax.{w32}
 use mir.Val.{SFits}
+use Rattle.std.proofs.Common.{rules}
 use Rattle.interval.proofs.Machine.{same32}
 use Rattle.table.specs.Table.{cell}
 use Rattle.table.specs.Ends.{ending_before}
@@ -18,44 +19,37 @@ top c = simp (same32 _ c.ranges.b) at c.top_of-top.ensures
 -- of the old rows and of the new ones
 old : (c : After-latest_start-old) → let g = c.args in c.latest_start-old.result ≡ latest_start g.b (cell g.t.now 0 4) 0 (top_of g.b g.f.first g.t.now) g.t.now
 old c =
-    let r = c in
-    let p = r.before in
-    let s = p in
-    let end : SFits w32 r.row_at-earliest.result.end = record { sfits = c.struct_told-1.given.1.1.1.1.0.1 } in
-    let x = read_back _ _ end (ap (λ q. q.end) r.row_at-earliest.ensures) in
-    simp (same32 _ s.ranges.b, x, top p) at c.latest_start-old.ensures
+    let p = c.before in
+    let end : SFits w32 c.row_at-earliest.result.end = search rules in
+    let x = read_back _ _ end (ap (λ q. q.end) c.row_at-earliest.ensures) in
+    simp (same32 _ p.ranges.b, x, top p) at c.latest_start-old.ensures
 
 new : (c : After-latest_start-new) → let g = c.args in c.latest_start-new.result ≡ latest_start g.b (cell g.t.now (next_row g.b g.f.first g.f.end g.t.now) 3) (next_row g.b g.f.first g.f.end g.t.now) g.f.end g.t.now
 new c =
-    let r = c in
-    let s = r in
-    let g = s.args in
-    let start : SFits w32 r.row_at-first.result.start = record { sfits = c.struct_told-2-1.given.1.1.1.0.1 } in
-    let x = read_back _ _ start (ap (λ q. q.start) r.row_at-first.ensures) in
-    (simp (same32 _ s.ranges.b, x) at c.latest_start-new.ensures) ∙ ap (λ i. latest_start g.b (cell g.t.now i 3) i g.f.end g.t.now) s.requires.0
+    let g = c.args in
+    let start : SFits w32 c.row_at-first.result.start = search rules in
+    let x = read_back _ _ start (ap (λ q. q.start) c.row_at-first.ensures) in
+    (simp (same32 _ c.ranges.b, x) at c.latest_start-new.ensures) ∙ ap (λ i. latest_start g.b (cell g.t.now i 3) i g.f.end g.t.now) c.requires.0
 
 pub latest_start-old-requires : goal.latest_start-old-requires
 latest_start-old-requires c =
     let p = (goal.at.latest_start-old-requires c).After-top_of-top in
-    let s = p in
-    let g = s.args in
+    let g = p.args in
     let most : p.top_of-top.result ≤ g.f.end = omega (arith, top p, top_le g.b g.t.now g.f.first) in
-    (omega arith, omega arith, (λ i j h k. s.requires.4 i j h (omega arith)), (λ i h. s.requires.5 i (omega arith)))
+    (omega arith, omega arith, (λ i j h k. p.requires.4 i j h (omega arith)), (λ i h. p.requires.5 i (omega arith)))
 
 pub ending_before-requires : goal.ending_before-requires
-ending_before-requires c = let s = c in (omega arith, λ i j h k. s.requires.4 i j h (omega arith))
+ending_before-requires c = (omega arith, λ i j h k. c.requires.4 i j h (omega arith))
 
 pub ending_before-requires-2 : goal.ending_before-requires-2
-ending_before-requires-2 c = let s = c in (omega arith, λ i j h k. s.requires.4 i j h (omega arith))
+ending_before-requires-2 c = (omega arith, λ i j h k. c.requires.4 i j h (omega arith))
 
 pub returns : goal.returns
 unfolding near_from near_to
 returns c =
-    let d = c in
-    let n = d.before in
+    let n = c.before in
     let o = n.before.before.before in
-    let s = o in
-    let g = s.args in
-    let f : SFits w32 o.latest_start-old.result = record { sfits = o.latest_start-old.type-inv } in
-    let h : SFits w32 n.latest_start-new.result = record { sfits = n.latest_start-new.type-inv } in
-    (d.ending_before.ensures ∙ ap (λ z. ending_before g.f.first z g.t.now) (read_back _ _ f (old o)), c.ending_before-2.ensures ∙ ap (λ z. ending_before g.f.first z g.t.now) (read_back _ _ h (new n)))
+    let g = o.args in
+    let f : SFits w32 o.latest_start-old.result = search rules in
+    let h : SFits w32 n.latest_start-new.result = search rules in
+    (c.ending_before.ensures ∙ ap (λ z. ending_before g.f.first z g.t.now) (read_back _ _ f (old o)), c.ending_before-2.ensures ∙ ap (λ z. ending_before g.f.first z g.t.now) (read_back _ _ h (new n)))

@@ -15,32 +15,25 @@ room c = c.rows_that_fit-room.ensures
 
 pub returns-then-n-room : goal.returns-then-n-room
 returns-then-n-room c =
-    let d = c in
-    let r = d.before.before.before.before in
-    let s = r in
-    let g = s.args in
-    closed_fits g.chart g.state g.mark g.table.now s.requires.ready d.due_rows-n.result d.due_rows-n.new.1.1.1.1.1.0 (simp (room r, same32 _ s.ranges.mark) at d.due_rows-n.ensures) (rw (room r) at c.if-n-room.true)
+    let r = c.before.before.before.before in
+    let g = r.args in
+    closed_fits g.chart g.state g.mark g.table.now r.requires.ready c.due_rows-n.result c.due_rows-n.new.1.1.1.1.1.0 (simp (room r, same32 _ r.ranges.mark) at c.due_rows-n.ensures) (rw (room r) at c.if-n-room.true)
 
 pub overflow_mul-state : goal.overflow_mul-state
-overflow_mul-state c = let s = c in omega (arith, s.requires.ready.fit, capacity_most (length s.args.table.now))
+overflow_mul-state c = omega (arith, c.requires.ready.fit, capacity_most (length c.args.table.now))
 
 pub overflow_mul-room : goal.overflow_mul-room
 overflow_mul-room c = let r = (goal.at.overflow_mul-room c).After-rows_that_fit-room in omega (arith, room r, capacity_most (length r.args.table.now))
 
 pub zero_part-requires : goal.zero_part-requires
 zero_part-requires c =
-    let d = c in
-    let r = d.before.before.before.before in
-    let s = r in
-    let size : length d.due_rows-n.new.1.1.1.1.1.0 ≡ length s.args.table.now = d.due_rows-n.auto.1.1.1.1.1.0 in
-    (omega (arith, room r, s.requires.ready.fit), omega (arith, room r, capacity_fits (length s.args.table.now)))
+    let r = c.before.before.before.before in
+    let size : length c.due_rows-n.new.1.1.1.1.1.0 ≡ length r.args.table.now = c.due_rows-n.auto.1.1.1.1.1.0 in
+    (omega (arith, room r, r.requires.ready.fit), omega (arith, room r, capacity_fits (length r.args.table.now)))
 
 pub returns : goal.returns
 returns c =
-    let y = c in
-    let d = y in
-    let r = d.before.before.before.before in
-    let s = r in
-    let g = s.args in
-    let w = closed_full g.chart g.state g.mark g.table.now s.requires.ready d.due_rows-n.result d.due_rows-n.new.1.1.1.1.1.0 (simp (room r, same32 _ s.ranges.mark) at d.due_rows-n.ensures) (rw (room r) at y.if-n-room.false) in
+    let r = c.before.before.before.before in
+    let g = r.args in
+    let w = closed_full g.chart g.state g.mark g.table.now r.requires.ready c.due_rows-n.result c.due_rows-n.new.1.1.1.1.1.0 (simp (room r, same32 _ r.ranges.mark) at c.due_rows-n.ensures) (rw (room r) at c.if-n-room.false) in
     (w.0, rw (room r) at c.zero_part.ensures ∙ w.1)

@@ -5,6 +5,7 @@ use mathlib.Core.Path.{◌≡◌}
 use mir.Syntax.{w32, w64}
 use mir.Val.{SFits}
 use lib.IntN.{pos, ◌-ℤ◌}
+use Rattle.std.proofs.Common.{rules}
 use Rattle.interval.proofs.Machine.{same32, same64, earlier_fits}
 use Rattle.table.proofs.EndParts.{ends_low, ends_few}
 use Rattle.closing.specs.Added.{waited_from, waited_to, delayed_rows}
@@ -14,13 +15,13 @@ use Rattle.closing.proofs.delayed_rows.Goals as goal
 -- where a wait begins that ends at the instant
 module _ (c : After-earlier_by-from) where
   instant : SFits w32 c.args.f.instant
-  instant = record { sfits = c.struct_told-1.given.1.1.1.1.0.1 }
+  instant = search rules
 
   entry : SFits w32 c.args.f.entry
-  entry = record { sfits = c.struct_told-1.given.1.1.1.0.1 }
+  entry = search rules
 
   since : SFits w32 c.args.f.since
-  since = record { sfits = c.struct_told-1.given.1.1.1.1.1.0.1 }
+  since = search rules
 
   from : let g = c.args in c.earlier_by-from.result ≡ g.f.instant -ℤ pos g.d
   from = simp (same32 _ instant) at c.earlier_by-from.ensures
@@ -38,9 +39,8 @@ pub taken_rows-requires : goal.taken_rows-requires
 taken_rows-requires c =
     let y = (goal.at.taken_rows-requires c).After-count_ending-2 in
     let e = y.before.before.before.before in
-    let s = e in
-    let g = s.args in
-    let a = s.requires in
+    let g = e.args in
+    let a = e.requires in
     let o = g.f.instant -ℤ pos g.d in
     let few : waited_to g.f.instant g.d g.f.end g.t.now ≤ g.f.end = ends_few o g.f.end g.t.now in
     simp (first y.before.before, past y, same32 _ (entry e), same32 _ (instant e)) (
@@ -59,7 +59,6 @@ taken_rows-requires c =
 pub returns : goal.returns
 unfolding delayed_rows
 returns c =
-    let d = c in
-    let y = d.before.before.before in
+    let y = c.before.before.before in
     let e = y.before.before.before.before in
-    simp (first y.before.before, past y, same32 _ (entry e), same32 _ (instant e), same32 _ (since e), same32 _ e.ranges.a) at d.taken_rows.ensures
+    simp (first y.before.before, past y, same32 _ (entry e), same32 _ (instant e), same32 _ (since e), same32 _ e.ranges.a) at c.taken_rows.ensures

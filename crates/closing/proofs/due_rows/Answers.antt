@@ -8,6 +8,7 @@ use lib.IntN.{ℤ, pos, ◌+ℤ◌}
 use lib.ListN.{take, drop}
 use mir.Syntax.{w32}
 use mir.Val.{SFits, to_z, of_z}
+use Rattle.std.proofs.Common.{rules}
 use Rattle.interval.proofs.Machine.{same32}
 use Rattle.interval.proofs.Signed.{◌≤ᶻ◌, ◌<ᶻ◌, lt_true, lt_false, is_lt, le_z→}
 use Rattle.chart.specs.declared.Chart.{Chart}
@@ -30,7 +31,7 @@ use Rattle.closing.proofs.due_rows.Goals as goal
 
 -- the open instant
 opened : (c : After-struct_told-1) → SFits w32 c.args.state.instant
-opened c = record { sfits = c.struct_told-1.given.0.1 }
+opened c = search rules
 
 -- the next due instant
 module _ (c : After-struct_told-in-loop-chart-1) where
@@ -44,7 +45,7 @@ module _ (c : After-struct_told-in-loop-chart-1) where
   next = d.all-rows.result.next
 
   fit : SFits w32 next
-  fit = record { sfits = c.struct_told-in-loop-chart-1.given.1.0.1 }
+  fit = search rules
 
   settled : Settled (instant l +ℤ pos 1) d.all-rows.result.rows d.all-rows.last.1.1.0
   settled = (d.all-rows.ensures.1 c.if-room-n.false).0
@@ -62,9 +63,8 @@ module _ (c : After-struct_told-in-loop-chart-1) where
 whole : (c : After-struct_told-1) → let s = c.before.before in let g = s.args in let w = g.state in
     left g.chart g.t4 (to_z w32 (of_z w32 w.instant)) (to_z w32 (of_z w32 g.mark)) (w.events - w.pending + 1) w.pending g.t3 w.rows g.t.now ≡ drop w.rows (closed_rows g.chart w g.mark g.t.now)
 whole c =
-    let s = c in
-    let g = s.args in
-    simp (same32 _ (opened c), same32 _ s.ranges.mark, add-one, s.requires.1, s.requires.2) (instants_first g.chart g.state g.mark g.t.now)
+    let g = c.args in
+    simp (same32 _ (opened c), same32 _ c.ranges.mark, add-one, c.requires.1, c.requires.2) (instants_first g.chart g.state g.mark g.t.now)
 
 -- the instant is before the mark
 in_time : (c : In-loop-chart) → instant c.before.before <ᶻ mark c.before.before
@@ -78,13 +78,12 @@ overflow_add-first c = omega (arith, c.requires.0.most)
 
 pub loop-chart-init : goal.loop-chart-init
 loop-chart-init c =
-    let s = c in
-    let g = s.args in
-    let p = s.requires.0 in
+    let g = c.args in
+    let p = c.requires.0 in
     let o = g.state.instant in
     let settled : Settled o g.state.rows g.t.now = record { above = p.ready.entry_above; proper = p.ready.proper; ordered = p.ready.ordered; ended = p.ended } in
     let early : o <ᶻ g.mark = lt_true o g.mark p.later in
-    simp (same32 _ (opened c), same32 _ s.ranges.mark) (omega arith, omega arith, settled, closing_none _ _ _ _ (rw s.requires.3 p.ready.fit))
+    simp (same32 _ (opened c), same32 _ c.ranges.mark) (omega arith, omega arith, settled, closing_none _ _ _ _ (rw c.requires.3 p.ready.fit))
 
 pub all_rows-closed-requires : goal.all_rows-closed-requires
 all_rows-closed-requires c =

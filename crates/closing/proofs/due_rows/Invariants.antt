@@ -1,8 +1,6 @@
 use Prim.Native.Nat.{ℕ, ◌-◌, ◌≤◌}
 use mathlib.Core.List.{List}
 use lib.IntN.{ℤ}
-use mir.Syntax.{w32}
-use mir.Val.{to_z}
 use Rattle.interval.proofs.Signed.{◌≤ᶻ◌}
 use Rattle.chart.specs.declared.Chart.{Chart}
 use Rattle.model.specs.Order.{Row}
@@ -18,12 +16,12 @@ left chart since o x first k codes n t = left_instants chart since o x (events_a
 
 abbrev pub invariant-loop-chart : goal.invariant-loop-chart
 invariant-loop-chart l =
-    let o : ℤ = to_z w32 l.instant in
-    let x : ℤ = to_z w32 l.mark in
+    let o : ℤ = l.instant in
+    let x : ℤ = l.mark in
     (o ≤ᶻ x) ×
     (l.pending ≤ l.initial.pending) ×
     Settled o l.n l.t ×
-    Closing l.room l.initial.n (left l.chart l.since (to_z w32 l.initial.instant) x l.first l.initial.pending l.codes l.initial.n l.initial.t) l.initial.t l.n (left l.chart l.since o x l.first l.pending l.codes l.n l.t) l.t
+    Closing l.room l.initial.n (left l.chart l.since l.initial.instant x l.first l.initial.pending l.codes l.initial.n l.initial.t) l.initial.t l.n (left l.chart l.since o x l.first l.pending l.codes l.n l.t) l.t
 
 abbrev pub decreases-loop-chart : goal.decreases-loop-chart
-decreases-loop-chart l = instants_to (to_z w32 l.instant) (to_z w32 l.mark)
+decreases-loop-chart l = instants_to l.instant l.mark

@@ -25,15 +25,14 @@ module _ (c : After-kind_of-kind) (k : Kind) (h : c.kind_of-kind.result ≡ k) w
   operator = entry_operator_lem c.args.e k (sym c.kind_of-kind.ensures ∙ h)
 
   lower : let v = c.before in Lower k (nat_abs v.args.f.entry) v.args.e.a v.args.e.b
-  lower = let v = c in fits_lower (nat_abs v.args.f.entry) v.args.e k v.requires.2 (sym c.kind_of-kind.ensures ∙ h)
+  lower = fits_lower (nat_abs c.args.f.entry) c.args.e k c.requires.2 (sym c.kind_of-kind.ensures ∙ h)
 
 module _ (c : After-kind_of-kind) where
   -- no end behind the instant
   none : let g = c.args in NextDue [] (g.f.instant +ℤ pos 1) g.next g.next
   none =
-      let s = c in
-      let o = s.args.f.instant in
-      next_none (o +ℤ pos 1) s.args.next (omega (arith, lt_true o s.args.next s.requires.4, add_fact o (pos 1)))
+      let o = c.args.f.instant in
+      next_none (o +ℤ pos 1) c.args.next (omega (arith, lt_true o c.args.next c.requires.4, add_fact o (pos 1)))
 
   limit : SFits w32 c.args.next
   limit = c.ranges.next
@@ -91,9 +90,8 @@ overflow_cast-a-in-After c = after_fits (goal.at.overflow_cast-a-in-After c).In-
 pub after_rows-requires : goal.after_rows-requires
 after_rows-requires c =
     let y = (goal.at.after_rows-requires c).In-After in
-    let s = y in
-    let p = s.requires in
-    simp (same32 _ s.ranges.next, same32 _ (after_fits y)) (p.0, p.3, p.4, is_le (pos 0) (pos s.args.e.a) (omega arith))
+    let p = y.requires in
+    simp (same32 _ y.ranges.next, same32 _ (after_fits y)) (p.0, p.3, p.4, is_le (pos 0) (pos y.args.e.a) (omega arith))
 
 pub overflow_cast-a-in-Nearest : goal.overflow_cast-a-in-Nearest
 overflow_cast-a-in-Nearest c = (nearest_fits (goal.at.overflow_cast-a-in-Nearest c).In-Nearest-2).0
@@ -105,9 +103,8 @@ overflow_cast-b-in-Nearest c = (nearest_fits (goal.at.overflow_cast-b-in-Nearest
 pub returns-in-Event : goal.returns-in-Event
 unfolding added_rows
 returns-in-Event c =
-    let y = c in
-    let k = y.before in
-    simp (operator k _ y.in-Event.is, same32 _ (limit k)) (c.event_rows.ensures, none k)
+    let k = c.before in
+    simp (operator k _ c.in-Event.is, same32 _ (limit k)) (c.event_rows.ensures, none k)
 
 pub returns-in-Or : goal.returns-in-Or
 unfolding added_rows
@@ -143,10 +140,9 @@ returns-in-Length c =
 pub returns-in-After : goal.returns-in-After
 unfolding added_rows
 returns-in-After c =
-    let d = c in
-    let y = d.before.before in
+    let y = c.before.before in
     let k = y.before in
-    simp (operator k _ y.in-After.is) (simp (same32, after_fits y, limit k) at d.after_rows.ensures)
+    simp (operator k _ y.in-After.is) (simp (same32, after_fits y, limit k) at c.after_rows.ensures)
 
 pub returns-in-Nearest : goal.returns-in-Nearest
 unfolding added_rows

@@ -12,11 +12,11 @@ use Rattle.closing.proofs.event_rows.Goals.{Else-has_code, Then-has_code}
 use Rattle.closing.proofs.event_rows.Goals as goal
 
 -- an event of the code, and one of another
-taken : (c : Then-has_code) → let l = c in let g = l.args in serial_row (nat_abs g.f.entry) g.f.instant (g.p.first + l.loop-j.j) ∷ [] ≡ event_row (nat_abs g.f.entry) g.k g.f.instant (get_or g.codes.now l.loop-j.j 0) (g.p.first + l.loop-j.j)
+taken : (c : Then-has_code) → let g = c.args in serial_row (nat_abs g.f.entry) g.f.instant (g.p.first + c.loop-j.j) ∷ [] ≡ event_row (nat_abs g.f.entry) g.k g.f.instant (get_or g.codes.now c.loop-j.j 0) (g.p.first + c.loop-j.j)
 unfolding event_row
 taken c = simp (sym c.has_code.ensures ∙ c.if-has_code.true)
 
-other : (c : Else-has_code) → let l = c in let g = l.args in event_row (nat_abs g.f.entry) g.k g.f.instant (get_or g.codes.now l.loop-j.j 0) (g.p.first + l.loop-j.j) ≡ []
+other : (c : Else-has_code) → let g = c.args in event_row (nat_abs g.f.entry) g.k g.f.instant (get_or g.codes.now c.loop-j.j 0) (g.p.first + c.loop-j.j) ≡ []
 unfolding event_row
 other c = simp (sym c.has_code.ensures ∙ c.if-has_code.false)
 
@@ -35,35 +35,28 @@ overflow_add-p c = omega (arith, c.requires.1.most)
 
 pub push_event-count-requires : goal.push_event-count-requires
 push_event-count-requires c =
-    let l = c in
-    (appendable l.requires.0 l.loop-j.invariant.1, omega (arith, l.requires.1.most))
+    (appendable c.requires.0 c.loop-j.invariant.1, omega (arith, c.requires.1.most))
 
 pub shape_of-t-then-room-count : goal.shape_of-t-then-room-count
 shape_of-t-then-room-count c =
-    let d = c in
-    d.push_event-count.auto.0 ∙ d.loop-j.invariant.1.size
+    c.push_event-count.auto.0 ∙ c.loop-j.invariant.1.size
 
 pub returns-then-room-count : goal.returns-then-room-count
 returns-then-room-count c =
-    let d = c in
-    let y = d.before.before.before in
-    let l = y in
-    stop _ l.loop-j.j l.args.p.count l.loop-j.invariant.1 (omega arith) (taken y) d.push_event-count.ensures c.if-room-count.true
+    let y = c.before.before.before in
+    stop _ y.loop-j.j y.args.p.count y.loop-j.invariant.1 (omega arith) (taken y) c.push_event-count.ensures c.if-room-count.true
 
 pub loop-j-preserved-else-room-count : goal.loop-j-preserved-else-room-count
 loop-j-preserved-else-room-count c =
-    let d = c in
-    let y = d.before.before.before in
-    let l = y in
-    (omega arith, turn _ l.loop-j.j l.args.p.count l.loop-j.invariant.1 (omega arith) (taken y) d.push_event-count.ensures c.if-room-count.false)
+    let y = c.before.before.before in
+    (omega arith, turn _ y.loop-j.j y.args.p.count y.loop-j.invariant.1 (omega arith) (taken y) c.push_event-count.ensures c.if-room-count.false)
 
 pub loop-j-preserved : goal.loop-j-preserved
 loop-j-preserved c =
-    let l = c in
-    (omega arith, skip _ l.loop-j.j l.args.p.count l.loop-j.invariant.1 (omega arith) (other c))
+    (omega arith, skip _ c.loop-j.j c.args.p.count c.loop-j.invariant.1 (omega arith) (other c))
 
 pub shape_of-t : goal.shape_of-t
 shape_of-t c = c.loop-j.invariant.1.size
 
 pub returns : goal.returns
-returns c = let l = c in over _ l.loop-j.j l.args.p.count l.loop-j.invariant.1 (omega arith)
+returns c = over _ c.loop-j.j c.args.p.count c.loop-j.invariant.1 (omega arith)

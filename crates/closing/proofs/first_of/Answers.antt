@@ -13,15 +13,11 @@ loop-r-init c = passed_none _ _ _ _ c.requires.0
 
 pub returns-then-is_of : goal.returns-then-is_of
 returns-then-is_of c =
-    let l = c in
-    let s = l in
-    simp (same32, s.ranges.a) at (next_here (to_z w32 (of_z w32 s.args.a)) s.args.t.now l.loop-r.r s.args.n (omega arith) (sym c.is_of.ensures ∙ c.if-is_of.true) ∙ l.loop-r.invariant.same)
+    simp (same32, c.ranges.a) at (next_here (to_z w32 (of_z w32 c.args.a)) c.args.t.now c.loop-r.r c.args.n (omega arith) (sym c.is_of.ensures ∙ c.if-is_of.true) ∙ c.loop-r.invariant.same)
 
 pub loop-r-preserved : goal.loop-r-preserved
 loop-r-preserved c = passed_one _ _ _ _ _ _ c.loop-r.invariant (omega arith) refl (sym c.is_of.ensures ∙ c.if-is_of.false)
 
 pub returns : goal.returns
 returns c =
-    let l = c in
-    let s = l in
-    simp (same32, s.ranges.a) at (next_end (to_z w32 (of_z w32 s.args.a)) s.args.t.now l.loop-r.r s.args.n (omega arith) ∙ l.loop-r.invariant.same)
+    simp (same32, c.ranges.a) at (next_end (to_z w32 (of_z w32 c.args.a)) c.args.t.now c.loop-r.r c.args.n (omega arith) ∙ c.loop-r.invariant.same)

@@ -7,6 +7,7 @@ use mir.Syntax.{w32}
 use mir.Val.{SFits, to_z, of_z}
 use lib.IntN.{ℤ}
 use lib.Signed.{le_z}
+use Rattle.std.proofs.Common.{rules}
 use Rattle.interval.specs.Instants.{eq_z}
 use Rattle.interval.proofs.Machine.{same32, eq_z_yes, eq_z_no}
 use Rattle.table.specs.Table.{cell}
@@ -33,7 +34,7 @@ module _ (d : After-struct_told-in-loop-j-1) where
   k = at.loop.j - 1
 
   entry : SFits w32 reached.row-at.result.entry
-  entry = record { sfits = d.struct_told-in-loop-j-1.given.0.1 }
+  entry = search rules
 
   -- its entry, as the definition reads it
   of_b : (c : Bool) → eq_z reached.row-at.result.entry start.args.b ≡ c → eq_z (cell start.args.t.now k 0) b ≡ c
@@ -45,28 +46,21 @@ loop-j-init c = (c.requires.0, omega arith, refl)
 -- the row ends no later than the latest start so far
 pub returns-then-is_no_later : goal.returns-then-is_no_later
 returns-then-is_no_later c =
-    let d = c in
-    let k = d in
-    let r = k in
-    let l = r in
-    let s = l in
-    let g = s.args in
-    let end : SFits w32 r.row_at-row.result.end = record { sfits = k.struct_told-1.given.1.1.1.1.0.1 } in
-    let no_later : le_z (cell g.t.now (l.loop-j.j - 1) 4) (to_z w32 l.loop-j.latest) ≡ true = simp r.row_at-row.ensures at (simp (same32 _ end) at (sym d.is_no_later.ensures ∙ c.if-is_no_later.true)) in
-    simp (same32, s.ranges.b, s.ranges.x) at (latest_stop (to_z w32 (of_z w32 g.b)) g.t.now g.i (to_z w32 l.loop-j.latest) g.e l.loop-j.j (l.loop-j.j - 1) s.requires.2 s.requires.3 (omega arith) (omega arith) refl no_later ∙ l.loop-j.invariant.2)
+    let g = c.args in
+    let end : SFits w32 c.row_at-row.result.end = search rules in
+    let no_later : le_z (cell g.t.now (c.loop-j.j - 1) 4) (to_z w32 c.loop-j.latest) ≡ true = simp c.row_at-row.ensures at (simp (same32 _ end) at (sym c.is_no_later.ensures ∙ c.if-is_no_later.true)) in
+    simp (same32, c.ranges.b, c.ranges.x) at (latest_stop (to_z w32 (of_z w32 g.b)) g.t.now g.i (to_z w32 c.loop-j.latest) g.e c.loop-j.j (c.loop-j.j - 1) c.requires.2 c.requires.3 (omega arith) (omega arith) refl no_later ∙ c.loop-j.invariant.2)
 
 pub loop-j-preserved-then-row-b : goal.loop-j-preserved-then-row-b
 loop-j-preserved-then-row-b c =
-    let e = c in
-    let y = e in
-    let d = y.before in
+    let d = c.before in
     let r = reached d in
     let l = (at d).loop in
     let g = (start d).args in
-    let first : SFits w32 r.row-at.result.start = record { sfits = e.struct_told-then-row-b-1.given.1.1.1.0.1 } in
-    let f : SFits w32 c.greatest_end-latest.result = record { sfits = c.greatest_end-latest.type-inv } in
+    let first : SFits w32 r.row-at.result.start = search rules in
+    let f : SFits w32 c.greatest_end-latest.result = search rules in
     let latest = same32 _ f ∙ simp r.row-at.ensures at (simp (same32 _ first) at c.greatest_end-latest.ensures) in
-    (omega arith, omega arith, ap (λ z. latest_from (b d) g.t.now g.i z (k d - g.i)) latest ∙ latest_on (b d) g.t.now g.i (to_z w32 l.latest) l.j (k d) true (omega arith) refl (of_b d true (eq_z_yes _ _ (entry d) (start d).ranges.b y.if-row-b.true)) ∙ l.inv.2)
+    (omega arith, omega arith, ap (λ z. latest_from (b d) g.t.now g.i z (k d - g.i)) latest ∙ latest_on (b d) g.t.now g.i (to_z w32 l.latest) l.j (k d) true (omega arith) refl (of_b d true (eq_z_yes _ _ (entry d) (start d).ranges.b c.if-row-b.true)) ∙ l.inv.2)
 
 pub loop-j-preserved : goal.loop-j-preserved
 loop-j-preserved c =
@@ -77,7 +71,5 @@ loop-j-preserved c =
 
 pub returns : goal.returns
 returns c =
-    let l = c in
-    let s = l in
-    let g = s.args in
-    simp (same32, s.ranges.b, s.ranges.x) at (latest_end (to_z w32 (of_z w32 g.b)) g.t.now g.i (to_z w32 l.loop-j.latest) l.loop-j.j (omega arith) ∙ l.loop-j.invariant.2)
+    let g = c.args in
+    simp (same32, c.ranges.b, c.ranges.x) at (latest_end (to_z w32 (of_z w32 g.b)) g.t.now g.i (to_z w32 c.loop-j.latest) c.loop-j.j (omega arith) ∙ c.loop-j.invariant.2)

@@ -22,7 +22,7 @@ by_ending c v new h e =
     ap₂ (λ x y. left_by x y g.b g.f.first g.f.end g.t.now) (sym h ∙ c.Ending-of.ensures) (sym e ∙ ap (λ x. ltb x g.f.end) (first c))
 
 pub reaching_from-requires : goal.reaching_from-requires
-reaching_from-requires c = let s = c in (omega arith, s.requires.0, s.requires.1, s.requires.2)
+reaching_from-requires c = (omega arith, c.requires.0, c.requires.1, c.requires.2)
 
 pub returns-then-s-end : goal.returns-then-s-end
 returns-then-s-end c = by_ending (goal.at.returns-then-s-end c).After-next_of-s _ _ c.in-Before.is (lt-ltb _ _ c.if-s-end.true)
@@ -32,10 +32,8 @@ returns-else-s-end c = by_ending (goal.at.returns-else-s-end c).After-next_of-s 
 
 pub returns-then-s-end-2 : goal.returns-then-s-end-2
 returns-then-s-end-2 c =
-    let y = c in
-    let k = y.before.before in
-    let s = k in
-    simp (first k, same32 _ s.ranges.b) at c.reaching_from.ensures ∙ by_ending k _ _ y.in-Within.is (lt-ltb _ _ y.if-s-end-2.true)
+    let k = c.before.before in
+    simp (first k, same32 _ k.ranges.b) at c.reaching_from.ensures ∙ by_ending k _ _ c.in-Within.is (lt-ltb _ _ c.if-s-end-2.true)
 
 pub returns-else-s-end-2 : goal.returns-else-s-end-2
 returns-else-s-end-2 c = by_ending (goal.at.returns-else-s-end-2 c).After-next_of-s _ _ c.in-Within.is (le-ltb _ _ c.if-s-end-2.false)

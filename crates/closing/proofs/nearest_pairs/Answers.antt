@@ -8,6 +8,7 @@ use lib.IntN.{ℤ, nat_abs}
 use lib.Signed.{le_z}
 use mir.Syntax.{w32}
 use mir.Val.{SFits, to_z, of_z}
+use Rattle.std.proofs.Common.{rules}
 use Rattle.interval.proofs.Machine.{same32}
 use Rattle.model.specs.Lists.{each}
 use Rattle.model.specs.Order.{Row}
@@ -56,9 +57,8 @@ module _ (c : After-is_no_later) where
 
   started : c.is_no_later.result ≡ le_z (cell t s 3) limit
   started =
-      let z = c in
-      let f : SFits w32 z.row_at-row.result.start = record { sfits = c.struct_told-1.given.1.1.1.0.1 } in
-      simp z.row_at-row.ensures at (simp (same32 _ f) at c.is_no_later.ensures)
+      let f : SFits w32 c.row_at-row.result.start = search rules in
+      simp c.row_at-row.ensures at (simp (same32 _ f) at c.is_no_later.ensures)
 
   late : c.is_no_later.result ≡ false → rows s ≡ []
   late h = sym same ∙ nearest_late entry W t s limit (sym started ∙ h)
@@ -78,40 +78,33 @@ pub loop-s-init : goal.loop-s-init
 loop-s-init c = begin _ _ _ _ _ c.requires.0.fit
 
 pub row_at-row-requires : goal.row_at-row-requires
-row_at-row-requires c = let y = c in let l = y in let a = l.requires.0 in omega (arith, y.loop-s-test.true, l.loop-s.invariant.size, a.held, a.inside, a.fit)
+row_at-row-requires c = let a = c.requires.0 in omega (arith, c.loop-s-test.true, c.loop-s.invariant.size, a.held, a.inside, a.fit)
 
 pub push_pair-count-requires : goal.push_pair-count-requires
 push_pair-count-requires c =
-    let y = c in
-    let o = y.before.before.before in
+    let o = c.before.before.before in
     let a = (start o).requires.0 in
     let v = (k o).loop.invariant in
-    (appendable a v, omega (arith, (start o).requires.1, v.least), omega (arith, low o, a.inside, v.least), sym (wanted y.before) ∙ y.if-is_wanted.true)
+    (appendable a v, omega (arith, (start o).requires.1, v.least), omega (arith, low o, a.inside, v.least), sym (wanted c.before) ∙ c.if-is_wanted.true)
 
 pub shape_of-t-then-room-count : goal.shape_of-t-then-room-count
 shape_of-t-then-room-count c =
-    let d = c in
-    d.push_pair-count.auto.0 ∙ (k d.before.before.before.before.before).loop.inv.size
+    c.push_pair-count.auto.0 ∙ (k c.before.before.before.before.before).loop.inv.size
 
 pub returns-then-room-count : goal.returns-then-room-count
 returns-then-room-count c =
-    let d = c in
-    let y = d in
-    let o = y.before in
-    simp (whole (start o)) at (stop _ (s o) (end o) (k o).loop.invariant (low o) (paired o y.if-is_no_later.true) d.push_pair-count.ensures c.if-room-count.true)
+    let o = c.before in
+    simp (whole (start o)) at (stop _ (s o) (end o) (k o).loop.invariant (low o) (paired o c.if-is_no_later.true) c.push_pair-count.ensures c.if-room-count.true)
 
 pub loop-s-preserved-else-room-count : goal.loop-s-preserved-else-room-count
 loop-s-preserved-else-room-count c =
-    let d = c in
-    let y = d in
-    let o = y.before in
-    turn _ (s o) (end o) (k o).loop.invariant (low o) (paired o y.if-is_no_later.true) d.push_pair-count.ensures c.if-room-count.false
+    let o = c.before in
+    turn _ (s o) (end o) (k o).loop.invariant (low o) (paired o c.if-is_no_later.true) c.push_pair-count.ensures c.if-room-count.false
 
 pub loop-s-preserved-else-is_wanted : goal.loop-s-preserved-else-is_wanted
 loop-s-preserved-else-is_wanted c =
-    let y = c in
-    let o = y.before in
-    skip _ (s o) (end o) (k o).loop.invariant (low o) (sym (paired o y.if-is_no_later.true) ∙ pair_other (entry o) (W o) (t o) (s o) (sym (wanted (goal.at.loop-s-preserved-else-is_wanted c).After-is_wanted) ∙ c.if-is_wanted.false))
+    let o = c.before in
+    skip _ (s o) (end o) (k o).loop.invariant (low o) (sym (paired o c.if-is_no_later.true) ∙ pair_other (entry o) (W o) (t o) (s o) (sym (wanted (goal.at.loop-s-preserved-else-is_wanted c).After-is_wanted) ∙ c.if-is_wanted.false))
 
 pub loop-s-preserved : goal.loop-s-preserved
 loop-s-preserved c =
@@ -123,5 +116,4 @@ shape_of-t c = c.loop-s.invariant.size
 
 pub returns : goal.returns
 returns c =
-    let l = c in
-    simp (whole l.before) at (over _ l.loop-s.s l.args.f.end l.loop-s.invariant (omega arith))
+    simp (whole c.before) at (over _ c.loop-s.s c.args.f.end c.loop-s.invariant (omega arith))

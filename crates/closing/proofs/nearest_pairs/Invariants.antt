@@ -1,7 +1,5 @@
 use Prim.Native.Nat.{◌-◌}
 use lib.IntN.{nat_abs}
-use mir.Syntax.{w32}
-use mir.Val.{to_z}
 use Rattle.model.specs.Lists.{each}
 use Rattle.closing.specs.Added.{span, nearest_row}
 use Rattle.closing.proofs.Filling.{Filling}
@@ -9,7 +7,7 @@ use Rattle.closing.proofs.nearest_pairs.Given as goal
 
 abbrev pub invariant-loop-s : goal.invariant-loop-s
 invariant-loop-s l =
-    let rows = nearest_row (nat_abs l.f.initial) l.w (to_z w32 l.limit) l.initial.t in
+    let rows = nearest_row (nat_abs l.f.entry) l.w l.limit l.initial.t in
     Filling l.f.room l.f.since l.n (each rows (span l.f.first l.f.end)) l.initial.t l.count (each rows (span l.s l.f.end)) l.t
 
 abbrev pub decreases-loop-s : goal.decreases-loop-s

@@ -34,9 +34,8 @@ module _ (c : In-loop-r) where
 -- a turn
 turned : (c : Else-room-count) → let w = c.before.before in let i = w.before.before in Filling (start (d i)).args.f.room (start (d i)).args.f.since (start (d i)).args.n (each (rows (d i)) (span (from (d i)) (to (d i)))) (t₀ (d i)) w.nearest_with-count.result (each (rows (d i)) (span ((l i).loop.r + 1) (to (d i)))) w.nearest_with-count.new.0
 turned c =
-    let w = c in
-    let i = w.before.before in
-    turn (rows (d i)) (l i).loop.r (to (d i)) (l i).loop.invariant.1 (omega (arith, i.loop-r-test.true)) (same i) w.nearest_with-count.ensures c.if-room-count.false
+    let i = c.before.before in
+    turn (rows (d i)) (l i).loop.r (to (d i)) (l i).loop.invariant.1 (omega (arith, i.loop-r-test.true)) (same i) c.nearest_with-count.ensures c.if-room-count.false
 
 pub first_of-s-requires : goal.first_of-s-requires
 first_of-s-requires c = let s = c.before in (s.requires.0.few, held s)
@@ -46,15 +45,13 @@ shape_of-t-then-end-s c = refl
 
 pub returns-then-end-s : goal.returns-then-end-s
 returns-then-end-s c =
-    let s = c in
-    let g = s.args in
-    nothing _ g.f.since _ _ g.t.now (nearest_old g.c _ _ g.a g.b _ _ g.t.now (omega (arith, c.if-end-s.true, simp (same32 _ s.ranges.b) at c.first_of-s.ensures)))
+    let g = c.args in
+    nothing _ g.f.since _ _ g.t.now (nearest_old g.c _ _ g.a g.b _ _ g.t.now (omega (arith, c.if-end-s.true, simp (same32 _ c.ranges.b) at c.first_of-s.ensures)))
 
 pub between-rows-requires : goal.between-rows-requires
 between-rows-requires c =
-    let y = c in
-    let s = y.before.before.before in
-    (y.first_of-s.ensures, omega arith, s.requires.0.few, held s, s.requires.0.ordered, s.requires.1)
+    let s = c.before.before.before in
+    (c.first_of-s.ensures, omega arith, s.requires.0.few, held s, s.requires.0.ordered, s.requires.1)
 
 pub shape_of-t-then-to-rows : goal.shape_of-t-then-to-rows
 shape_of-t-then-to-rows c = refl
@@ -66,16 +63,14 @@ returns-then-to-rows c =
 
 pub first_of-r-requires : goal.first_of-r-requires
 first_of-r-requires c =
-    let y = c in
-    let d = y.before.before in
-    (omega (arith, y.if-to-rows.false), omega (arith, low d, held (start d)))
+    let d = c.before.before in
+    (omega (arith, c.if-to-rows.false), omega (arith, low d, held (start d)))
 
 -- the loop comes to the next row of a
 pub loop-r-init : goal.loop-r-init
 loop-r-init c =
-    let y = c in
-    let d = y.before.before in
-    visit (A d) (rows d) (from d) (to d) (begin _ (start d).args.f.since _ _ (t₀ d) (start d).requires.0.fit) (nearest_none (sought d) (entry d) (O d) (first d) (end d) (t₀ d)) (omega (arith, y.if-to-rows.false, d.between-rows.ensures.0)) (inside d) c.first_of-r.result (c.first_of-r.ensures ∙ ap (λ i. next_row (A d) i (to d) (t₀ d)) d.between-rows.ensures.0)
+    let d = c.before.before in
+    visit (A d) (rows d) (from d) (to d) (begin _ (start d).args.f.since _ _ (t₀ d) (start d).requires.0.fit) (nearest_none (sought d) (entry d) (O d) (first d) (end d) (t₀ d)) (omega (arith, c.if-to-rows.false, d.between-rows.ensures.0)) (inside d) c.first_of-r.result (c.first_of-r.ensures ∙ ap (λ i. next_row (A d) i (to d) (t₀ d)) d.between-rows.ensures.0)
 
 pub nearest_with-count-requires : goal.nearest_with-count-requires
 nearest_with-count-requires c =
@@ -84,14 +79,12 @@ nearest_with-count-requires c =
 
 pub shape_of-t-then-room-count : goal.shape_of-t-then-room-count
 shape_of-t-then-room-count c =
-    let w = c in
-    w.nearest_with-count.auto.0 ∙ (l w.before.before).loop.inv.1.size
+    c.nearest_with-count.auto.0 ∙ (l c.before.before).loop.inv.1.size
 
 pub returns-then-room-count : goal.returns-then-room-count
 returns-then-room-count c =
-    let w = c in
-    let i = w.before.before in
-    simp (whole (d i)) at (stop (rows (d i)) (l i).loop.r (to (d i)) (l i).loop.invariant.1 (omega (arith, i.loop-r-test.true)) (same i) w.nearest_with-count.ensures c.if-room-count.true)
+    let i = c.before.before in
+    simp (whole (d i)) at (stop (rows (d i)) (l i).loop.r (to (d i)) (l i).loop.invariant.1 (omega (arith, i.loop-r-test.true)) (same i) c.nearest_with-count.ensures c.if-room-count.true)
 
 pub first_of-r-requires-in-loop-r : goal.first_of-r-requires-in-loop-r
 first_of-r-requires-in-loop-r c =
@@ -101,9 +94,8 @@ first_of-r-requires-in-loop-r c =
 
 pub loop-r-smaller : goal.loop-r-smaller
 loop-r-smaller c =
-    let w = c in
-    let i = w.before.before in
-    omega (arith, i.loop-r-test.true, c.first_of-r-in-loop-r.ensures, next_least (A (d i)) w.nearest_with-count.new.0 ((l i).loop.r + 1) (to (d i)))
+    let i = c.before.before in
+    omega (arith, i.loop-r-test.true, c.first_of-r-in-loop-r.ensures, next_least (A (d i)) c.nearest_with-count.new.0 ((l i).loop.r + 1) (to (d i)))
 
 pub loop-r-preserved : goal.loop-r-preserved
 loop-r-preserved c =
@@ -117,6 +109,5 @@ shape_of-t c = c.loop-r.invariant.1.size
 
 pub returns : goal.returns
 returns c =
-    let l = c in
-    let b = l.before.before.before.before.before in
-    simp (whole b) at (over (rows b) l.loop-r.r (to b) l.loop-r.invariant.1 c.loop-r-test.false)
+    let b = c.before.before.before.before.before in
+    simp (whole b) at (over (rows b) c.loop-r.r (to b) c.loop-r.invariant.1 c.loop-r-test.false)

@@ -7,7 +7,7 @@ use Rattle.closing.proofs.nearest_rows.Given as goal
 
 abbrev pub invariant-loop-r : goal.invariant-loop-r
 invariant-loop-r l =
-    let rows = nearest_with l.k (nat_abs l.f.initial) l.f.instant l.f.first l.f.end l.initial.t in
+    let rows = nearest_with l.k (nat_abs l.f.entry) l.f.instant l.f.first l.f.end l.initial.t in
     Visiting l.k.a l.f.room l.f.since l.n (each rows (span (near_from l.k.b l.f.first l.initial.t) l.k.to)) l.initial.t rows l.k.to l.count l.t l.r
 
 abbrev pub decreases-loop-r : goal.decreases-loop-r

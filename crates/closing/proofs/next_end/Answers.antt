@@ -6,6 +6,7 @@ use mathlib.Core.Bool.{true, false}
 use mir.Syntax.{w32}
 use mir.Val.{SFits}
 use lib.IntN.{pos, ◌+ℤ◌, ◌-ℤ◌}
+use Rattle.std.proofs.Common.{rules}
 use Rattle.interval.specs.Instants.{least}
 use Rattle.interval.proofs.Signed.{◌<ᶻ◌, eq_fact, eq_told, lt_true, least_is}
 use Rattle.interval.proofs.Machine.{same32, same64, earlier_fits}
@@ -23,11 +24,10 @@ before c = lt_true c.args.last c.args.limit c.requires.2
 -- the rows that are searched
 first : (c : After-count_ending-first) → let g = c.args in c.count_ending-first.result ≡ count_ending true g.n (g.last -ℤ pos g.w.length) g.t.now
 first c =
-    let s = c in
-    let from : c.earlier_by.result ≡ s.args.last -ℤ pos s.args.w.length = simp (same32 _ s.ranges.last) at c.earlier_by.ensures in
-    simp (from, same64 _ (earlier_fits _ s.args.w.length s.ranges.last (omega arith))) at c.count_ending-first.ensures
+    let from : c.earlier_by.result ≡ c.args.last -ℤ pos c.args.w.length = simp (same32 _ c.ranges.last) at c.earlier_by.ensures in
+    simp (from, same64 _ (earlier_fits _ c.args.w.length c.ranges.last (omega arith))) at c.count_ending-first.ensures
 
-first_inside : (c : Else-n-first) → let s = c in count_ending true s.args.n (s.args.last -ℤ pos s.args.w.length) s.args.t.now < s.args.n
+first_inside : (c : Else-n-first) → count_ending true c.args.n (c.args.last -ℤ pos c.args.w.length) c.args.t.now < c.args.n
 first_inside c = simp (first c.before) at c.if-n-first.false
 
 -- the end of the wait of the first of them
@@ -69,7 +69,7 @@ returns-then-is_waited c =
     let s = k.before.before.before.before in
     let g = s.args in
     let of = sym (simp (first k.before.before) at c.is_waited.ensures) ∙ c.if-is_waited.true in
-    let fit : SFits w32 k.due_of-due.result = record { sfits = k.due_of-due.type-inv } in
+    let fit : SFits w32 k.due_of-due.result = search rules in
     subst (NextDue _ _ _) (sym (same32 _ fit ∙ due k)) (first_due g.w.since g.last g.limit g.w.operand g.w.length g.n g.t.now s.requires.0 (before s) s.requires.3 (first_inside k.before) of)
 
 pub returns-then-is_same : goal.returns-then-is_same
@@ -77,7 +77,7 @@ returns-then-is_same c =
     let k = (goal.at.returns-then-is_same c).After-due_of-due in
     let s = k.before.before.before.before in
     let g = s.args in
-    let fit : SFits w32 k.due_of-due.result = record { sfits = k.due_of-due.type-inv } in
+    let fit : SFits w32 k.due_of-due.result = search rules in
     let same = eq_told k.due_of-due.result g.limit (sym (simp (same32 _ fit, same32 _ s.ranges.limit) at c.is_same.ensures) ∙ c.if-is_same.true) in
     simp (same32 _ s.ranges.limit) (first_long g.w.since g.last g.limit g.w.operand g.w.length g.n g.t.now s.requires.0 (before s) s.requires.3 (λ l. omega (arith, same, eq_fact (due k), least_is (cell g.t.now (count_ending true g.n (g.last -ℤ pos g.w.length) g.t.now) 4 +ℤ pos g.w.length) g.limit)))
 
@@ -103,5 +103,5 @@ returns c =
     let s = start k.before in
     let g = s.args in
     let value = simp (same32 _ s.fits.limit) at c.due_of.ensures in
-    let fit : SFits w32 c.due_of.result = record { sfits = c.due_of.type-inv } in
+    let fit : SFits w32 c.due_of.result = search rules in
     subst (NextDue _ _ _) (sym (same32 _ fit ∙ value)) (found_due g.w.since g.last g.limit g.w.operand g.w.length g.n g.t.now s.pre.0 (before s) s.pre.3 _ (next k) (simp (end k.before) at c.if-end-i.false))

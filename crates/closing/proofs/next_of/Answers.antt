@@ -14,4 +14,4 @@ pub first_of-requires : goal.first_of-requires
 first_of-requires c = (c.pass_fours-r.ensures.most, c.requires.1)
 
 pub returns : goal.returns
-returns c = let s = c in simp (same32, s.ranges.a) at (c.first_of.ensures ∙ c.pass_fours-r.ensures.same)
+returns c = simp (same32, c.ranges.a) at (c.first_of.ensures ∙ c.pass_fours-r.ensures.same)

@@ -4,6 +4,7 @@ use native.Mathlib.Omega.{arith}
 use mathlib.Core.Path.{◌≡◌, sym, ◌∙◌}
 use mir.Syntax.{w32}
 use mir.Val.{SFits}
+use Rattle.std.proofs.Common.{rules}
 use Rattle.interval.proofs.Machine.{same32}
 use Rattle.closing.specs.Added.{next_row}
 use Rattle.closing.proofs.Searches.{next_least, next_most, unwaited_next, unwaited_on}
@@ -13,7 +14,7 @@ use Rattle.closing.proofs.next_waited.Goals as goal
 -- the operand, as it is read
 first : (c : After-next_of-j) → let g = c.args in c.next_of-j.result ≡ next_row g.w.operand g.i g.e g.t.now
 first c =
-    let operand : SFits w32 c.args.w.operand = record { sfits = c.struct_told-1.given.0.1 } in
+    let operand : SFits w32 c.args.w.operand = search rules in
     simp (same32 _ operand) at c.next_of-j.ensures
 
 -- a row that is not waited for
@@ -26,7 +27,7 @@ module _ (c : After-next_of-j-in-loop-j) where
 
   next : let g = start.args in c.next_of-j-in-loop-j.result ≡ next_row g.w.operand (at.loop.j + 1) g.e g.t.now
   next =
-      let operand : SFits w32 start.args.w.operand = record { sfits = c.struct_told-in-loop-j-1.given.0.1 } in
+      let operand : SFits w32 start.args.w.operand = search rules in
       simp (same32 _ operand) at c.next_of-j-in-loop-j.ensures
 
   later : (at.loop.j + 1 ≤ c.next_of-j-in-loop-j.result) × (c.next_of-j-in-loop-j.result ≤ start.args.e)
@@ -37,15 +38,13 @@ module _ (c : After-next_of-j-in-loop-j) where
 
 pub loop-j-init : goal.loop-j-init
 loop-j-init c =
-    let s = c in
-    let g = s.args in
+    let g = c.args in
     let e = first c in
-    (omega (arith, next_least g.w.operand g.t.now g.i g.e), omega (arith, next_most g.w.operand g.t.now g.i g.e s.requires.0), unwaited_next g.w.since g.w.operand g.t.now g.i g.e _ e)
+    (omega (arith, next_least g.w.operand g.t.now g.i g.e), omega (arith, next_most g.w.operand g.t.now g.i g.e c.requires.0), unwaited_next g.w.since g.w.operand g.t.now g.i g.e _ e)
 
 pub returns-then-is_waited : goal.returns-then-is_waited
 returns-then-is_waited c =
-    let l = c in
-    record { least = l.loop-j.invariant.0; none = l.loop-j.invariant.2; is = λ h. sym c.is_waited.ensures ∙ c.if-is_waited.true }
+    record { least = c.loop-j.invariant.0; none = c.loop-j.invariant.2; is = λ h. sym c.is_waited.ensures ∙ c.if-is_waited.true }
 
 pub next_of-j-requires-in-loop-j : goal.next_of-j-requires-in-loop-j
 next_of-j-requires-in-loop-j c = (omega arith, c.requires.1)
@@ -57,8 +56,7 @@ pub loop-j-preserved : goal.loop-j-preserved
 loop-j-preserved c =
     let l = at c in
     let g = (start c).args in
-    let y = c in
-    (omega (arith, (later c).0, l.loop.inv.0), (later c).1, unwaited_on g.w.since g.w.operand g.t.now g.i l.loop.j g.e _ l.loop.inv.2 (sym y.is_waited.ensures ∙ y.if-is_waited.false) (next c))
+    (omega (arith, (later c).0, l.loop.inv.0), (later c).1, unwaited_on g.w.since g.w.operand g.t.now g.i l.loop.j g.e _ l.loop.inv.2 (sym c.is_waited.ensures ∙ c.if-is_waited.false) (next c))
 
 pub returns : goal.returns
-returns c = let l = c in record { least = l.loop-j.invariant.0; none = l.loop-j.invariant.2; is = λ h. absurd (omega arith) }
+returns c = record { least = c.loop-j.invariant.0; none = c.loop-j.invariant.2; is = λ h. absurd (omega arith) }

@@ -12,7 +12,7 @@ use Rattle.closing.proofs.pass_fours.Goals as goal
 
 -- k of the four rows are passed
 abbrev OnBy : In-loop-r → ℕ → Type 0
-OnBy c k = let s = c in Passed (to_z w32 (of_z w32 s.args.a)) s.args.i s.args.n s.args.t.now (c.loop-r.r + k)
+OnBy c k = Passed (to_z w32 (of_z w32 c.args.a)) c.args.i c.args.n c.args.t.now (c.loop-r.r + k)
 
 one : (c : Else-is_of) → OnBy c.before.before 1
 one c = passed_one _ _ _ _ _ _ c.loop-r.invariant (omega arith) refl (sym c.is_of.ensures ∙ c.if-is_of.false)
@@ -30,7 +30,7 @@ pub overflow_add-r : goal.overflow_add-r
 overflow_add-r c = omega (arith, c.loop-r.invariant.most)
 
 pub returns-then-is_of : goal.returns-then-is_of
-returns-then-is_of c = let l = c in simp (same32, l.ranges.a) at l.loop-r.invariant
+returns-then-is_of c = simp (same32, c.ranges.a) at c.loop-r.invariant
 
 pub returns-then-is_of-2 : goal.returns-then-is_of-2
 returns-then-is_of-2 c = let e = (goal.at.returns-then-is_of-2 c).Else-is_of in simp (same32, e.ranges.a) at (one e)
@@ -45,4 +45,4 @@ pub loop-r-preserved : goal.loop-r-preserved
 loop-r-preserved c = passed_one _ _ _ _ _ _ (three (goal.at.loop-r-preserved c).Else-is_of-3) (omega arith) (omega arith) (sym c.is_of-in-loop-r-3.ensures ∙ c.if-is_of-4.false)
 
 pub returns : goal.returns
-returns c = let l = c in simp (same32, l.ranges.a) at l.loop-r.invariant
+returns c = simp (same32, c.ranges.a) at c.loop-r.invariant

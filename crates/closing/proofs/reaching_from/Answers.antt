@@ -2,6 +2,7 @@
 use native.Mathlib.Omega.{arith}
 use mir.Syntax.{w32}
 use mir.Val.{SFits}
+use Rattle.std.proofs.Common.{rules}
 use Rattle.interval.proofs.Machine.{same32}
 use Rattle.closing.proofs.reaching_from.Goals as goal
 
@@ -9,11 +10,9 @@ pub least_start-least-requires : goal.least_start-least-requires
 least_start-least-requires c = (omega arith, omega arith)
 
 pub ending_before-requires : goal.ending_before-requires
-ending_before-requires c = let s = c in (omega arith, s.requires.3)
+ending_before-requires c = (omega arith, c.requires.3)
 
 pub returns : goal.returns
 returns c =
-    let l = c in
-    let s = l in
-    let f : SFits w32 l.least_start-least.result = record { sfits = l.least_start-least.type-inv } in
-    simp (simp (same32 _ s.ranges.b) at l.least_start-least.ensures) at (simp (same32 _ f) at c.ending_before.ensures)
+    let f : SFits w32 c.least_start-least.result = search rules in
+    simp (simp (same32 _ c.ranges.b) at c.least_start-least.ensures) at (simp (same32 _ f) at c.ending_before.ensures)

@@ -4,6 +4,7 @@ use native.Mathlib.Omega.{arith}
 use mathlib.Core.Path.{◌≡◌, refl, sym, ap, ◌∙◌}
 use mir.Syntax.{w32}
 use mir.Val.{SFits, to_z, of_z}
+use Rattle.std.proofs.Common.{rules}
 use Rattle.interval.proofs.Machine.{same32}
 use Rattle.table.specs.Table.{stored_row}
 use Rattle.closing.specs.Added.{is_later_row}
@@ -13,8 +14,7 @@ use Rattle.closing.proofs.rival_end.Goals as goal
 
 tested : (c : After-is_later_row) → let l = c.before.before.before in let g = l.args in c.is_later_row.result ≡ is_later_row (to_z w32 (of_z w32 g.a)) g.r (stored_row g.t.now l.loop-j.j)
 tested c =
-    let l = c in
-    let g = l.args in
+    let g = c.args in
     c.is_later_row.ensures ∙ ap (is_later_row (to_z w32 (of_z w32 g.a)) g.r) c.row_at-row.ensures
 
 pub loop-j-init : goal.loop-j-init
@@ -22,21 +22,15 @@ loop-j-init c = refl
 
 pub returns-then-is_later_row : goal.returns-then-is_later_row
 returns-then-is_later_row c =
-    let y = c in
-    let d = y.before in
-    let r = d in
-    let l = r in
-    let s = l in
-    let g = s.args in
-    let end : SFits w32 r.row_at-row.result.end = record { sfits = c.struct_told-1.given.1.1.1.1.0.1 } in
-    simp (same32, s.ranges.a, s.ranges.x) at (same32 _ end ∙ ap (λ q. q.end) r.row_at-row.ensures ∙ rival_here (to_z w32 (of_z w32 g.a)) g.r g.t.now (to_z w32 (of_z w32 g.x)) l.loop-j.j g.e (omega arith) (sym (tested d) ∙ y.if-is_later_row.true) ∙ l.loop-j.invariant)
+    let d = c.before in
+    let g = d.args in
+    let end : SFits w32 d.row_at-row.result.end = search rules in
+    simp (same32, d.ranges.a, d.ranges.x) at (same32 _ end ∙ ap (λ q. q.end) d.row_at-row.ensures ∙ rival_here (to_z w32 (of_z w32 g.a)) g.r g.t.now (to_z w32 (of_z w32 g.x)) d.loop-j.j g.e (omega arith) (sym (tested d) ∙ c.if-is_later_row.true) ∙ d.loop-j.invariant)
 
 pub loop-j-preserved : goal.loop-j-preserved
 loop-j-preserved c = rival_on _ _ _ _ _ _ (omega arith) (sym (tested (goal.at.loop-j-preserved c).After-is_later_row) ∙ c.if-is_later_row.false) ∙ c.loop-j.invariant
 
 pub returns : goal.returns
 returns c =
-    let l = c in
-    let s = l in
-    let g = s.args in
-    same32 _ s.ranges.x ∙ simp (same32, s.ranges.a, s.ranges.x) at (rival_end_lem (to_z w32 (of_z w32 g.a)) g.r g.t.now (to_z w32 (of_z w32 g.x)) l.loop-j.j g.e (omega arith) ∙ l.loop-j.invariant)
+    let g = c.args in
+    same32 _ c.ranges.x ∙ simp (same32, c.ranges.a, c.ranges.x) at (rival_end_lem (to_z w32 (of_z w32 g.a)) g.r g.t.now (to_z w32 (of_z w32 g.x)) c.loop-j.j g.e (omega arith) ∙ c.loop-j.invariant)

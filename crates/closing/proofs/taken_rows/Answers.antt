@@ -13,31 +13,23 @@ loop-i-init c = begin _ _ _ _ _ c.requires.fit
 
 pub push_taken-count-requires : goal.push_taken-count-requires
 push_taken-count-requires c =
-    let l = c in
-    let a = l.requires in
-    (appendable a l.loop-i.invariant, omega (arith, a.inside, l.loop-i.invariant.least))
+    let a = c.requires in
+    (appendable a c.loop-i.invariant, omega (arith, a.inside, c.loop-i.invariant.least))
 
 pub shape_of-t-then-room-count : goal.shape_of-t-then-room-count
 shape_of-t-then-room-count c =
-    let d = c in
-    d.push_taken-count.auto.0 ∙ d.loop-i.invariant.size
+    c.push_taken-count.auto.0 ∙ c.loop-i.invariant.size
 
 pub returns-then-room-count : goal.returns-then-room-count
 unfolding taken_rows
 returns-then-room-count c =
-    let d = c in
-    let l = d in
-    let s = l in
-    let g = s.args in
-    simp (same32, s.ranges.a) at (stop _ l.loop-i.i g.f.end l.loop-i.invariant (omega arith) (taken_same g.n l.loop-i.t g.t.now l.loop-i.invariant.kept _ _ _ _ _ l.loop-i.i (omega (arith, s.requires.inside))) d.push_taken-count.ensures c.if-room-count.true)
+    let g = c.args in
+    simp (same32, c.ranges.a) at (stop _ c.loop-i.i g.f.end c.loop-i.invariant (omega arith) (taken_same g.n c.loop-i.t g.t.now c.loop-i.invariant.kept _ _ _ _ _ c.loop-i.i (omega (arith, c.requires.inside))) c.push_taken-count.ensures c.if-room-count.true)
 
 pub loop-i-preserved : goal.loop-i-preserved
 loop-i-preserved c =
-    let d = c in
-    let l = d in
-    let s = l in
-    let g = s.args in
-    turn _ l.loop-i.i g.f.end l.loop-i.invariant (omega arith) (taken_same g.n l.loop-i.t g.t.now l.loop-i.invariant.kept _ _ _ _ _ l.loop-i.i (omega (arith, s.requires.inside))) d.push_taken-count.ensures c.if-room-count.false
+    let g = c.args in
+    turn _ c.loop-i.i g.f.end c.loop-i.invariant (omega arith) (taken_same g.n c.loop-i.t g.t.now c.loop-i.invariant.kept _ _ _ _ _ c.loop-i.i (omega (arith, c.requires.inside))) c.push_taken-count.ensures c.if-room-count.false
 
 pub shape_of-t : goal.shape_of-t
 shape_of-t c = c.loop-i.invariant.size
@@ -45,6 +37,4 @@ shape_of-t c = c.loop-i.invariant.size
 pub returns : goal.returns
 unfolding taken_rows
 returns c =
-    let l = c in
-    let s = l in
-    simp (same32, s.ranges.a) at (over _ l.loop-i.i s.args.f.end l.loop-i.invariant (omega arith))
+    simp (same32, c.ranges.a) at (over _ c.loop-i.i c.args.f.end c.loop-i.invariant (omega arith))

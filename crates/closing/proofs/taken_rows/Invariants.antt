@@ -1,6 +1,4 @@
 use Prim.Native.Nat.{◌-◌}
-use mir.Syntax.{w32}
-use mir.Val.{to_z}
 use lib.IntN.{nat_abs}
 use Rattle.model.specs.Lists.{each}
 use Rattle.closing.specs.Added.{span, arm_of, taken_row}
@@ -9,7 +7,7 @@ use Rattle.closing.proofs.taken_rows.Given as goal
 
 abbrev pub invariant-loop-i : goal.invariant-loop-i
 invariant-loop-i l =
-    let rows = taken_row (arm_of l.second) (nat_abs l.f.initial) l.f.instant (to_z w32 l.a) l.taken l.initial.t in
+    let rows = taken_row (arm_of l.second) (nat_abs l.f.entry) l.f.instant l.a l.taken l.initial.t in
     Filling l.f.room l.f.since l.n (each rows (span l.f.first l.f.end)) l.initial.t l.count (each rows (span l.i l.f.end)) l.t
 
 abbrev pub decreases-loop-i : goal.decreases-loop-i

@@ -12,7 +12,7 @@ use Rattle.closing.proofs.top_in_fours.Goals as goal
 
 -- k of the four rows are passed
 abbrev DownBy : In-loop-j → ℕ → Type 0
-DownBy c k = let s = c in SameTop (to_z w32 (of_z w32 s.args.b)) s.args.n s.args.t.now (c.loop-j.j - k)
+DownBy c k = SameTop (to_z w32 (of_z w32 c.args.b)) c.args.n c.args.t.now (c.loop-j.j - k)
 
 one : (c : Else-is_of) → DownBy c.before.before 1
 one c = same_top _ _ _ _ _ c.loop-j.invariant (omega arith) refl (sym c.is_of.ensures ∙ c.if-is_of.false)
@@ -30,7 +30,7 @@ pub is_of-requires : goal.is_of-requires
 is_of-requires c = omega (arith, c.loop-j.invariant.most)
 
 pub returns-then-is_of : goal.returns-then-is_of
-returns-then-is_of c = let l = c in simp (same32, l.ranges.b) at l.loop-j.invariant
+returns-then-is_of c = simp (same32, c.ranges.b) at c.loop-j.invariant
 
 pub is_of-requires-in-loop-j : goal.is_of-requires-in-loop-j
 is_of-requires-in-loop-j c = omega (arith, c.loop-j.invariant.most)
@@ -54,4 +54,4 @@ pub loop-j-preserved : goal.loop-j-preserved
 loop-j-preserved c = same_top _ _ _ _ _ (three (goal.at.loop-j-preserved c).Else-is_of-3) (omega arith) (omega arith) (sym c.is_of-in-loop-j-3.ensures ∙ c.if-is_of-4.false)
 
 pub returns : goal.returns
-returns c = let l = c in simp (same32, l.ranges.b) at l.loop-j.invariant
+returns c = simp (same32, c.ranges.b) at c.loop-j.invariant

@@ -18,15 +18,11 @@ is_of-requires c = omega (arith, c.loop-j.invariant.most)
 
 pub returns-then-is_of : goal.returns-then-is_of
 returns-then-is_of c =
-    let l = c in
-    let s = l in
-    simp (same32, s.ranges.b) at (sym (top_here (to_z w32 (of_z w32 s.args.b)) s.args.t.now l.loop-j.j (omega arith) (sym c.is_of.ensures ∙ c.if-is_of.true)) ∙ l.loop-j.invariant.same)
+    simp (same32, c.ranges.b) at (sym (top_here (to_z w32 (of_z w32 c.args.b)) c.args.t.now c.loop-j.j (omega arith) (sym c.is_of.ensures ∙ c.if-is_of.true)) ∙ c.loop-j.invariant.same)
 
 pub loop-j-preserved : goal.loop-j-preserved
 loop-j-preserved c = same_top _ _ _ _ _ c.loop-j.invariant (omega arith) refl (sym c.is_of.ensures ∙ c.if-is_of.false)
 
 pub returns : goal.returns
 returns c =
-    let l = c in
-    let s = l in
-    simp (same32, s.ranges.b) at (sym (top_none (to_z w32 (of_z w32 s.args.b)) s.args.t.now l.loop-j.j (omega arith)) ∙ l.loop-j.invariant.same)
+    simp (same32, c.ranges.b) at (sym (top_none (to_z w32 (of_z w32 c.args.b)) c.args.t.now c.loop-j.j (omega arith)) ∙ c.loop-j.invariant.same)

@@ -33,5 +33,5 @@ returns c =
     let s = d in
     let g = s.args in
     let i = same32 _ s.ranges.f in
-    let p = parts (forget_taken g.chart g.self.state g.table.now g.f (barred d.before ∙ d.if-is_forget_refused.false)) in
+    let p = parts (forget_taken g.chart g.self.state g.table.now g.f (barred (goal.at.returns c).After-is_forget_refused ∙ d.if-is_forget_refused.false)) in
     (c.taken.ensures ∙ ap (answered 0) (m.raised.ensures ∙ ap₂ (λ a n. raised g.self.state a n) i (simp i at k.forget-n.ensures.0)) ∙ p.0, simp i at k.forget-n.ensures.1 ∙ p.1)

@@ -1,7 +1,6 @@
 -- `opening` meets its contract: 14, then 8, in the definition's order; then all rows are zeros.
 use Prim.Native.Nat.{◌*◌}
 use native.Mathlib.Omega.{arith}
-use borrow.Author.Tests.{not-true, not-false}
 use mathlib.Core.Path.{◌≡◌, sym, ap, ◌∙◌}
 use mathlib.Core.Bool.{true}
 use lib.ListN.{length}
@@ -18,7 +17,7 @@ use Rattle.watch.proofs.Watch.opening.Goals.{After-is_instant, Else-not-is_usabl
 use Rattle.watch.proofs.Watch.opening.Goals as goal
 
 usable : (c : Else-not-is_usable) → is_usable c.args.chart ≡ true
-usable c = sym c.is_usable.ensures ∙ not-false _ c.if-not-is_usable.false
+usable c = sym c.is_usable.ensures ∙ c.if-not-is_usable.false
 
 instant : (c : After-is_instant) → is_instant c.args.instant ≡ c.is_instant.result
 instant c = sym (c.is_instant.ensures ∙ ap is_instant (same32 _ c.ranges.instant))
@@ -27,15 +26,15 @@ pub returns-then-not-is_usable : goal.returns-then-not-is_usable
 returns-then-not-is_usable c =
     let u = c in
     let g = u.args in
-    let p = parts (opening_14 g.chart g.table.now g.instant (sym u.is_usable.ensures ∙ not-true _ c.if-not-is_usable.true)) in
+    let p = parts (opening_14 g.chart g.table.now g.instant (sym u.is_usable.ensures ∙ c.if-not-is_usable.true)) in
     (ap (λ w. record { refusal = 14; watch = w }) c.empty.ensures ∙ p.0, p.1)
 
 pub returns-then-not-is_instant : goal.returns-then-not-is_instant
 returns-then-not-is_instant c =
     let i = (goal.at.returns-then-not-is_instant c).After-is_instant in
-    let d = i.before in
-    let g = d.args in
-    let p = parts (opening_8 g.chart g.table.now g.instant (usable d) (instant i ∙ not-true _ c.if-not-is_instant.true)) in
+    let d = (goal.at.returns-then-not-is_instant c).Else-not-is_usable in
+    let g = c.args in
+    let p = parts (opening_8 g.chart g.table.now g.instant (usable d) (instant i ∙ c.if-not-is_instant.true)) in
     (ap (λ w. record { refusal = 8; watch = w }) c.empty-then-not-is_instant.ensures ∙ p.0, p.1)
 
 pub overflow_mul-room : goal.overflow_mul-room
@@ -49,13 +48,9 @@ opened-requires c = let d = (goal.at.opened-requires c).Else-not-is_usable in us
 
 pub returns : goal.returns
 returns c =
-    let e = c in
-    let z = e in
-    let r = z in
-    let i = r.before.before in
-    let d = i.before in
-    let s = d in
-    let g = s.args in
-    let p = parts (opening_taken g.chart g.table.now g.instant (usable d) (instant i ∙ not-false _ r.if-not-is_instant.false)) in
-    let w = e.opened.ensures ∙ ap (open_state g.chart.count) (same32 _ s.ranges.instant) in
-    (c.taken.ensures ∙ ap (answered 0) w ∙ p.0, z.zero_part.ensures ∙ ap (λ n. zeroed 0 (n * 5) g.table.now) r.rows_that_fit-room.ensures ∙ p.1)
+    let i = (goal.at.returns c).After-is_instant in
+    let d = (goal.at.returns c).Else-not-is_usable in
+    let g = c.args in
+    let p = parts (opening_taken g.chart g.table.now g.instant (usable d) (instant i ∙ c.if-not-is_instant.false)) in
+    let w = c.opened.ensures ∙ ap (open_state g.chart.count) (same32 _ c.ranges.instant) in
+    (c.taken.ensures ∙ ap (answered 0) w ∙ p.0, c.zero_part.ensures ∙ ap (λ n. zeroed 0 (n * 5) g.table.now) c.rows_that_fit-room.ensures ∙ p.1)

@@ -1,5 +1,4 @@
 -- `is_usable` meets its contract: the entries passed fit, and one that does not ends the search.
-use Prim.Native.Nat.{◌-◌}
 use mathlib.Core.Path.{◌≡◌, refl, sym, ◌∙◌}
 use native.Mathlib.Omega.{arith}
 use Rattle.chart.proofs.Below.{none_below, one_more}

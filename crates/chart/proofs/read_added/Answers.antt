@@ -1,9 +1,9 @@
 -- `read_added` meets its contract: each turn reads one line, and what is left to read gives the whole answer.
-use Prim.Native.Nat.{ℕ, ◌+◌, ◌-◌, ◌≤◌, ◌<◌}
+use Prim.Native.Nat.{ℕ, ◌+◌, ◌≤◌, ◌<◌}
 use mathlib.Core.Path.{◌≡◌, sym, ap, ◌∙◌}
 use mathlib.Core.List.{List}
 use native.Mathlib.Omega.{arith}
-use lib.ListN.{length, drop, length-drop, length-map, length-set, drop_of_length-le}
+use lib.ListN.{length, drop, length-drop, length-set, drop_of_length-le}
 use lib.Seq.{drop-drop}
 use Rattle.text.specs.Text.{lines, line_size}
 use Rattle.text.proofs.Laws.{part_from, size_le}

@@ -1,4 +1,5 @@
 -- `edges_of` meets its contract: each arm is the definition's.
+use native.Mathlib.Omega.{arith}
 use borrow.Author.Tests.{ne_eqb}
 use Rattle.chart.specs.Operators.{edges_of}
 use Rattle.chart.proofs.operator.edges_of.Goals as goal
@@ -17,4 +18,4 @@ returns-in-6 c = rw c.in-6.is
 
 pub returns-in_default : goal.returns-in_default
 unfolding edges_of
-returns-in_default c = let r = c.in_default.in_default-own.rest in simp (ne_eqb _ _ r.0.0.1, ne_eqb _ _ r.0.1, ne_eqb _ _ r.1)
+returns-in_default c = let op = c.args.op in simp (ne_eqb op 4 (λ e. omega arith), ne_eqb op 5 (λ e. omega arith), ne_eqb op 6 (λ e. omega arith))

@@ -1,4 +1,5 @@
 -- `later_kind_of` meets its contract: each arm is the definition's.
+use native.Mathlib.Omega.{arith}
 use borrow.Author.Tests.{ne_eqb}
 use Rattle.chart.proofs.operator.later_kind_of.Goals as goal
 
@@ -12,4 +13,4 @@ pub returns-in-19 : goal.returns-in-19
 returns-in-19 c = rw c.in-19.is
 
 pub returns-in_default : goal.returns-in_default
-returns-in_default c = let r = c.in_default.in_default-own.rest in simp (ne_eqb _ _ r.0.0.1, ne_eqb _ _ r.0.1, ne_eqb _ _ r.1)
+returns-in_default c = let op = c.args.op in simp (ne_eqb op 17 (λ e. omega arith), ne_eqb op 18 (λ e. omega arith), ne_eqb op 19 (λ e. omega arith))

@@ -1,4 +1,5 @@
 -- `length_test_of` meets its contract: each arm is the definition's.
+use native.Mathlib.Omega.{arith}
 use borrow.Author.Tests.{ne_eqb}
 use Rattle.chart.specs.Operators.{length_test_of}
 use Rattle.chart.proofs.operator.length_test_of.Goals as goal
@@ -13,4 +14,4 @@ returns-in-15 c = rw c.in-15.is
 
 pub returns-in_default : goal.returns-in_default
 unfolding length_test_of
-returns-in_default c = let r = c.in_default.in_default-own.rest in simp (ne_eqb _ _ r.0.1, ne_eqb _ _ r.1)
+returns-in_default c = let op = c.args.op in simp (ne_eqb op 14 (λ e. omega arith), ne_eqb op 15 (λ e. omega arith))

@@ -1,5 +1,4 @@
 -- `operator_of` meets its contract: the search of what is left of the words, added to what was passed, is the search of all.
-use Prim.Native.Nat.{◌-◌}
 use mathlib.Core.Path.{refl, sym, ◌∙◌}
 use native.Mathlib.Omega.{arith}
 use Rattle.chart.specs.Operators.{words, operator_of}

@@ -1,4 +1,5 @@
 -- `relation_of` meets its contract: each arm is the definition's.
+use native.Mathlib.Omega.{arith}
 use borrow.Author.Tests.{ne_eqb}
 use Rattle.chart.specs.Operators.{relation_of}
 use Rattle.chart.proofs.operator.relation_of.Goals as goal
@@ -25,4 +26,4 @@ returns-in-12 c = rw c.in-12.is
 
 pub returns-in_default : goal.returns-in_default
 unfolding relation_of
-returns-in_default c = let r = c.in_default.in_default-own.rest in simp (ne_eqb _ _ r.0.0.0.0.1, ne_eqb _ _ r.0.0.0.1, ne_eqb _ _ r.0.0.1, ne_eqb _ _ r.0.1, ne_eqb _ _ r.1)
+returns-in_default c = let op = c.args.op in simp (ne_eqb op 8 (λ e. omega arith), ne_eqb op 9 (λ e. omega arith), ne_eqb op 10 (λ e. omega arith), ne_eqb op 11 (λ e. omega arith), ne_eqb op 12 (λ e. omega arith))

@@ -3,6 +3,7 @@ use native.Mathlib.Omega.{arith}
 use mathlib.Core.Path.{◌≡◌}
 use mir.Syntax.{w32}
 use mir.Val.{SFits}
+use borrow.Author.Rules.{rules}
 use Prim.Native.Nat.{◌+◌, ◌-◌}
 use Rattle.interval.proofs.Machine.{same32}
 use Rattle.state.proofs.WatchState.with_entries.Goals as goal
@@ -17,7 +18,7 @@ pub returns : goal.returns
 returns c =
     let g = c.args in
     let fits = c.ranges in
-    let instant : SFits w32 g.self.instant = record { sfits = c.struct_told-1.given.0.1 } in
-    let floor : SFits w32 g.self.floor = record { sfits = c.struct_told-1.given.1.0.1 } in
+    let instant : SFits w32 g.self.instant = search rules in
+    let floor : SFits w32 g.self.floor = search rules in
     let more : g.self.entries + g.n - g.self.entries ≡ g.n = omega arith in
     simp (c.set_part-since.ensures, more, same32 _ instant, same32 _ floor, same32 _ fits.x)

@@ -144,7 +144,7 @@ push_part-count-requires c =
 
 pub shape_of-t-then-room-count : goal.shape_of-t-then-room-count
 shape_of-t-then-room-count c =
-    c.push_part-count.auto.0 ∙ (k (o c.before.before.before.before.before.before.before)).candidates.inv.size
+    c.push_part-count.auto.t ∙ (k (o c.before.before.before.before.before.before.before)).candidates.inv.size
 
 pub returns-then-room-count : goal.returns-then-room-count
 returns-then-room-count c =

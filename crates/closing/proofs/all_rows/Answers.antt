@@ -144,8 +144,8 @@ pub loop-i-preserved-then-first-n : goal.loop-i-preserved-then-first-n
 loop-i-preserved-then-first-n c =
     let f = c.if-room-n.false in
     let s = c.before.before in
-    let w = (known (d s)).next f c.later_start_first.new.0 c.later_start_first.ensures in
-    (omega (arith, below (d s).before.before.before.before.before), refl, w.1, w.0, turned s f c.later_start_first.new.0 c.later_start_first.ensures)
+    let w = (known (d s)).next f c.later_start_first.new.t c.later_start_first.ensures in
+    (omega (arith, below (d s).before.before.before.before.before), refl, w.1, w.0, turned s f c.later_start_first.new.t c.later_start_first.ensures)
 
 -- nothing was appended, and nothing is in order
 pub loop-i-preserved : goal.loop-i-preserved

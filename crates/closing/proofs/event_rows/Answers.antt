@@ -39,21 +39,19 @@ push_event-count-requires c =
 
 pub shape_of-t-then-room-count : goal.shape_of-t-then-room-count
 shape_of-t-then-room-count c =
-    c.push_event-count.auto.0 ∙ c.loop-j.invariant.1.size
+    c.push_event-count.auto.t ∙ c.loop-j.invariant.1.size
 
 pub returns-then-room-count : goal.returns-then-room-count
 returns-then-room-count c =
-    let y = c.before.before.before in
-    stop _ y.loop-j.j y.args.p.count y.loop-j.invariant.1 (omega arith) (taken y) c.push_event-count.ensures c.if-room-count.true
+    stop _ c.loop-j.j c.args.p.count c.loop-j.invariant.1 (omega arith) (taken (goal.at.returns-then-room-count c).Then-has_code) c.push_event-count.ensures c.if-room-count.true
 
 pub loop-j-preserved-else-room-count : goal.loop-j-preserved-else-room-count
 loop-j-preserved-else-room-count c =
-    let y = c.before.before.before in
-    (omega arith, turn _ y.loop-j.j y.args.p.count y.loop-j.invariant.1 (omega arith) (taken y) c.push_event-count.ensures c.if-room-count.false)
+    (omega arith, turn _ c.loop-j.j c.args.p.count c.loop-j.invariant.1 (omega arith) (taken (goal.at.loop-j-preserved-else-room-count c).Then-has_code) c.push_event-count.ensures c.if-room-count.false)
 
 pub loop-j-preserved : goal.loop-j-preserved
 loop-j-preserved c =
-    (omega arith, skip _ c.loop-j.j c.args.p.count c.loop-j.invariant.1 (omega arith) (other c))
+    (omega arith, skip _ c.loop-j.j c.args.p.count c.loop-j.invariant.1 (omega arith) (other (goal.at.loop-j-preserved c).Else-has_code))
 
 pub shape_of-t : goal.shape_of-t
 shape_of-t c = c.loop-j.invariant.1.size

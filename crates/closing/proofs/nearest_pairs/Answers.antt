@@ -89,7 +89,7 @@ push_pair-count-requires c =
 
 pub shape_of-t-then-room-count : goal.shape_of-t-then-room-count
 shape_of-t-then-room-count c =
-    c.push_pair-count.auto.0 ∙ (k c.before.before.before.before.before).loop.inv.size
+    c.push_pair-count.auto.t ∙ (k c.before.before.before.before.before).loop.inv.size
 
 pub returns-then-room-count : goal.returns-then-room-count
 returns-then-room-count c =

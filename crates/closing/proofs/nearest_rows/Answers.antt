@@ -32,7 +32,7 @@ module _ (c : In-loop-r) where
       ∙ nearest_with_lem (sought d) (entry d) (O d) (first d) (end d) (t₀ d) l.loop.r (l.loop.inv.0 (omega arith))
 
 -- a turn
-turned : (c : Else-room-count) → let w = c.before.before in let i = w.before.before in Filling (start (d i)).args.f.room (start (d i)).args.f.since (start (d i)).args.n (each (rows (d i)) (span (from (d i)) (to (d i)))) (t₀ (d i)) w.nearest_with-count.result (each (rows (d i)) (span ((l i).loop.r + 1) (to (d i)))) w.nearest_with-count.new.0
+turned : (c : Else-room-count) → let w = c.before.before in let i = w.before.before in Filling (start (d i)).args.f.room (start (d i)).args.f.since (start (d i)).args.n (each (rows (d i)) (span (from (d i)) (to (d i)))) (t₀ (d i)) w.nearest_with-count.result (each (rows (d i)) (span ((l i).loop.r + 1) (to (d i)))) w.nearest_with-count.new.t
 turned c =
     let i = c.before.before in
     turn (rows (d i)) (l i).loop.r (to (d i)) (l i).loop.invariant.1 (omega (arith, i.loop-r-test.true)) (same i) c.nearest_with-count.ensures c.if-room-count.false
@@ -79,7 +79,7 @@ nearest_with-count-requires c =
 
 pub shape_of-t-then-room-count : goal.shape_of-t-then-room-count
 shape_of-t-then-room-count c =
-    c.nearest_with-count.auto.0 ∙ (l c.before.before).loop.inv.1.size
+    c.nearest_with-count.auto.t ∙ (l c.before.before).loop.inv.1.size
 
 pub returns-then-room-count : goal.returns-then-room-count
 returns-then-room-count c =
@@ -95,7 +95,7 @@ first_of-r-requires-in-loop-r c =
 pub loop-r-smaller : goal.loop-r-smaller
 loop-r-smaller c =
     let i = c.before.before in
-    omega (arith, i.loop-r-test.true, c.first_of-r-in-loop-r.ensures, next_least (A (d i)) c.nearest_with-count.new.0 ((l i).loop.r + 1) (to (d i)))
+    omega (arith, i.loop-r-test.true, c.first_of-r-in-loop-r.ensures, next_least (A (d i)) c.nearest_with-count.new.t ((l i).loop.r + 1) (to (d i)))
 
 pub loop-r-preserved : goal.loop-r-preserved
 loop-r-preserved c =

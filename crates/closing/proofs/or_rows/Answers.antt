@@ -11,7 +11,7 @@ use Rattle.closing.proofs.or_rows.Goals.{Else-f-count}
 use Rattle.closing.proofs.or_rows.Goals as goal
 
 -- the left arm is done, and there was room
-halfway : (c : Else-f-count) → let d = c.before.before.before in let g = d.args in Filling g.f.room g.f.since g.n (or_rows (nat_abs g.f.entry) g.f.instant g.a g.b g.f.first g.f.end g.t.now) g.t.now d.taken_rows-count.result (taken_rows right (nat_abs g.f.entry) g.f.instant g.b All g.f.first g.f.end g.t.now) d.taken_rows-count.new.0
+halfway : (c : Else-f-count) → let d = c.before.before.before in let g = d.args in Filling g.f.room g.f.since g.n (or_rows (nat_abs g.f.entry) g.f.instant g.a g.b g.f.first g.f.end g.t.now) g.t.now d.taken_rows-count.result (taken_rows right (nat_abs g.f.entry) g.f.instant g.b All g.f.first g.f.end g.t.now) d.taken_rows-count.new.t
 unfolding or_rows
 halfway c =
     let g = c.args in
@@ -31,4 +31,4 @@ returns c =
     let y = (goal.at.returns c).Else-f-count in
     let g = y.args in
     let f = halfway y in
-    last f (simp (same32, y.ranges.b, takens_same g.n y.taken_rows-count.new.0 g.t.now f.kept (nat_abs g.f.entry) g.f.instant right g.b All g.f.first g.f.end y.requires.inside) at c.taken_rows.ensures)
+    last f (simp (same32, y.ranges.b, takens_same g.n y.taken_rows-count.new.t g.t.now f.kept (nat_abs g.f.entry) g.f.instant right g.b All g.f.first g.f.end y.requires.inside) at c.taken_rows.ensures)

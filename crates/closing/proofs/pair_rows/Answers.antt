@@ -37,7 +37,7 @@ whole c =
     simp (same32 _ c.ranges.a, same32 _ c.ranges.b) (simp (simp (same32 _ c.ranges.b) at c.left_from-first.ensures))
 
 -- a turn
-turned : (c : Else-room-count) → let d = c.before.before in let l = d.before.before.before in let g = l.args in let rows = pairs_with g.c (nat_abs g.f.entry) (to_z w32 (of_z w32 g.a)) (to_z w32 (of_z w32 g.b)) g.f.first g.f.end g.t.now in Filling g.f.room g.f.since g.n (each rows (span l.left_from-first.result g.f.end)) g.t.now d.pairs_with-count.result (each rows (span (l.loop-r.r + 1) g.f.end)) d.pairs_with-count.new.0
+turned : (c : Else-room-count) → let d = c.before.before in let l = d.before.before.before in let g = l.args in let rows = pairs_with g.c (nat_abs g.f.entry) (to_z w32 (of_z w32 g.a)) (to_z w32 (of_z w32 g.b)) g.f.first g.f.end g.t.now in Filling g.f.room g.f.since g.n (each rows (span l.left_from-first.result g.f.end)) g.t.now d.pairs_with-count.result (each rows (span (l.loop-r.r + 1) g.f.end)) d.pairs_with-count.new.t
 turned c =
     let i = c.before.before in
     turn _ i.loop-r.r i.args.f.end i.loop-r.invariant.1 (omega arith) (same i) c.pairs_with-count.ensures c.if-room-count.false
@@ -60,7 +60,7 @@ pairs_with-count-requires c =
 
 pub shape_of-t-then-room-count : goal.shape_of-t-then-room-count
 shape_of-t-then-room-count c =
-    c.pairs_with-count.auto.0 ∙ c.loop-r.invariant.1.size
+    c.pairs_with-count.auto.t ∙ c.loop-r.invariant.1.size
 
 pub returns-then-room-count : goal.returns-then-room-count
 returns-then-room-count c =
@@ -76,7 +76,7 @@ next_of-r-requires-in-loop-r c =
 pub loop-r-smaller : goal.loop-r-smaller
 loop-r-smaller c =
     let g = c.args in
-    omega (arith, c.next_of-r-in-loop-r.ensures, next_least (to_z w32 (of_z w32 g.a)) c.pairs_with-count.new.0 (c.loop-r.r + 1) g.f.end)
+    omega (arith, c.next_of-r-in-loop-r.ensures, next_least (to_z w32 (of_z w32 g.a)) c.pairs_with-count.new.t (c.loop-r.r + 1) g.f.end)
 
 pub loop-r-preserved : goal.loop-r-preserved
 loop-r-preserved c =

@@ -38,13 +38,12 @@ push_pair-count-requires c =
 
 pub shape_of-t-then-room-count : goal.shape_of-t-then-room-count
 shape_of-t-then-room-count c =
-    c.push_pair-count.auto.0 ∙ c.loop-s.invariant.size
+    c.push_pair-count.auto.t ∙ c.loop-s.invariant.size
 
 pub returns-then-room-count : goal.returns-then-room-count
 returns-then-room-count c =
-    let h = c.before in
-    let g = h.args in
-    simp (whole h) at (stop _ c.loop-s.s g.f.end c.loop-s.invariant c.loop-s-test.true (pair_same g.n c.loop-s.t g.t.now c.loop-s.invariant.kept _ _ _ _ _ _ c.loop-s.s (omega (arith, h.requires.0.inside))) c.push_pair-count.ensures c.if-room-count.true)
+    let g = c.args in
+    simp (whole (goal.at.returns-then-room-count c).After-right_from-s) at (stop _ c.loop-s.s g.f.end c.loop-s.invariant c.loop-s-test.true (pair_same g.n c.loop-s.t g.t.now c.loop-s.invariant.kept _ _ _ _ _ _ c.loop-s.s (omega (arith, c.requires.0.inside))) c.push_pair-count.ensures c.if-room-count.true)
 
 pub loop-s-preserved-else-room-count : goal.loop-s-preserved-else-room-count
 loop-s-preserved-else-room-count c =
@@ -62,5 +61,4 @@ shape_of-t c = c.loop-s.invariant.size
 
 pub returns : goal.returns
 returns c =
-    let h = c.before in
-    simp (whole h) at (over _ c.loop-s.s h.args.f.end c.loop-s.invariant (omega arith))
+    simp (whole (goal.at.returns c).After-right_from-s) at (over _ c.loop-s.s c.args.f.end c.loop-s.invariant (omega arith))

@@ -1,27 +1,30 @@
 -- `pass_fours` meets its contract: the search from the row reached finds what the whole search finds.
-use Prim.Native.Nat.{ℕ, ◌+◌, ◌-◌}
+use Prim.Native.Nat.{ℕ, ◌+◌, ◌≤◌}
 use native.Mathlib.Omega.{arith}
-use mathlib.Core.Path.{refl, sym, ◌∙◌}
-use mir.Syntax.{w32}
-use mir.Val.{to_z, of_z}
+use mathlib.Core.Path.{◌≡◌, refl, sym, ◌∙◌}
+use mathlib.Core.Bool.{false}
+use mathlib.Core.List.{List}
+use lib.IntN.{ℤ}
+use Rattle.interval.specs.Instants.{eq_z}
 use Rattle.interval.proofs.Machine.{same32}
+use Rattle.table.specs.Table.{cell}
 use Rattle.closing.specs.Added.{Passed}
 use Rattle.closing.proofs.Searches.{passed_none, passed_one}
-use Rattle.closing.proofs.pass_fours.Goals.{Else-is_of, Else-is_of-2, Else-is_of-3, In-loop-r}
 use Rattle.closing.proofs.pass_fours.Goals as goal
 
--- k of the four rows are passed
-abbrev OnBy : In-loop-r → ℕ → Type 0
-OnBy c k = Passed (to_z w32 (of_z w32 c.args.a)) c.args.i c.args.n c.args.t.now (c.loop-r.r + k)
+-- one, two, three and four of the four rows are passed
+module _ (a : ℤ) (i n : ℕ) (t : List ℤ) (r : ℕ) (fit : r + 4 ≤ n) (f : Passed a i n t r) where
+  one : eq_z (cell t r 0) a ≡ false → Passed a i n t (r + 1)
+  one h = passed_one _ _ _ _ _ _ f (omega arith) refl h
 
-one : (c : Else-is_of) → OnBy c.before.before 1
-one c = passed_one _ _ _ _ _ _ c.loop-r.invariant (omega arith) refl (sym c.is_of.ensures ∙ c.if-is_of.false)
+  two : eq_z (cell t r 0) a ≡ false → eq_z (cell t (r + 1) 0) a ≡ false → Passed a i n t (r + 2)
+  two h k = passed_one _ _ _ _ _ _ (one h) (omega arith) (omega arith) k
 
-two : (c : Else-is_of-2) → OnBy c.before.before.before.before 2
-two c = passed_one _ _ _ _ _ _ (one c.before.before) (omega arith) (omega arith) (sym c.is_of-in-loop-r.ensures ∙ c.if-is_of-2.false)
+  three : eq_z (cell t r 0) a ≡ false → eq_z (cell t (r + 1) 0) a ≡ false → eq_z (cell t (r + 2) 0) a ≡ false → Passed a i n t (r + 3)
+  three h k l = passed_one _ _ _ _ _ _ (two h k) (omega arith) (omega arith) l
 
-three : (c : Else-is_of-3) → OnBy c.before.before.before.before.before.before 3
-three c = passed_one _ _ _ _ _ _ (two c.before.before) (omega arith) (omega arith) (sym c.is_of-in-loop-r-2.ensures ∙ c.if-is_of-3.false)
+  four : eq_z (cell t r 0) a ≡ false → eq_z (cell t (r + 1) 0) a ≡ false → eq_z (cell t (r + 2) 0) a ≡ false → eq_z (cell t (r + 3) 0) a ≡ false → Passed a i n t (r + 4)
+  four h k l m = passed_one _ _ _ _ _ _ (three h k l) (omega arith) (omega arith) m
 
 pub loop-r-init : goal.loop-r-init
 loop-r-init c = passed_none _ _ _ _ c.requires.0
@@ -33,16 +36,36 @@ pub returns-then-is_of : goal.returns-then-is_of
 returns-then-is_of c = simp (same32, c.ranges.a) at c.loop-r.invariant
 
 pub returns-then-is_of-2 : goal.returns-then-is_of-2
-returns-then-is_of-2 c = let e = (goal.at.returns-then-is_of-2 c).Else-is_of in simp (same32, e.ranges.a) at (one e)
+returns-then-is_of-2 c =
+    simp (same32, c.ranges.a) at (
+        one _ _ _ _ _ (omega arith) c.loop-r.invariant
+        (sym c.is_of.ensures ∙ c.if-is_of.false)
+    )
 
 pub returns-then-is_of-3 : goal.returns-then-is_of-3
-returns-then-is_of-3 c = let e = (goal.at.returns-then-is_of-3 c).Else-is_of-2 in simp (same32, e.ranges.a) at (two e)
+returns-then-is_of-3 c =
+    simp (same32, c.ranges.a) at (
+        two _ _ _ _ _ (omega arith) c.loop-r.invariant
+        (sym c.is_of.ensures ∙ c.if-is_of.false)
+        (sym c.is_of-in-loop-r.ensures ∙ c.if-is_of-2.false)
+    )
 
 pub returns-then-is_of-4 : goal.returns-then-is_of-4
-returns-then-is_of-4 c = let e = (goal.at.returns-then-is_of-4 c).Else-is_of-3 in simp (same32, e.ranges.a) at (three e)
+returns-then-is_of-4 c =
+    simp (same32, c.ranges.a) at (
+        three _ _ _ _ _ (omega arith) c.loop-r.invariant
+        (sym c.is_of.ensures ∙ c.if-is_of.false)
+        (sym c.is_of-in-loop-r.ensures ∙ c.if-is_of-2.false)
+        (sym c.is_of-in-loop-r-2.ensures ∙ c.if-is_of-3.false)
+    )
 
 pub loop-r-preserved : goal.loop-r-preserved
-loop-r-preserved c = passed_one _ _ _ _ _ _ (three (goal.at.loop-r-preserved c).Else-is_of-3) (omega arith) (omega arith) (sym c.is_of-in-loop-r-3.ensures ∙ c.if-is_of-4.false)
+loop-r-preserved c =
+    four _ _ _ _ _ (omega arith) c.loop-r.invariant
+    (sym c.is_of.ensures ∙ c.if-is_of.false)
+    (sym c.is_of-in-loop-r.ensures ∙ c.if-is_of-2.false)
+    (sym c.is_of-in-loop-r-2.ensures ∙ c.if-is_of-3.false)
+    (sym c.is_of-in-loop-r-3.ensures ∙ c.if-is_of-4.false)
 
 pub returns : goal.returns
 returns c = simp (same32, c.ranges.a) at c.loop-r.invariant

@@ -18,7 +18,7 @@ push_taken-count-requires c =
 
 pub shape_of-t-then-room-count : goal.shape_of-t-then-room-count
 shape_of-t-then-room-count c =
-    c.push_taken-count.auto.0 ∙ c.loop-i.invariant.size
+    c.push_taken-count.auto.t ∙ c.loop-i.invariant.size
 
 pub returns-then-room-count : goal.returns-then-room-count
 unfolding taken_rows

@@ -20,9 +20,8 @@ use Rattle.watch.proofs.Watch.clock_unchecked.Goals as goal
 -- whether the mark is refused
 early : (c : After-is_mark_refused) → let g = c.args in is_mark_refused g.self.state.instant g.instant ≡ c.is_mark_refused.result
 early c =
-    let s = c in
-    let now : SFits w32 s.args.self.state.instant = record { sfits = c.struct_told-1.given.0.1 } in
-    sym (c.is_mark_refused.ensures ∙ ap₂ is_mark_refused (same32 _ now) (same32 _ s.ranges.instant))
+    let now : SFits w32 c.args.self.state.instant = record { sfits = c.struct_told-1.given.0.1 } in
+    sym (c.is_mark_refused.ensures ∙ ap₂ is_mark_refused (same32 _ now) (same32 _ c.ranges.instant))
 
 in_time : (c : After-is_mark_refused) → c.is_mark_refused.result ≡ false → let g = c.args in is_mark_refused g.self.state.instant g.instant ≡ false
 in_time c e = early c ∙ e
@@ -37,10 +36,9 @@ returns-then-is_mark_refused c = let g = c.args in parts (clock_8 g.chart g.self
 
 pub close-n-requires : goal.close-n-requires
 close-n-requires c =
-    let s = c in
-    let j = told s.args.chart s.args.self.state s.args.table.now s.requires in
-    let later = is_lt s.args.self.state.instant s.args.instant (mark_taken _ _ (in_time (goal.at.close-n-requires c).After-is_mark_refused c.if-is_mark_refused.false)).later in
-    record { ready = j.ready; ended = j.ended; few = j.few; counted = j.counted; most = j.most; later = simp (same32 _ s.ranges.instant) later }
+    let j = told c.args.chart c.args.self.state c.args.table.now c.requires in
+    let later = is_lt c.args.self.state.instant c.args.instant (mark_taken _ _ (in_time (goal.at.close-n-requires c).After-is_mark_refused c.if-is_mark_refused.false)).later in
+    record { ready = j.ready; ended = j.ended; few = j.few; counted = j.counted; most = j.most; later = simp (same32 _ c.ranges.instant) later }
 
 pub returns-then-room-n : goal.returns-then-room-n
 returns-then-room-n c =

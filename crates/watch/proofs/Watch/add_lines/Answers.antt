@@ -6,13 +6,10 @@ use Rattle.watch.proofs.Watch.add_lines.Goals as goal
 
 pub returns-then-n-ne0 : goal.returns-then-n-ne0
 returns-then-n-ne0 c =
-    let k = c in
-    let g = k.args in
-    ap (λ n. addition n 0 g.self.state g.chart) k.check-n.ensures ∙ sym (add_refused g.chart g.self.state g.table.now g.s.now (λ z. c.if-n-ne0.true (k.check-n.ensures ∙ z)))
+    let g = c.args in
+    ap (λ n. addition n 0 g.self.state g.chart) c.check-n.ensures ∙ sym (add_refused g.chart g.self.state g.table.now g.s.now (λ z. c.if-n-ne0.true (c.check-n.ensures ∙ z)))
 
 pub returns : goal.returns
 returns c =
-    let d = c in
-    let k = d in
-    let g = k.args in
-    c.add_unchecked.ensures ∙ sym (add_passed g.chart g.self.state g.table.now g.s.now (sym k.check-n.ensures ∙ d.if-n-ne0.false))
+    let g = c.args in
+    c.add_unchecked.ensures ∙ sym (add_passed g.chart g.self.state g.table.now g.s.now (sym c.check-n.ensures ∙ c.if-n-ne0.false))

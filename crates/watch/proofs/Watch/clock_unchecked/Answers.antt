@@ -14,22 +14,21 @@ use Rattle.table.specs.Table.{room_in}
 use Rattle.closing.specs.Closed.{closed_number, closed_table}
 use Rattle.watch.specs.Steps.{answered}
 use Rattle.watch.proofs.Calls.{told, clock_8, clock_12, clock_taken, parts}
-use Rattle.watch.proofs.Watch.clock_unchecked.Goals.{After-close-n, After-is_mark_refused, Else-is_mark_refused}
+use Rattle.watch.proofs.Watch.clock_unchecked.Goals.{After-close-n, After-is_mark_refused}
 use Rattle.watch.proofs.Watch.clock_unchecked.Goals as goal
 
 -- whether the mark is refused
 early : (c : After-is_mark_refused) → let g = c.args in is_mark_refused g.self.state.instant g.instant ≡ c.is_mark_refused.result
 early c =
-    let s = c in
-    let now : SFits w32 s.args.self.state.instant = record { sfits = c.struct_told-1.given.0.1 } in
-    sym (c.is_mark_refused.ensures ∙ ap₂ is_mark_refused (same32 _ now) (same32 _ s.ranges.instant))
+    let now : SFits w32 c.args.self.state.instant = record { sfits = c.struct_told-1.given.0.1 } in
+    sym (c.is_mark_refused.ensures ∙ ap₂ is_mark_refused (same32 _ now) (same32 _ c.ranges.instant))
 
-in_time : (c : Else-is_mark_refused) → let g = c.args in is_mark_refused g.self.state.instant g.instant ≡ false
-in_time c = early c.before ∙ c.if-is_mark_refused.false
+in_time : (c : After-is_mark_refused) → c.is_mark_refused.result ≡ false → let g = c.args in is_mark_refused g.self.state.instant g.instant ≡ false
+in_time c e = early c ∙ e
 
 -- how many rows there are after closing, and the table
 closed : (c : After-close-n) → let g = c.args in
-    (c.close-n.result ≡ closed_number g.chart g.self.state g.instant g.table.now) × (c.close-n.new.1.1.1.0 ≡ closed_table g.chart g.self.state g.instant g.table.now)
+    (c.close-n.result ≡ closed_number g.chart g.self.state g.instant g.table.now) × (c.close-n.new.table ≡ closed_table g.chart g.self.state g.instant g.table.now)
 closed c = simp (same32 _ c.ranges.instant) at c.close-n.ensures
 
 pub returns-then-is_mark_refused : goal.returns-then-is_mark_refused
@@ -37,28 +36,23 @@ returns-then-is_mark_refused c = let g = c.args in parts (clock_8 g.chart g.self
 
 pub close-n-requires : goal.close-n-requires
 close-n-requires c =
-    let s = c in
-    let j = told s.args.chart s.args.self.state s.args.table.now s.requires in
-    let later = is_lt s.args.self.state.instant s.args.instant (mark_taken _ _ (in_time (goal.at.close-n-requires c).Else-is_mark_refused)).later in
-    record { ready = j.ready; ended = j.ended; few = j.few; counted = j.counted; most = j.most; later = simp (same32 _ s.ranges.instant) later }
+    let j = told c.args.chart c.args.self.state c.args.table.now c.requires in
+    let later = is_lt c.args.self.state.instant c.args.instant (mark_taken _ _ (in_time (goal.at.close-n-requires c).After-is_mark_refused c.if-is_mark_refused.false)).later in
+    record { ready = j.ready; ended = j.ended; few = j.few; counted = j.counted; most = j.most; later = simp (same32 _ c.ranges.instant) later }
 
 pub returns-then-room-n : goal.returns-then-room-n
 returns-then-room-n c =
     let k = (goal.at.returns-then-room-n c).After-close-n in
-    let r = k in
-    let g = r.args in
-    let h : room_in g.table.now < closed_number g.chart g.self.state g.instant g.table.now = omega (arith, c.if-room-n.true, r.rows_that_fit-room.ensures, (closed k).0) in
-    let q = clock_12 g.chart g.self.state g.table.now g.instant (in_time r.before) h in
+    let g = c.args in
+    let h : room_in g.table.now < closed_number g.chart g.self.state g.instant g.table.now = omega (arith, c.if-room-n.true, c.rows_that_fit-room.ensures, (closed k).0) in
+    let q = clock_12 g.chart g.self.state g.table.now g.instant (in_time (goal.at.returns-then-room-n c).After-is_mark_refused c.if-is_mark_refused.false) h in
     let p = parts q.0 in
     (p.0, (closed k).1 ∙ q.1 ∙ p.1)
 
 pub returns : goal.returns
 returns c =
-    let m = c in
-    let k = m.before.before.before in
-    let r = k in
-    let s = r in
-    let g = s.args in
-    let h : closed_number g.chart g.self.state g.instant g.table.now ≤ room_in g.table.now = omega (arith, m.if-room-n.false, r.rows_that_fit-room.ensures, (closed k).0) in
-    let p = parts (clock_taken g.chart g.self.state g.table.now g.instant (in_time r.before) h) in
-    (c.taken.ensures ∙ ap (answered 0) (m.marked.ensures ∙ ap₂ (λ a n. marked g.self.state a n) (same32 _ s.ranges.instant) (closed k).0) ∙ p.0, (closed k).1 ∙ p.1)
+    let k = (goal.at.returns c).After-close-n in
+    let g = c.args in
+    let h : closed_number g.chart g.self.state g.instant g.table.now ≤ room_in g.table.now = omega (arith, c.if-room-n.false, c.rows_that_fit-room.ensures, (closed k).0) in
+    let p = parts (clock_taken g.chart g.self.state g.table.now g.instant (in_time (goal.at.returns c).After-is_mark_refused c.if-is_mark_refused.false) h) in
+    (c.taken.ensures ∙ ap (answered 0) (c.marked.ensures ∙ ap₂ (λ a n. marked g.self.state a n) (same32 _ c.ranges.instant) (closed k).0) ∙ p.0, (closed k).1 ∙ p.1)

@@ -10,4 +10,4 @@ returns-then-n-ne0 c = (parts (was_refused _ _ _ _ _ c.check-n.ensures c.if-n-ne
 
 pub returns : goal.returns
 unfolding event_step
-returns c = let d = c in c.event_unchecked.ensures ∙ (parts (went_on _ _ _ _ _ d.check-n.ensures d.if-n-ne0.false)).0
+returns c = c.event_unchecked.ensures ∙ (parts (went_on _ _ _ _ _ c.check-n.ensures c.if-n-ne0.false)).0

@@ -13,6 +13,4 @@ returns-then-s-ge64 c = simp (lt-leb _ _ c.if-s-ge1000000.false, le-leb _ _ c.if
 
 pub returns : goal.returns
 unfolding event_own
-returns c = let e = c in
-    let d = e in
-    simp (lt-leb _ _ d.if-s-ge1000000.false, lt-leb _ _ d.if-s-ge64.false) (simp e.with_event.ensures at c.taken.ensures)
+returns c = simp (lt-leb _ _ c.if-s-ge1000000.false, lt-leb _ _ c.if-s-ge64.false) (simp c.with_event.ensures at c.taken.ensures)

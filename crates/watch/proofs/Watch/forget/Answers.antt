@@ -11,8 +11,7 @@ returns-then-n-ne0 c = parts (was_refused _ _ _ _ _ c.check-n.ensures c.if-n-ne0
 
 pub returns : goal.returns
 unfolding forget_step
-returns c = let d = c in
-    let i = same32 _ d.ranges.f in
+returns c = let i = same32 _ c.ranges.f in
     let own = c.forget_unchecked.ensures in
-    let p = parts (went_on _ _ _ _ _ d.check-n.ensures d.if-n-ne0.false) in
+    let p = parts (went_on _ _ _ _ _ c.check-n.ensures c.if-n-ne0.false) in
     (simp i at own.0 ∙ p.0, simp i at own.1 ∙ p.1)

@@ -13,25 +13,19 @@ use Rattle.watch.proofs.Watch.forget_unchecked.Goals as goal
 -- whether the forget is refused
 barred : (c : After-is_forget_refused) → let g = c.args in is_forget_refused g.self.state.floor g.self.state.instant g.f ≡ c.is_forget_refused.result
 barred c =
-    let e = c in
-    let s = e in
-    let floor : SFits w32 s.args.self.state.floor = record { sfits = e.struct_told-1.given.1.0.1 } in
-    let now : SFits w32 s.args.self.state.instant = record { sfits = e.struct_told-2-1.given.0.1 } in
-    sym (simp (same32 _ s.ranges.f, same32 _ now, same32 _ floor) at c.is_forget_refused.ensures)
+    let floor : SFits w32 c.args.self.state.floor = record { sfits = c.struct_told-1.given.1.0.1 } in
+    let now : SFits w32 c.args.self.state.instant = record { sfits = c.struct_told-2-1.given.0.1 } in
+    sym (simp (same32 _ c.ranges.f, same32 _ now, same32 _ floor) at c.is_forget_refused.ensures)
 
 pub returns-then-is_forget_refused : goal.returns-then-is_forget_refused
 returns-then-is_forget_refused c = let g = c.args in parts (forget_11 g.chart g.self.state g.table.now g.f (barred (goal.at.returns-then-is_forget_refused c).After-is_forget_refused ∙ c.if-is_forget_refused.true))
 
 pub forget-n-requires : goal.forget-n-requires
-forget-n-requires c = let s = c in (told s.args.chart s.args.self.state s.args.table.now s.requires).ready
+forget-n-requires c = (told c.args.chart c.args.self.state c.args.table.now c.requires).ready
 
 pub returns : goal.returns
 returns c =
-    let m = c in
-    let k = m in
-    let d = k in
-    let s = d in
-    let g = s.args in
-    let i = same32 _ s.ranges.f in
-    let p = parts (forget_taken g.chart g.self.state g.table.now g.f (barred (goal.at.returns c).After-is_forget_refused ∙ d.if-is_forget_refused.false)) in
-    (c.taken.ensures ∙ ap (answered 0) (m.raised.ensures ∙ ap₂ (λ a n. raised g.self.state a n) i (simp i at k.forget-n.ensures.0)) ∙ p.0, simp i at k.forget-n.ensures.1 ∙ p.1)
+    let g = c.args in
+    let i = same32 _ c.ranges.f in
+    let p = parts (forget_taken g.chart g.self.state g.table.now g.f (barred (goal.at.returns c).After-is_forget_refused ∙ c.if-is_forget_refused.false)) in
+    (c.taken.ensures ∙ ap (answered 0) (c.raised.ensures ∙ ap₂ (λ a n. raised g.self.state a n) i (simp i at c.forget-n.ensures.0)) ∙ p.0, simp i at c.forget-n.ensures.1 ∙ p.1)

@@ -24,9 +24,8 @@ instant c = sym (c.is_instant.ensures ∙ ap is_instant (same32 _ c.ranges.insta
 
 pub returns-then-not-is_usable : goal.returns-then-not-is_usable
 returns-then-not-is_usable c =
-    let u = c in
-    let g = u.args in
-    let p = parts (opening_14 g.chart g.table.now g.instant (sym u.is_usable.ensures ∙ c.if-not-is_usable.true)) in
+    let g = c.args in
+    let p = parts (opening_14 g.chart g.table.now g.instant (sym c.is_usable.ensures ∙ c.if-not-is_usable.true)) in
     (ap (λ w. record { refusal = 14; watch = w }) c.empty.ensures ∙ p.0, p.1)
 
 pub returns-then-not-is_instant : goal.returns-then-not-is_instant
@@ -38,10 +37,10 @@ returns-then-not-is_instant c =
     (ap (λ w. record { refusal = 8; watch = w }) c.empty-then-not-is_instant.ensures ∙ p.0, p.1)
 
 pub overflow_mul-room : goal.overflow_mul-room
-overflow_mul-room c = let z = c in omega (arith, c.rows_that_fit-room.ensures, capacity_fits (length z.args.table.now), z.well_formed.1.0.0)
+overflow_mul-room c = omega (arith, c.rows_that_fit-room.ensures, capacity_fits (length c.args.table.now), c.well_formed.1.0.0)
 
 pub zero_part-requires : goal.zero_part-requires
-zero_part-requires c = let z = c in (omega arith, omega (arith, c.rows_that_fit-room.ensures, capacity_fits (length z.args.table.now)))
+zero_part-requires c = (omega arith, omega (arith, c.rows_that_fit-room.ensures, capacity_fits (length c.args.table.now)))
 
 pub opened-requires : goal.opened-requires
 opened-requires c = let d = (goal.at.opened-requires c).Else-not-is_usable in usable_few d.args.chart (usable d)

@@ -6,14 +6,10 @@ use Rattle.watch.proofs.Watch.report.Goals as goal
 
 pub returns-then-n-ne0 : goal.returns-then-n-ne0
 returns-then-n-ne0 c =
-    let d = c in
-    let k = d in
-    let g = k.args in
-    c.refused.ensures ∙ ap refused_report k.check-n.ensures ∙ sym (report_refused g.chart g.self.state g.table.now (λ z. d.if-n-ne0.true (k.check-n.ensures ∙ z)))
+    let g = c.args in
+    c.refused.ensures ∙ ap refused_report c.check-n.ensures ∙ sym (report_refused g.chart g.self.state g.table.now (λ z. c.if-n-ne0.true (c.check-n.ensures ∙ z)))
 
 pub returns : goal.returns
 returns c =
-    let d = c in
-    let k = d in
-    let g = k.args in
-    c.report_unchecked.ensures ∙ sym (report_passed g.chart g.self.state g.table.now (sym k.check-n.ensures ∙ d.if-n-ne0.false))
+    let g = c.args in
+    c.report_unchecked.ensures ∙ sym (report_passed g.chart g.self.state g.table.now (sym c.check-n.ensures ∙ c.if-n-ne0.false))

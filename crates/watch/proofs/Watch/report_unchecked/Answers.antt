@@ -3,4 +3,4 @@ use Rattle.watch.proofs.Calls.{told}
 use Rattle.watch.proofs.Watch.report_unchecked.Goals as goal
 
 pub count_rows-requires : goal.count_rows-requires
-count_rows-requires c = let s = c in let g = s.args in (told g.chart g.self.state g.table.now s.requires).ready
+count_rows-requires c = let g = c.args in (told g.chart g.self.state g.table.now c.requires).ready

@@ -27,9 +27,8 @@ ordered c = let g = c.args in (rows_fit g.chart g.self.state g.table.now (passed
 
 pub returns-then-n-ne0 : goal.returns-then-n-ne0
 returns-then-n-ne0 c =
-    let k = c in
-    let g = k.args in
-    sym (rows_refused g.chart g.self.state g.table.now g.end (λ z. c.if-n-ne0.true (k.check-n.ensures ∙ z)))
+    let g = c.args in
+    sym (rows_refused g.chart g.self.state g.table.now g.end (λ z. c.if-n-ne0.true (c.check-n.ensures ∙ z)))
 
 pub ending_before-first-requires : goal.ending_before-first-requires
 ending_before-first-requires c = ordered (goal.at.ending_before-first-requires c).Else-n-ne0

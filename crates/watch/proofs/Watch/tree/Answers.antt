@@ -5,15 +5,12 @@ use Rattle.watch.proofs.Watch.tree.Goals as goal
 
 pub returns-then-n-ne0 : goal.returns-then-n-ne0
 returns-then-n-ne0 c =
-    let k = c in
-    let g = k.args in
-    let e = tree_refused g.chart g.self.state g.table.now g.i g.out.now (λ z. c.if-n-ne0.true (k.check-n.ensures ∙ z)) in
-    (ap (λ n. record { refusal = n; length = 0 }) k.check-n.ensures ∙ sym (ap (λ s. s.answer) e), sym (ap (λ s. s.out) e))
+    let g = c.args in
+    let e = tree_refused g.chart g.self.state g.table.now g.i g.out.now (λ z. c.if-n-ne0.true (c.check-n.ensures ∙ z)) in
+    (ap (λ n. record { refusal = n; length = 0 }) c.check-n.ensures ∙ sym (ap (λ s. s.answer) e), sym (ap (λ s. s.out) e))
 
 pub returns : goal.returns
 returns c =
-    let w = c in
-    let d = w in
-    let g = d.args in
-    let e = tree_passed g.chart g.self.state g.table.now g.i g.out.now (sym d.check-n.ensures ∙ d.if-n-ne0.false) in
-    (w.tree_unchecked.ensures.0 ∙ sym (ap (λ s. s.answer) e), w.tree_unchecked.ensures.1 ∙ sym (ap (λ s. s.out) e))
+    let g = c.args in
+    let e = tree_passed g.chart g.self.state g.table.now g.i g.out.now (sym c.check-n.ensures ∙ c.if-n-ne0.false) in
+    (c.tree_unchecked.ensures.0 ∙ sym (ap (λ s. s.answer) e), c.tree_unchecked.ensures.1 ∙ sym (ap (λ s. s.out) e))

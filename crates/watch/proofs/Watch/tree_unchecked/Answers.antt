@@ -11,29 +11,23 @@ returns-then-rows-i c =
     (sym (ap (λ s. s.answer) e), sym (ap (λ s. s.out) e))
 
 pub tree_length-n-requires : goal.tree_length-n-requires
-tree_length-n-requires c = let s = c in ((told s.args.chart s.args.self.state s.args.table.now s.requires).ready, c.if-rows-i.false)
+tree_length-n-requires c = ((told c.args.chart c.args.self.state c.args.table.now c.requires).ready, c.if-rows-i.false)
 
 pub returns-then-n-eq0 : goal.returns-then-n-eq0
 returns-then-n-eq0 c =
-    let l = c in
-    let g = l.args in
-    let over = tree_over g.chart g.self.state g.table.now g.i g.out.now _ l.tree_length-n.ensures c.if-n-eq0.true in
-    let e = tree_16 g.chart g.self.state g.table.now g.i g.out.now l.if-rows-i.false over in
+    let g = c.args in
+    let over = tree_over g.chart g.self.state g.table.now g.i g.out.now _ c.tree_length-n.ensures c.if-n-eq0.true in
+    let e = tree_16 g.chart g.self.state g.table.now g.i g.out.now c.if-rows-i.false over in
     (sym (ap (λ s. s.answer) e), sym (ap (λ s. s.out) e))
 
 pub write_tree-length-requires : goal.write_tree-length-requires
 write_tree-length-requires c =
-    let l = c in
-    let s = l in
-    let g = s.args in
-    ((told g.chart g.self.state g.table.now s.requires).ready, l.if-rows-i.false, tree_within g.chart g.self.state g.table.now g.i g.out.now _ l.tree_length-n.ensures c.if-n-eq0.false)
+    let g = c.args in
+    ((told g.chart g.self.state g.table.now c.requires).ready, c.if-rows-i.false, tree_within g.chart g.self.state g.table.now g.i g.out.now _ c.tree_length-n.ensures c.if-n-eq0.false)
 
 pub returns : goal.returns
 returns c =
-    let w = c in
-    let d = w in
-    let l = d in
-    let g = l.args in
-    let within = tree_within g.chart g.self.state g.table.now g.i g.out.now _ l.tree_length-n.ensures d.if-n-eq0.false in
-    let e = tree_taken g.chart g.self.state g.table.now g.i g.out.now l.if-rows-i.false within in
-    (ap (λ n. record { refusal = 0; length = n }) w.write_tree-length.ensures.0 ∙ sym (ap (λ s. s.answer) e), w.write_tree-length.ensures.1 ∙ sym (ap (λ s. s.out) e))
+    let g = c.args in
+    let within = tree_within g.chart g.self.state g.table.now g.i g.out.now _ c.tree_length-n.ensures c.if-n-eq0.false in
+    let e = tree_taken g.chart g.self.state g.table.now g.i g.out.now c.if-rows-i.false within in
+    (ap (λ n. record { refusal = 0; length = n }) c.write_tree-length.ensures.0 ∙ sym (ap (λ s. s.answer) e), c.write_tree-length.ensures.1 ∙ sym (ap (λ s. s.out) e))

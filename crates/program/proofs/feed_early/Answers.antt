@@ -2,7 +2,6 @@
 use Prim.Native.Nat.{◌-◌}
 use mathlib.Core.Path.{refl, sym, ◌∙◌}
 use native.Mathlib.Omega.{arith}
-use borrow.Author.Tests.{not-true, not-false}
 use Rattle.interval.proofs.Signed.{never}
 use Rattle.text.proofs.Laws.{part_from}
 use Rattle.program.proofs.Reading.{read_none, next_inside, next_short, read_next, lines_left}
@@ -17,7 +16,7 @@ shape_of-table-then-not-is_early c = c.loop-size.invariant.0
 pub returns-then-not-is_early : goal.returns-then-not-is_early
 returns-then-not-is_early c =
     let l = c in
-    let e = sym c.is_early.ensures ∙ not-true _ c.if-not-is_early.true in
+    let e = sym c.is_early.ensures ∙ c.if-not-is_early.true in
     (l.loop-size.invariant.2, λ z. never (sym e ∙ z))
 
 pub overflow_add-end : goal.overflow_add-end
@@ -37,7 +36,7 @@ early_line-next-requires c =
     let l = c in
     let some = c.loop-size-test.true in
     let h = l.loop-size.invariant.2 in
-    (h.reached, lines_left _ _ _ 1 _ _ h (omega (arith, some, next_inside _ _ _ _ _ l.loop-size.invariant.2 l.loop-size.invariant.1)) l.requires.1, sym c.is_early.ensures ∙ not-false _ c.if-not-is_early.false, next_short _ _ _ _ _ h l.loop-size.invariant.1 some)
+    (h.reached, lines_left _ _ _ 1 _ _ h (omega (arith, some, next_inside _ _ _ _ _ l.loop-size.invariant.2 l.loop-size.invariant.1)) l.requires.1, sym c.is_early.ensures ∙ c.if-not-is_early.false, next_short _ _ _ _ _ h l.loop-size.invariant.1 some)
 
 pub overflow_add-at : goal.overflow_add-at
 overflow_add-at c = let l = c in omega (arith, next_inside _ _ _ _ _ l.loop-size.invariant.2 l.loop-size.invariant.1, l.well_formed.1.1.0)
@@ -55,7 +54,7 @@ pub loop-size-preserved : goal.loop-size-preserved
 loop-size-preserved c =
     let l = c in
     let k = c.early_line-next in
-    (k.auto.1.0 ∙ l.loop-size.invariant.0, simp part_from at c.line_size-size-in-loop-size.ensures, read_next _ _ _ _ _ l.loop-size.invariant.2 l.loop-size.invariant.1 c.loop-size-test.true _ k.ensures)
+    (k.auto.table ∙ l.loop-size.invariant.0, simp part_from at c.line_size-size-in-loop-size.ensures, read_next _ _ _ _ _ l.loop-size.invariant.2 l.loop-size.invariant.1 c.loop-size-test.true _ k.ensures)
 
 pub shape_of-table : goal.shape_of-table
 shape_of-table c = c.loop-size.invariant.0

@@ -6,7 +6,7 @@ use Rattle.program.specs.Runs.{Read}
 use Rattle.program.proofs.feed_early.Given as goal
 
 abbrev pub invariant-loop-size : goal.invariant-loop-size
-invariant-loop-size l = (length l.table ≡ length l.initial.table) × (l.size ≡ line_size (drop l.at l.s)) × Read (record { run = l.initial.next; l.table = l.initial.table }) (record { run = l.next; l.table = l.table }) l.at l.s
+invariant-loop-size l = (length l.table ≡ length l.initial.table) × (l.size ≡ line_size (drop l.at l.s)) × Read (record { run = l.initial.next; table = l.initial.table }) (record { run = l.next; table = l.table }) l.at l.s
 
 abbrev pub decreases-loop-size : goal.decreases-loop-size
 decreases-loop-size l = length l.s - l.at

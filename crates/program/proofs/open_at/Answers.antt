@@ -1,6 +1,5 @@
 -- `open_at` meets its contract: a number that is no instant is refused with 8; otherwise it goes by the number of the watch's answer.
 use mathlib.Core.Path.{◌≡◌, sym, ap, ◌∙◌, subst}
-use borrow.Author.Tests.{not-true, not-false}
 use mir.Syntax.{w32}
 use mir.Val.{SFits}
 use Rattle.interval.specs.Instants.{is_instant}
@@ -14,10 +13,10 @@ known : (c : After-is_wide_instant) → is_instant c.args.o ≡ c.is_wide_instan
 known c = sym (c.is_wide_instant.ensures ∙ ap is_instant (same64 _ c.ranges.o))
 
 fits : (c : Else-not-is_wide_instant) → SFits w32 c.args.o
-fits c = instant_fits _ (known c.before ∙ not-false _ c.if-not-is_wide_instant.false)
+fits c = instant_fits _ (known c.before ∙ c.if-not-is_wide_instant.false)
 
 -- what the watch answers
-opened : (c : After-opening-a) → let g = c.args in (c.opening-a.result ≡ (opening_step g.run.chart g.table.now g.o).answer) × (c.opening-a.new.1.0 ≡ (opening_step g.run.chart g.table.now g.o).table)
+opened : (c : After-opening-a) → let g = c.args in (c.opening-a.result ≡ (opening_step g.run.chart g.table.now g.o).answer) × (c.opening-a.new.table ≡ (opening_step g.run.chart g.table.now g.o).table)
 opened c =
     let d = c.before.before.before in
     let wide = same64 _ d.ranges.o in
@@ -26,15 +25,14 @@ opened c =
 
 pub returns-then-not-is_wide_instant : goal.returns-then-not-is_wide_instant
 returns-then-not-is_wide_instant c =
-    let d = c in
-    let s = d in
-    open_out s.args.run _ s.args.table.now s.args.o s.requires.1 (known d.before ∙ not-true _ d.if-not-is_wide_instant.true) c.refused_run.ensures
+    let k = (goal.at.returns-then-not-is_wide_instant c).After-is_wide_instant in
+    open_out c.args.run _ c.args.table.now c.args.o c.requires.1 (known k ∙ c.if-not-is_wide_instant.true) c.refused_run.ensures
 
 pub overflow_cast-o : goal.overflow_cast-o
-overflow_cast-o c = let d = (goal.at.overflow_cast-o c).Else-not-is_wide_instant in subst (SFits w32) (sym (same64 _ d.ranges.o)) (fits d)
+overflow_cast-o c = subst (SFits w32) (sym (same64 _ c.ranges.o)) (fits (goal.at.overflow_cast-o c).Else-not-is_wide_instant)
 
 pub returns-then-a-ne0 : goal.returns-then-a-ne0
-returns-then-a-ne0 c = let d = c in let o = d.before.before.before in step_refused _ _ _ _ _ (opened o) d.if-a-ne0.true c.refused_run-then-a-ne0.ensures
+returns-then-a-ne0 c = step_refused _ _ _ _ _ (opened (goal.at.returns-then-a-ne0 c).After-opening-a) c.if-a-ne0.true c.refused_run-then-a-ne0.ensures
 
 pub returns : goal.returns
-returns c = let d = c in let o = d.before.before.before in step_taken _ _ _ _ _ (opened o) d.if-a-ne0.false c.next_run.ensures
+returns c = step_taken _ _ _ _ _ (opened (goal.at.returns c).After-opening-a) c.if-a-ne0.false c.next_run.ensures

@@ -16,32 +16,24 @@ prints_table d = let g = d.args in going_prints g.format g.self g.table.now g.ou
 
 pub returns-then-is_refused : goal.returns-then-is_refused
 returns-then-is_refused c =
-    let w = c in
-    let d = w in
-    let g = d.args in
-    let e = refused_prints g.format g.self g.table.now g.out.now g.self.stage (sym d.is_refused.ensures ∙ d.if-is_refused.true) in
-    (w.write_refusal.ensures.0 ∙ sym e.0, w.write_refusal.ensures.1 ∙ sym e.1)
+    let g = c.args in
+    let e = refused_prints g.format g.self g.table.now g.out.now g.self.stage (sym c.is_refused.ensures ∙ c.if-is_refused.true) in
+    (c.write_refusal.ensures.0 ∙ sym e.0, c.write_refusal.ensures.1 ∙ sym e.1)
 
 -- what a report asks
 pub print_report-requires : goal.print_report-requires
 print_report-requires c =
-    let k = c in
-    let d = k.before.before.before.before in
-    let s = d in
-    subst (λ f. Printable f s.args.self s.args.table.now) k.in-Report.is s.requires (goes d)
+    let d = (goal.at.print_report-requires c).Else-is_refused in
+    subst (λ f. Printable f c.args.self c.args.table.now) c.in-Report.is c.requires (goes d)
 
 pub returns-in-Listing : goal.returns-in-Listing
 returns-in-Listing c =
-    let w = c in
-    let k = w in
-    let d = k.before.before.before.before in
-    let l = listing_prints _ _ _ _ k.in-Listing.is in
-    (w.write_listing.ensures.0 ∙ sym ((prints_table d).0 ∙ l.0), w.write_listing.ensures.1 ∙ sym ((prints_table d).1 ∙ l.1))
+    let t = prints_table (goal.at.returns-in-Listing c).Else-is_refused in
+    let l = listing_prints _ _ _ _ c.in-Listing.is in
+    (c.write_listing.ensures.0 ∙ sym (t.0 ∙ l.0), c.write_listing.ensures.1 ∙ sym (t.1 ∙ l.1))
 
 pub returns-in-Report : goal.returns-in-Report
 returns-in-Report c =
-    let w = c in
-    let k = w in
-    let d = k.before.before.before.before in
-    let l = report_prints _ _ _ _ k.in-Report.is in
-    (w.print_report.ensures.0 ∙ sym ((prints_table d).0 ∙ l.0), w.print_report.ensures.1 ∙ sym ((prints_table d).1 ∙ l.1))
+    let t = prints_table (goal.at.returns-in-Report c).Else-is_refused in
+    let l = report_prints _ _ _ _ c.in-Report.is in
+    (c.print_report.ensures.0 ∙ sym (t.0 ∙ l.0), c.print_report.ensures.1 ∙ sym (t.1 ∙ l.1))

@@ -1,15 +1,18 @@
-// The standard input, read in pieces and played to its end. No contract can say what a file descriptor hands over; so those here say that there are
-// pieces of which the run, the table and what is printed are those of crate `program`.
+// The standard input, read in pieces and played to its end. What a reader hands over is any list of bytes, and no contract can say which a file has; so those here
+// say that there are pieces of which the run, the table and what is printed are those of crate `program`, and that these are the reader's bytes where they are known.
 #![tactic(auto)]
 
-ghost use Rattle.std.specs.Prelude.{◌≡◌, Bool, true, false, List, ℕ, ◌+◌, ◌≤◌, ◌<◌, ℤ, length, take, drop};
+ghost use Rattle.std.specs.Prelude.{◌≡◌, Bool, true, false, List, ℕ, ◌+◌, ◌≤◌, ◌<◌, Result, length, take, drop};
+ghost use Rattle.std.specs.Io.KnownBytes.{Keeps};
 ghost use Rattle.program.specs.Runs.{Reached, HasLines, HasFew, is_refused, fed};
-ghost use Rattle.reading.specs.Readings.{piece_of};
-ghost use Rattle.input.specs.Inputs.{held, Turned, end_of, OfInput, PrintsInput, Printout};
+ghost use Rattle.reading.specs.Readings.{piece_of, Hands};
+ghost use Rattle.input.specs.Inputs.{Error, held, Turned, Took, end_of, OfInput, PrintsInput, Printout};
 ghost use Rattle.program.specs.Statements.{bytes_for};
 
-use libc::{STDERR_FILENO, STDIN_FILENO, STDOUT_FILENO};
 use program::{Format, Run};
+use reading::Remembering;
+use std::io;
+use std::io::{Read, Write};
 
 // A run and whether reading the input failed; then the run is not finished.
 #[derive(Clone, Copy)]
@@ -34,34 +37,56 @@ struct Turn {
     failed: bool,
 }
 
-// A whole program: plays the standard input on a table of 3,000 rows and hands what is printed for it to the standard output. Where reading or writing fails,
-// standard error says so behind the program's name, and where reading fails nothing is printed.
-pub fn run(format: Format, name: &[u8], table: &mut [i32], out: &mut [u8])
+// A whole program but for its memory: plays the input of a reader on a table of 3,000 rows and hands what is printed for it to a writer. Where reading or writing
+// fails, a line on `errors` says so behind the program's name, and where reading fails nothing is printed. The answer is whether all went well.
+pub fn run<R: Read, W: Write, E: Write>(
+    reader: &mut Remembering<R>,
+    writer: &mut W,
+    errors: &mut E,
+    format: Format,
+    name: &[u8],
+    table: &mut [i32],
+    out: &mut [u8],
+) -> bool
     requires { (length table.old ≡ 15000) × (bytes_for format 3000 ≤ length out.old) }
-    ensures { (r : Printed) × PrintsInput format table.old out.old r table.new out.new }
+    ensures { (r : Printed) × PrintsInput format (R.remaining reader.old.reader) (R.remaining reader.new.reader) table.old out.old r table.new out.new × Hands (W.contents writer.old) (W.contents writer.new) (take r.length out.new) result × (result ≡ true → (r.failed ≡ false) × Keeps (E.contents errors.old) (E.contents errors.new)) }
 {
-    let printed = print_input(format, table, out);
+    let printed = print_input(reader, format, table, out);
     if printed.failed {
-        say_not_read(name);
-        return;
+        say_not_read(errors, name, reader.failure);
+        return false;
     }
     let n = printed.length;
-    write(format, name, &out[..n]);
+    write(writer, errors, format, name, &out[..n])
 }
 
 // Writes what the program of this format prints for an input, with a table of 3,000 rows; nothing else may be handed over.
-fn write(format: Format, name: &[u8], text: &[u8])
+fn write<W: Write, E: Write>(
+    writer: &mut W,
+    errors: &mut E,
+    format: Format,
+    name: &[u8],
+    text: &[u8],
+) -> bool
     requires { Printout format 3000 text.now }
+    ensures { Hands (W.contents writer.old) (W.contents writer.new) text.now result × (result ≡ true → Keeps (E.contents errors.old) (E.contents errors.new)) }
 {
-    if !io::write_all(STDOUT_FILENO, text) {
-        say_not_written(name);
+    if let Err(e) = reading::write_whole(writer, text) {
+        say_not_written(errors, name, e);
+        return false;
     }
+    true
 }
 
-// Plays the standard input to its end and writes what the program of this format prints for it at the front of the output. Nothing is read, and the length
+// Plays an input to its end and writes what the program of this format prints for it at the front of the output. Nothing is read, and the length
 // is 0, where the output has less than `bytes_for` says.
-pub fn print_input(format: Format, table: &mut [i32], out: &mut [u8]) -> Printed
-    ensures { PrintsInput format table.old out.old result table.new out.new }
+pub fn print_input<R: Read>(
+    reader: &mut R,
+    format: Format,
+    table: &mut [i32],
+    out: &mut [u8],
+) -> Printed
+    ensures { PrintsInput format (R.remaining reader.old) (R.remaining reader.new) table.old out.old result table.new out.new }
 {
     let needed = program::bytes_for(format, table.len());
     if out.len() < needed {
@@ -70,7 +95,7 @@ pub fn print_input(format: Format, table: &mut [i32], out: &mut [u8]) -> Printed
             failed: false,
         };
     }
-    let played = play_input(table);
+    let played = play_input(reader, table);
     if played.failed {
         return Printed {
             length: 0,
@@ -85,17 +110,17 @@ pub fn print_input(format: Format, table: &mut [i32], out: &mut [u8]) -> Printed
     }
 }
 
-// Plays the standard input to its end. A proved loop has to end, and nothing says that an input does; so it counts its turns down, from a number
+// Plays an input to its end. A proved loop has to end, and nothing says that an input does; so it counts its turns down, from a number
 // that no run uses up; if one did, that would count as a reading that failed.
-pub fn play_input(table: &mut [i32]) -> Played
-    ensures { OfInput table.old result table.new }
+pub fn play_input<R: Read>(reader: &mut R, table: &mut [i32]) -> Played
+    ensures { OfInput (R.remaining reader.old) (R.remaining reader.new) table.old result table.new }
 {
-    let mut buf = io::large_buffer();
+    let mut buf = [0u8; 65536];
     let mut run = program::start();
     let mut kept: usize = 0;
     let mut turns: u64 = 140737488355328;
     while turns > 0 {
-        let t = take_piece(run, table, &mut buf, kept);
+        let t = take_piece(reader, run, table, &mut buf, kept);
         if t.ended {
             return end_of(t);
         }
@@ -106,16 +131,19 @@ pub fn play_input(table: &mut [i32]) -> Played
     Played { run, failed: true }
 }
 
-// Says on standard error, in one line that begins with the program's name, that the standard input could not be read, and the system's reason.
-fn say_not_read(name: &[u8]) {
-    io::write_all(STDERR_FILENO, name);
-    os::fail(b": standard input could not be read");
+// Says in one line that begins with the program's name that the standard input could not be read, and the system's reason.
+fn say_not_read<E: Write>(errors: &mut E, name: &[u8], reason: Option<io::Error>) {
+    reading::say(errors, name, b": standard input could not be read", reason);
 }
 
 // Says in the same way that not all of the output could be written.
-fn say_not_written(name: &[u8]) {
-    io::write_all(STDERR_FILENO, name);
-    os::fail(b": standard output could not be written");
+fn say_not_written<E: Write>(errors: &mut E, name: &[u8], reason: io::Error) {
+    reading::say(
+        errors,
+        name,
+        b": standard output could not be written",
+        Some(reason),
+    );
 }
 
 // The run after the last reading.
@@ -136,11 +164,17 @@ fn end_of(t: Turn) -> Played
 }
 
 // Reads once, behind the bytes kept, and plays what came. A reading that a signal interrupted is tried again at the next turn.
-fn take_piece(run: Run, table: &mut [i32], buf: &mut [u8], kept: usize) -> Turn
+fn take_piece<R: Read>(
+    reader: &mut R,
+    run: Run,
+    table: &mut [i32],
+    buf: &mut [u8],
+    kept: usize,
+) -> Turn
     requires { (length buf.old ≡ 65536) × Reached (record { run = run; table = table.old }) × (is_refused run.stage ≡ false) × HasLines run 65537 × (kept < 64) }
-    ensures { ((again : Bool) × (got : ℤ) × (piece : List ℕ) × Turned again got piece (held run table.old kept buf.old) result table.new buf.new) × Reached (record { run = result.run; table = table.new }) × (is_refused result.run.stage ≡ false → result.run.line ≤ run.line + 65536) × (result.kept < 64) × (result.ended ≡ false → is_refused result.run.stage ≡ false) }
+    ensures { ((again : Bool) × (got : Result ℕ Error) × (piece : List ℕ) × Turned again got piece (held run table.old kept buf.old) result table.new buf.new × Took again got piece (R.remaining reader.old) (R.remaining reader.new)) × Reached (record { run = result.run; table = table.new }) × (is_refused result.run.stage ≡ false → result.run.line ≤ run.line + 65536) × (result.kept < 64) × (result.ended ≡ false → is_refused result.run.stage ≡ false) }
 {
-    let got = reading::read_behind(STDIN_FILENO, buf, kept);
+    let got = reading::read_behind(reader, buf, kept);
     if reading::is_interrupted(got) {
         return Turn {
             run,
@@ -153,17 +187,17 @@ fn take_piece(run: Run, table: &mut [i32], buf: &mut [u8], kept: usize) -> Turn
 }
 
 // Plays what a reading brought behind the bytes kept.
-fn play_got(run: Run, table: &mut [i32], buf: &mut [u8], kept: usize, got: isize) -> Turn
+fn play_got(run: Run, table: &mut [i32], buf: &mut [u8], kept: usize, got: io::Result<usize>) -> Turn
     requires { (length buf.old ≡ 65536) × Reached (record { run = run; table = table.old }) × HasLines run 65537 × (kept < 64) }
     ensures { Turned false got (piece_of got (drop kept buf.old)) (held run table.old kept buf.old) result table.new buf.new × Reached (record { run = result.run; table = table.new }) × (is_refused result.run.stage ≡ false → result.run.line ≤ run.line + 65536) × (result.kept < 64) × (result.ended ≡ false → is_refused result.run.stage ≡ false) }
 {
-    let n = io::count(got, &buf[kept..]);
+    let n = reading::count(got, &buf[kept..]);
     if n == 0 {
         return Turn {
             run,
             kept,
             ended: true,
-            failed: got < 0,
+            failed: got.is_err(),
         };
     }
     play_piece(run, table, buf, kept, n)

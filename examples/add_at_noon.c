@@ -3,7 +3,7 @@
  *
  * Prints what each addition answers, a refused one first, and the table at the end. Chart and log stand in the program;
  * examples/bench_morning.c reads them from files. To build it and run it:
- *     rt staticlib host
+ *     tools/build host
  *     gcc -std=c11 -Iinclude examples/add_at_noon.c target/staticlib/libhost.a -o target/add_at_noon
  *     target/add_at_noon
  *

@@ -4,7 +4,7 @@
  * Prints every recognition of the chart's last entry, as a tree, as soon as the instant that it ends at is closed, the
  * shortest of an instant first, and the table at the end. Chart, log and output have milliseconds, with a point and one
  * digit for tenths; the calls take and give tenths. To build it and run it on a morning at the bench:
- *     rt staticlib host
+ *     tools/build host
  *     gcc -std=c11 -Iinclude examples/bench_morning.c target/staticlib/libhost.a -o target/bench_morning
  *     target/bench_morning examples/morning.chart examples/morning.log
  *

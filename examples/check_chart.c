@@ -1,7 +1,7 @@
 /*
  * Checks a chart and prints the verdict. Use: check_chart [FILE]
  * Without FILE the chart is read from standard input. To build it:
- *     rt staticlib host
+ *     tools/build host
  *     gcc -std=c11 -Iinclude examples/check_chart.c target/staticlib/libhost.a -o target/check_chart
  */
 #include "chronicle.h"

@@ -9,7 +9,7 @@
  *
  * Every call is in one archive, for x86-64 Linux:
  *
- *     rt staticlib host
+ *     tools/build host
  *     gcc -Iinclude program.c target/staticlib/libhost.a
  *
  * chronicle_check_chart says whether a chart is sound. A program that runs a

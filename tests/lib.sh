@@ -32,31 +32,17 @@ is_first() {
     [ -z "$before" ]
 }
 
-# make_archive CRATE: the proved static library as target/staticlib/libCRATE.a, for C and Rust to link. `rt ci` writes no
-# archive, so `rt lib` proves the crate here, and those below it, and builds it.
-make_archive() {
-    is_first "archive of $1" || return 0
-    heading "proved archive of $1"
-    make_proved "$1" lib
-    mkdir -p "$archives"
-    cp "crates/$1/out/lib$1.a" "$archives"
-}
+# make_archive CRATE: the proved static library as target/staticlib/libCRATE.a, for C and Rust to link.
+make_archive() { make_proved "archive of $1" "$1"; }
 
-# make_program CRATE: the proved program as target/bin/CRATE. `rt run` proves it, builds it and runs it once, on nothing.
-make_program() {
-    is_first "program $1" || return 0
-    heading "proved program $1"
-    make_proved "$1" run
-    mkdir -p "$programs"
-    cp "crates/$1/out/$1" "$programs"
-}
+# make_program CRATE: the proved program as target/bin/CRATE.
+make_program() { make_proved "program $1" "$1"; }
 
-# make_proved CRATE COMMAND: what `rt COMMAND` writes in the crate's folder; its verdict is shown, or all that it says
-# where it fails.
+# make_proved WHAT CRATE: `rt ci` leaves neither archive nor program, so what tools/build proves and builds.
 make_proved() {
-    mkdir -p target
-    (cd "crates/$1" && rt "$2") >"target/$1.log" 2>&1 </dev/null || { cat "target/$1.log" >&2; fail "rt $2 failed for $1"; }
-    grep '^logic=proved' "target/$1.log" | tail -n 1
+    is_first "$1" || return 0
+    heading "proved $1"
+    tools/build "$2" || fail "tools/build $2 failed"
 }
 
 # rust SOURCE OUTPUT [WORD...]: compiles one Rust crate, release build, no crate from outside.

@@ -1,4 +1,4 @@
-//! The proved chart check, linked from the archive that `rt staticlib host` writes. include/chronicle.h declares the
+//! The proved chart check, linked from the archive that `tools/build host` writes. include/chronicle.h declares the
 //! same.
 
 use common::plain_chart::Verdict;

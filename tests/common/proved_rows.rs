@@ -1,4 +1,4 @@
-//! The proved number of rows that fit, linked from the archive that `rt staticlib host` writes. include/chronicle.h declares
+//! The proved number of rows that fit, linked from the archive that `tools/build host` writes. include/chronicle.h declares
 //! the same.
 
 #[link(name = "host", kind = "static")]

@@ -1,4 +1,4 @@
-//! The proved watch, linked from the archive that `rt staticlib host` writes. include/chronicle.h declares the same.
+//! The proved watch, linked from the archive that `tools/build host` writes. include/chronicle.h declares the same.
 
 use common::interface::{Addition, Answer, Calls, Chart, ChartAnswer, Report, Rows, TreeAnswer, Watch};
 

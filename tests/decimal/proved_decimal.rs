@@ -1,4 +1,4 @@
-//! The proved reading and writing of instants and lengths, linked from the archive that `rt staticlib host` writes.
+//! The proved reading and writing of instants and lengths, linked from the archive that `tools/build host` writes.
 //! include/chronicle.h declares the same.
 
 use crate::calls::{Calls, Tenths};

@@ -1,4 +1,4 @@
-//! The proved listing, linked from the archive that `rt staticlib host` writes. include/chronicle.h declares the same.
+//! The proved listing, linked from the archive that `tools/build host` writes. include/chronicle.h declares the same.
 
 use crate::lent::Lent;
 use crate::printed::numbers_of;

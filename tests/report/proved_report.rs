@@ -1,4 +1,4 @@
-//! The proved report, linked from the archive that `rt staticlib host` writes. include/chronicle.h declares the same.
+//! The proved report, linked from the archive that `tools/build host` writes. include/chronicle.h declares the same.
 
 #[link(name = "host", kind = "static")]
 extern "C" {

@@ -1,7 +1,7 @@
 -- `decimal::read_digits` meets its contract. The loop's invariant: the value so far, carried on over the bytes that are left, is the
 -- answer for the whole slice; i digits keep the value below the ith power of ten.
 use mathlib.Core.Path.{◌≡◌, refl, sym, ◌∙◌}
-use mathlib.Core.Bool.{true, false, cond}
+use mathlib.Core.Bool.{true, false}
 use mathlib.Core.List.{List}
 use Prim.Native.Nat.{ℕ, ◌+◌, ◌*◌, ◌-◌, ◌≤◌, ◌<◌}
 use native.Mathlib.Omega.{arith}

@@ -1,5 +1,4 @@
 -- `find` meets its contract: the search of what is left, added to what was passed, is the search of the whole.
-use Prim.Native.Nat.{◌-◌}
 use native.Mathlib.Omega.{arith}
 use Rattle.text.proofs.Laws.{index_hit, index_step, index_none}
 use Rattle.text.proofs.find.Goals as goal

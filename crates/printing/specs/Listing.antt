@@ -1,6 +1,6 @@
 -- What the listing program prints. Document 01, "The listing program": it "prints the table at the end. A refusal prints only one
 -- line: `refused`, number, line of the whole input ..., parted by tabs." A text is a list of bytes; 9 is the tab, 10 ends a line.
-use Rattle.std.specs.Prelude.{ℕ, zero, suc, ◌+◌, ◌*◌, Bool, cond, ◌&&◌, List, [], ◌∷◌, ◌++◌, leb, ℤ, pos, length, drop}
+use Rattle.std.specs.Prelude.{ℕ, zero, suc, ◌+◌, ◌*◌, Bool, ◌&&◌, List, [], ◌∷◌, ◌++◌, leb, ℤ, pos, length, drop}
 use Rattle.text.specs.Text.{lines}
 use Rattle.text.specs.Output.{length_where, output_where}
 use Rattle.decimal.specs.Spelling.{spelled_number, spelled, spelled_instant}

@@ -15,7 +15,7 @@ use Rattle.printing.proofs.write_integer_field.Goals as goal
 
 written : (c : After-write_integer-n) →
     let g = c.args in
-    (g.at + 1 + c.write_integer-n.result ≡ g.at + length (9 ∷ spelled g.x)) × (with_part (set g.out.now g.at 9) (g.at + 1) c.write_integer-n.new.1.0 ≡ sets g.out.now g.at (9 ∷ spelled g.x)) × (g.at + 1 + c.write_integer-n.result ≤ g.at + 12)
+    (g.at + 1 + c.write_integer-n.result ≡ g.at + length (9 ∷ spelled g.x)) × (with_part (set g.out.now g.at 9) (g.at + 1) c.write_integer-n.new.out ≡ sets g.out.now g.at (9 ∷ spelled g.x)) × (g.at + 1 + c.write_integer-n.result ≤ g.at + 12)
 written c =
     let s = c in
     field_written (spelled s.args.x) s.args.out.now s.args.at 9 12 (omega (arith, integer_length_most s.args.x s.ranges.x)) s.requires (simp (same32, s.ranges.x) at c.write_integer-n.ensures)

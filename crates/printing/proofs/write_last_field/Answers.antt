@@ -11,7 +11,7 @@ use Rattle.printing.proofs.write_last_field.Goals as goal
 
 left_end : (c : After-write_number_field-end) →
     let g = c.args in
-    Remaining g.out.now g.at (last_field g.m) c.write_number_field-end.new.1.0 c.write_number_field-end.result (10 ∷ [])
+    Remaining g.out.now g.at (last_field g.m) c.write_number_field-end.new.out c.write_number_field-end.result (10 ∷ [])
 left_end c =
     let g = c.args in
     let e = c.write_number_field-end.ensures in

@@ -17,7 +17,7 @@ room c = omega (arith, c.if-out-tallies.false, c.if-out-lt-TOTAL_SIZE.false)
 
 left_total : (c : After-write_tallies-a) →
     let g = c.args in
-    Remaining g.out.now 0 (report_text g.tallies.now g.total) c.write_tallies-a.new.1.0 c.write_tallies-a.result (total_word ++ last_field g.total)
+    Remaining g.out.now 0 (report_text g.tallies.now g.total) c.write_tallies-a.new.out c.write_tallies-a.result (total_word ++ last_field g.total)
 left_total c =
     let g = c.args in
     let e = c.write_tallies-a.ensures in
@@ -25,19 +25,15 @@ left_total c =
 
 left_number : (c : After-write_bytes-b) →
     let g = c.args in
-    Remaining g.out.now 0 (report_text g.tallies.now g.total) c.write_bytes-b.new.1.0 c.write_bytes-b.result (last_field g.total)
-left_number c =
+    Remaining g.out.now 0 (report_text g.tallies.now g.total) c.write_tallies-a.new.out c.write_tallies-a.result (total_word ++ last_field g.total) →
+    Remaining g.out.now 0 (report_text g.tallies.now g.total) c.write_bytes-b.new.out c.write_bytes-b.result (last_field g.total)
+left_number c left =
     let e = c.write_bytes-b.ensures in
-    remaining_less (left_total c.before.before.before.before.before) total_word _ refl e.0 e.1
+    remaining_less left total_word _ refl e.0 e.1
 
 -- where the total is written there is room for it
-total_fits : (c : After-write_bytes-b) →
-    let s = c.before.before.before.before.before.before.before.before.before.before.before in
-    (c.write_bytes-b.result + length (last_field s.args.total) ≤ total_size + length s.args.tallies.now * tally_size) × (total_size + length s.args.tallies.now * tally_size ≤ length s.args.out.now)
-total_fits c =
-    let w = c in
-    let s = w in
-    (omega (arith, c.write_bytes-b.ensures.0, w.write_tallies-a.ensures.2, last_field_most s.args.total s.ranges.total.fits), room w.before.before)
+total_fits : (c : After-write_bytes-b) → let g = c.args in c.write_bytes-b.result + length (last_field g.total) ≤ total_size + length g.tallies.now * tally_size
+total_fits c = omega (arith, c.write_bytes-b.ensures.0, c.write_tallies-a.ensures.2, last_field_most c.args.total c.ranges.total.fits)
 
 pub returns-then-out-lt-TOTAL_SIZE : goal.returns-then-out-lt-TOTAL_SIZE
 returns-then-out-lt-TOTAL_SIZE c = let g = c.args in none_where _ _ (report_short g.tallies.now g.out.now (omega (arith, c.if-out-lt-TOTAL_SIZE.true)))
@@ -49,17 +45,20 @@ pub write_tallies-a-requires : goal.write_tallies-a-requires
 write_tallies-a-requires c = omega (arith, room (goal.at.write_tallies-a-requires c).Else-out-tallies)
 
 pub write_bytes-b-requires : goal.write_bytes-b-requires
-write_bytes-b-requires c = let w = (goal.at.write_bytes-b-requires c).After-write_tallies-a in
-    omega (arith, w.write_tallies-a.ensures.2, (left_total w).same, room w.before.before)
+write_bytes-b-requires c =
+    let w = (goal.at.write_bytes-b-requires c).After-write_tallies-a in
+    omega (arith, c.write_tallies-a.ensures.2, (left_total w).same, room (goal.at.write_bytes-b-requires c).Else-out-tallies)
 
 pub write_last_field-requires : goal.write_last_field-requires
-write_last_field-requires c = let b = (goal.at.write_last_field-requires c).After-write_bytes-b in
-    omega (arith, total_fits b, (left_number b).same)
+write_last_field-requires c =
+    let b = (goal.at.write_last_field-requires c).After-write_bytes-b in
+    let left = left_number b (left_total (goal.at.write_last_field-requires c).After-write_tallies-a) in
+    omega (arith, total_fits b, left.same, room (goal.at.write_last_field-requires c).Else-out-tallies)
 
 pub returns : goal.returns
-returns c = let l = c in
-    let b = l.before.before.before.before in
-    let s = b in
-    let g = s.args in
-    let done = remaining_last (left_number b) l.write_last_field.ensures.0 l.write_last_field.ensures.1 in
-    text_where (report_text g.tallies.now g.total) g.out.now (report_fits_lem g.tallies.now g.out.now (total_fits b).1) (omega (arith, done.0, l.write_last_field.ensures.0, total_fits b)) done
+returns c =
+    let g = c.args in
+    let b = (goal.at.returns c).After-write_bytes-b in
+    let r = room (goal.at.returns c).Else-out-tallies in
+    let done = remaining_last (left_number b (left_total (goal.at.returns c).After-write_tallies-a)) c.write_last_field.ensures.0 c.write_last_field.ensures.1 in
+    text_where (report_text g.tallies.now g.total) g.out.now (report_fits_lem g.tallies.now g.out.now r) (omega (arith, done.0, c.write_last_field.ensures.0, total_fits b, r)) done

@@ -1,5 +1,5 @@
 -- `write_tallies` meets its contract: the entries from the one at hand on are left to write, and none took more bytes than an entry may.
-use Prim.Native.Nat.{◌+◌, ◌-◌}
+use Prim.Native.Nat.{◌+◌}
 use native.Mathlib.Omega.{arith}
 use mathlib.Core.List.{◌++◌}
 use lib.ListN.{get_or, drop}

@@ -1,10 +1,9 @@
 -- The tests of one row, by the ways the code goes through them.
 use Prim.Native.Nat.{ℕ, zero, suc, ◌+◌, ◌<◌, ◌^◌}
 use mathlib.Core.Path.{◌≡◌, refl, sym, ◌∙◌}
-use mathlib.Core.Bool.{Bool, true, false, not}
+use mathlib.Core.Bool.{Bool, true, false}
 use mathlib.Core.List.{List}
 use native.Mathlib.Omega.{arith}
-use borrow.Author.Tests.{not-true, not-false}
 use lib.IntN.{ℤ}
 use lib.Signed.{lt_z, le_z, mag}
 use mir.Syntax.{w32}
@@ -18,11 +17,11 @@ use Rattle.consistency.specs.Rows.{last_end}
 use Rattle.consistency.specs.declared.Limits.{Limits}
 
 -- a test that a function made, whose result r is a
-pub failed : {a r : Bool} → r ≡ a → not r ≡ true → a ≡ false
-failed e h = sym e ∙ not-true _ h
+pub failed : {a r : Bool} → r ≡ a → r ≡ false → a ≡ false
+failed e h = sym e ∙ h
 
-pub passed : {a r : Bool} → r ≡ a → not r ≡ false → a ≡ true
-passed e h = sym e ∙ not-false _ h
+pub passed : {a r : Bool} → r ≡ a → r ≡ true → a ≡ true
+passed e h = sym e ∙ h
 
 -- the order the other way round
 pub not_below : (a b : ℤ) → lt_z a b ≡ false → le_z b a ≡ true

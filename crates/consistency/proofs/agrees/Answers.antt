@@ -11,20 +11,20 @@ shaped c s h = ap shape_of (sym c.kind_of-kind.ensures) ∙ sym c.shape_of-shape
 
 pub returns-in-Leaf : goal.returns-in-Leaf
 unfolding agrees_by
-returns-in-Leaf c = let d = c in simp (shaped d.before _ d.in-Leaf.is, c.is_event_row.ensures)
+returns-in-Leaf c = simp (shaped (goal.at.returns-in-Leaf c).After-shape_of-shape _ c.in-Leaf.is, c.is_event_row.ensures)
 
 pub returns-in-Single : goal.returns-in-Single
 unfolding agrees_by
-returns-in-Single c = let d = c in let s = d.before in simp (shaped s _ d.in-Single.is, c.is_single_row.ensures, s.kind_of-kind.ensures)
+returns-in-Single c = simp (shaped (goal.at.returns-in-Single c).After-shape_of-shape _ c.in-Single.is, c.is_single_row.ensures, c.kind_of-kind.ensures)
 
 pub returns-in-Arms : goal.returns-in-Arms
 unfolding agrees_by
-returns-in-Arms c = let d = c in let s = d.before in simp (shaped s _ d.in-Arms.is, c.is_arm_row.ensures, s.kind_of-kind.ensures)
+returns-in-Arms c = simp (shaped (goal.at.returns-in-Arms c).After-shape_of-shape _ c.in-Arms.is, c.is_arm_row.ensures, c.kind_of-kind.ensures)
 
 pub returns-in-Double : goal.returns-in-Double
 unfolding agrees_by
-returns-in-Double c = let d = c in let s = d.before in simp (shaped s _ d.in-Double.is, c.is_pair_row.ensures, s.kind_of-kind.ensures)
+returns-in-Double c = simp (shaped (goal.at.returns-in-Double c).After-shape_of-shape _ c.in-Double.is, c.is_pair_row.ensures, c.kind_of-kind.ensures)
 
 pub returns-in-Delayed : goal.returns-in-Delayed
 unfolding agrees_by
-returns-in-Delayed c = let d = c in simp (shaped d.before _ d.in-Delayed.is, c.is_delayed_row.ensures)
+returns-in-Delayed c = simp (shaped (goal.at.returns-in-Delayed c).After-shape_of-shape _ c.in-Delayed.is, c.is_delayed_row.ensures)

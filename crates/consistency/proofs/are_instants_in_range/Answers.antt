@@ -21,11 +21,8 @@ returns-then-not-is_instant c = simp (failed (open_test (goal.at.returns-then-no
 
 pub returns-then-is_instant : goal.returns-then-is_instant
 returns-then-is_instant c =
-    let e = (goal.at.returns-then-is_instant c).After-is_instant-2 in
-    let d = e in
-    let l = d.args.limits in
-    let f = instants l c.struct_told-then-is_instant-2-1.given in
-    simp (passed (open_test d.before) d.if-not-is_instant.false, floor_test e ∙ c.if-is_instant.true, c.is_no_later.ensures, same32, f.instant, f.floor)
+    let f = instants c.args.limits c.struct_told-then-is_instant-2-1.given in
+    simp (passed (open_test (goal.at.returns-then-is_instant c).After-is_instant) c.if-not-is_instant.false, floor_test (goal.at.returns-then-is_instant c).After-is_instant-2 ∙ c.if-is_instant.true, c.is_no_later.ensures, same32, f.instant, f.floor)
 
 pub returns-else-is_instant : goal.returns-else-is_instant
-returns-else-is_instant c = let d = c in simp (passed (open_test d.before) d.if-not-is_instant.false, floor_test (goal.at.returns-else-is_instant c).After-is_instant-2 ∙ c.if-is_instant.false, c.if-is_instant.false)
+returns-else-is_instant c = simp (passed (open_test (goal.at.returns-else-is_instant c).After-is_instant) c.if-not-is_instant.false, floor_test (goal.at.returns-else-is_instant c).After-is_instant-2 ∙ c.if-is_instant.false, c.if-is_instant.false)

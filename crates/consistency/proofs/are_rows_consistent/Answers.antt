@@ -1,124 +1,122 @@
 -- `are_rows_consistent` meets its contract: the rows passed are consistent, and one that is not ends the walk.
-use Prim.Native.Nat.{◌+◌, ◌*◌, ◌-◌, ◌<◌, ◌≤◌}
+use Prim.Native.Nat.{ℕ, ◌+◌, ◌*◌, ◌<◌, ◌≤◌}
 use mathlib.Core.Path.{◌≡◌, sym, ap, ◌∙◌}
-use mathlib.Core.Bool.{true}
+use mathlib.Core.Bool.{true, false}
+use mathlib.Core.List.{List}
 use native.Mathlib.Omega.{arith}
-use lib.IntN.{pos, nat_abs}
+use lib.IntN.{ℤ, pos, nat_abs}
 use lib.ListN.{length}
-use lib.Signed.{le_z}
+use lib.Signed.{le_z, lt_z}
 use mir.Syntax.{w32}
 use mir.Val.{SFits, to_z, of_z}
 use Rattle.interval.proofs.Machine.{same32, cast_up}
+use Rattle.chart.specs.Charts.{entry_at, is_usable}
+use Rattle.chart.specs.declared.Chart.{Chart}
 use Rattle.chart.proofs.Below.{at_place, none_below, one_more, not_all}
 use Rattle.chart.proofs.Usable.{usable_few}
+use Rattle.state.specs.declared.WatchState.{WatchState}
+use Rattle.model.specs.Capacity.{capacity}
 use Rattle.model.proofs.Capacity.{capacity_fits}
 use Rattle.model.specs.Order.{since_of}
-use Rattle.table.specs.Table.{cell}
+use Rattle.table.specs.Table.{cell, stored_row}
+use Rattle.table.specs.declared.Row.{Row}
 use Rattle.consistency.specs.Consistency.{is_table_row_consistent}
-use Rattle.consistency.specs.Rows.{least_number, last_end}
+use Rattle.consistency.specs.Rows.{least_number, last_end, limits_of, is_row_of}
+use Rattle.consistency.specs.declared.Limits.{Limits}
 use Rattle.consistency.proofs.Tests.{failed, passed, numbers, not_below, last_next}
 use Rattle.consistency.proofs.Rows.{row_above, row_negative, row_unknown, row_is}
-use Rattle.consistency.proofs.are_rows_consistent.Goals.{After-is_row_of, After-struct_told-1, Else-count-n, Else-z-lt0, In-loop-i}
 use Rattle.consistency.proofs.are_rows_consistent.Goals as goal
 
+-- a row in use lies in the table
+room : (rows i : ℕ) (t : List ℤ) → rows ≤ capacity (length t) → i < rows → i * 5 + 5 ≤ length t
+room rows i t fit h = omega (arith, capacity_fits (length t), fit, h)
+
+-- an entry of the chart is one of 32
+few : (chart : Chart) (entries n : ℕ) → is_usable chart ≡ true → entries ≡ chart.count → n < entries → n < 32
+few chart entries n u s h = omega (arith, usable_few chart u, s, h)
+
 -- the row read, and its entry
-room : (c : In-loop-i) → let l = c.before in l.loop-i.i * 5 + 5 ≤ length l.args.t.now
-room c =
-    let l = c in
-    omega (arith, capacity_fits (length l.args.t.now), l.requires.1, c.loop-i-test.true)
+module _ (t : List ℤ) (i : ℕ) (r : Row) (is : r ≡ stored_row t i) (f : SFits w32 r.entry) where
+  read : to_z w32 (of_z w32 r.entry) ≡ cell t i 0
+  read = same32 _ f ∙ ap (λ q. q.entry) is
 
-read : (c : After-struct_told-1) → let l = c in to_z w32 (of_z w32 c.row_at-row.result.entry) ≡ cell l.args.t.now l.loop-i.i 0
-read c = same32 _ (numbers c.row_at-row.result c.struct_told-1.given).entry ∙ ap (λ q. q.entry) c.row_at-row.ensures
+  above : lt_z (to_z w32 (of_z w32 r.entry)) (pos 0) ≡ false → le_z (pos 0) (cell t i 0) ≡ true
+  above h = not_below (cell t i 0) (pos 0) (rw read at h)
 
-above : (c : Else-z-lt0) → let l = c.before.before.before.before in le_z (pos 0) (cell l.args.t.now l.loop-i.i 0) ≡ true
-above c =
-    let l = c in
-    not_below (cell l.args.t.now l.loop-i.i 0) (pos 0) (rw (read c.before) at c.if-z-lt0.false)
-
-few : (c : Else-count-n) → nat_abs (to_z w32 (of_z w32 c.row_at-row.result.entry)) < 32
-few c =
-    let s = c in
-    omega (arith, usable_few s.args.t1 s.requires.0, s.requires.2, c.if-count-n.false)
-
-tested : (c : After-is_row_of) → let l = c.before.before.before.before.before.before.before.before in let g = l.args in c.is_row_of.result ≡ is_table_row_consistent g.t1 g.t2 g.t.now l.loop-i.i
-tested c =
-    let m = c in
-    let d = m in
-    let e = d.before.before in
-    let l = e in
-    let s = l in
-    let same = row_is s.args.t1 s.args.t2 s.args.t.now l.loop-i.i e.loop-i-test.true s.requires.0 s.requires.2 (rw e.row_at-row.ensures at (numbers e.row_at-row.result e.struct_told-1.given).end) (above d.before) (omega (arith, s.requires.2, rw (read e) at d.if-count-n.false)) in
-    let since : SFits w32 (since_of s.args.t2.since (nat_abs (cell s.args.t.now l.loop-i.i 0))) = record { sfits = rw (read e) at m.limits-1.given } in
-    rw same (simp (l.loop-i.invariant.3, e.row_at-row.ensures, same32 _ since) at (simp (read e) at c.is_row_of.ensures))
+  -- the test that the code makes of it
+  tested : (chart : Chart) (w : WatchState) (limits : Limits) (x : ℤ) → i < w.rows → is_usable chart ≡ true → w.entries ≡ chart.count → limits ≡ limits_of w x (last_end t i) → lt_z (to_z w32 (of_z w32 r.entry)) (pos 0) ≡ false → nat_abs (to_z w32 (of_z w32 r.entry)) < w.entries → SFits w32 r.end → SFits w32 (since_of w.since (nat_abs (to_z w32 (of_z w32 r.entry)))) → is_row_of (entry_at chart (nat_abs (to_z w32 (of_z w32 r.entry)))) (record { instant = limits.instant; floor = limits.floor; since = to_z w32 (of_z w32 (since_of w.since (nat_abs (to_z w32 (of_z w32 r.entry))))); last = limits.last; events = limits.events }) t i r ≡ is_table_row_consistent chart w t i
+  tested chart w limits x here u s same z n e g =
+      let since : SFits w32 (since_of w.since (nat_abs (cell t i 0))) = rw read at g in
+      let lower : nat_abs (cell t i 0) < w.entries = rw read at n in
+      let whole = row_is chart w t i here u s (rw is at e) (above z) (omega (arith, s, lower)) in
+      rw (read, same32 _ since, same, is) (sym whole)
 
 pub loop-i-init : goal.loop-i-init
 unfolding last_end
-loop-i-init c = (omega arith, none_below _, least_number, c.Limits-of.ensures)
+loop-i-init c = (omega arith, none_below _, least_number, c.limits_of-limits.ensures)
 
 pub row_at-row-requires : goal.row_at-row-requires
-unfolding last_end
-row_at-row-requires c = room c
+row_at-row-requires c = room c.args.state.rows c.loop-i.i c.args.t.now c.requires.1 c.loop-i-test.true
 
 pub returns-then-z-lt0 : goal.returns-then-z-lt0
 returns-then-z-lt0 c =
-    let l = c in
-    let g = l.args in
-    sym (not_all g.t2.rows _ l.loop-i.i c.loop-i-test.true (row_negative g.t1 g.t2 g.t.now l.loop-i.i (rw (read (goal.at.returns-then-z-lt0 c).After-struct_told-1) at c.if-z-lt0.true)))
+    let g = c.args in
+    let f = (numbers c.row_at-row.result c.struct_told-1.given).entry in
+    sym (not_all g.state.rows _ c.loop-i.i c.loop-i-test.true (row_negative g.chart g.state g.t.now c.loop-i.i (rw (read c.args.t.now c.loop-i.i c.row_at-row.result c.row_at-row.ensures f) at c.if-z-lt0.true)))
 
 pub overflow_cast-n : goal.overflow_cast-n
-unfolding last_end
-overflow_cast-n c = let f = (numbers c.row_at-row.result c.struct_told-1.given).entry in simp (same32, f) (cast_up _ f (rw (sym (read (goal.at.overflow_cast-n c).After-struct_told-1) ∙ same32 _ f) at (above c)))
+overflow_cast-n c =
+    let f = (numbers c.row_at-row.result c.struct_told-1.given).entry in
+    let up : le_z (pos 0) c.row_at-row.result.entry ≡ true = not_below c.row_at-row.result.entry (pos 0) (rw (same32 _ f) at c.if-z-lt0.false) in
+    rw (same32 _ f) (cast_up _ f up)
 
 pub returns-then-count-n : goal.returns-then-count-n
 returns-then-count-n c =
-    let d = (goal.at.returns-then-count-n c).After-struct_told-1 in
-    let l = d in
-    let g = l.args in
-    let here = d.loop-i-test.true in
-    sym (not_all g.t2.rows _ l.loop-i.i here (row_unknown g.t1 g.t2 g.t.now l.loop-i.i here (omega (arith, l.requires.2, rw (read d) at c.if-count-n.true))))
+    let g = c.args in
+    let f = (numbers c.row_at-row.result c.struct_told-1.given).entry in
+    let far = rw (read c.args.t.now c.loop-i.i c.row_at-row.result c.row_at-row.ensures f) at c.if-count-n.true in
+    sym (not_all g.state.rows _ c.loop-i.i c.loop-i-test.true (row_unknown g.chart g.state g.t.now c.loop-i.i c.loop-i-test.true (omega (arith, c.requires.2, far))))
 
 pub offset_bounds-state-n : goal.offset_bounds-state-n
-unfolding last_end
-offset_bounds-state-n c = record { fits = omega (arith, few c) }
+offset_bounds-state-n c = let h = few c.args.chart c.args.state.entries _ c.requires.0 c.requires.2 c.if-count-n.false in record { fits = omega arith }
 
 pub bounds-state-n : goal.bounds-state-n
-unfolding last_end
-bounds-state-n c = few c
+bounds-state-n c = few c.args.chart c.args.state.entries _ c.requires.0 c.requires.2 c.if-count-n.false
 
 pub offset_bounds-chart-n : goal.offset_bounds-chart-n
-unfolding last_end
-offset_bounds-chart-n c = record { fits = omega (arith, few (goal.at.offset_bounds-chart-n c).Else-count-n) }
+offset_bounds-chart-n c = let h = few c.args.chart c.args.state.entries _ c.requires.0 c.requires.2 c.if-count-n.false in record { fits = omega arith }
 
 pub bounds-chart-n : goal.bounds-chart-n
-unfolding last_end
-bounds-chart-n c = few (goal.at.bounds-chart-n c).Else-count-n
+bounds-chart-n c = few c.args.chart c.args.state.entries _ c.requires.0 c.requires.2 c.if-count-n.false
 
 pub is_row_of-requires : goal.is_row_of-requires
 is_row_of-requires c =
-    let h = c in
-    let l = h in
-    let g = l.args in
-    record { fits = room h; above = λ j k. row_above g.t1 g.t2 g.t.now j (at_place l.loop-i.i _ l.loop-i.invariant.1 j k) }
+    let g = c.args in record {
+      fits = room g.state.rows c.loop-i.i g.t.now c.requires.1 c.loop-i-test.true;
+      above = λ j k. row_above g.chart g.state g.t.now j (at_place c.loop-i.i _ c.loop-i.invariant.1 j k);
+    }
 
 pub returns-then-not-is_row_of : goal.returns-then-not-is_row_of
-unfolding last_end
-returns-then-not-is_row_of c = let h = c in let l = h in sym (not_all l.args.t2.rows _ l.loop-i.i h.loop-i-test.true (failed (tested (goal.at.returns-then-not-is_row_of c).After-is_row_of) c.if-not-is_row_of.true))
+returns-then-not-is_row_of c =
+    let g = c.args in
+    let f = numbers c.row_at-row.result c.struct_told-1.given in
+    let row = tested g.t.now c.loop-i.i c.row_at-row.result c.row_at-row.ensures f.entry g.chart g.state c.loop-i.limits _ c.loop-i-test.true c.requires.0 c.requires.2 c.loop-i.invariant.3 c.if-z-lt0.false c.if-count-n.false f.end (record { sfits = c.limits-1.given }) in
+    sym (not_all g.state.rows _ c.loop-i.i c.loop-i-test.true (failed (c.is_row_of.ensures ∙ row) c.if-not-is_row_of.true))
 
 pub overflow_add-i : goal.overflow_add-i
-unfolding last_end
-overflow_add-i c = let h = (goal.at.overflow_add-i c).In-loop-i in omega (arith, room h, h.well_formed.1.1.0.0)
+overflow_add-i c = let h = room c.args.state.rows c.loop-i.i c.args.t.now c.requires.1 c.loop-i-test.true in omega arith
 
 pub loop-i-preserved : goal.loop-i-preserved
 loop-i-preserved c =
-    let d = c in
-    let l = d in
-    let r = d in
-    let f = numbers r.row_at-row.result r.struct_told-1.given in
-    let next : last_end l.args.t.now (l.loop-i.i + 1) ≡ to_z w32 (of_z w32 r.row_at-row.result.end) = last_next _ l.loop-i.i ∙ sym (same32 _ f.end ∙ ap (λ q. q.end) r.row_at-row.ensures) in
-    (omega arith, one_more l.loop-i.i _ l.loop-i.invariant.1 (passed (tested d.before) d.if-not-is_row_of.false), to_z w32 (of_z w32 (since_of l.args.t2.since (nat_abs (to_z w32 (of_z w32 r.row_at-row.result.entry))))), rw (l.loop-i.invariant.3, next))
+    let g = c.args in
+    let i = c.loop-i.i in
+    let r = c.row_at-row.result in
+    let f = numbers r c.struct_told-1.given in
+    let row = tested g.t.now i r c.row_at-row.ensures f.entry g.chart g.state c.loop-i.limits _ c.loop-i-test.true c.requires.0 c.requires.2 c.loop-i.invariant.3 c.if-z-lt0.false c.if-count-n.false f.end (record { sfits = c.limits-1.given }) in
+    let next : last_end g.t.now (i + 1) ≡ to_z w32 (of_z w32 r.end) = last_next _ i ∙ sym (same32 _ f.end ∙ ap (λ q. q.end) c.row_at-row.ensures) in
+    (omega arith, one_more i _ c.loop-i.invariant.1 (passed (c.is_row_of.ensures ∙ row) c.if-not-is_row_of.false), to_z w32 (of_z w32 (since_of g.state.since (nat_abs (to_z w32 (of_z w32 r.entry))))), rw (c.loop-i.invariant.3, next))
 
 pub returns : goal.returns
 returns c =
-    let l = c in
-    let all : l.loop-i.i ≡ l.args.t2.rows = omega arith in
-    sym (rw all at l.loop-i.invariant.1)
+    let all : c.loop-i.i ≡ c.args.state.rows = omega arith in
+    sym (rw all at c.loop-i.invariant.1)

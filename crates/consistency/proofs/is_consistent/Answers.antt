@@ -36,9 +36,8 @@ returns-then-not-is_watch_in_range c = simp (failed c.is_watch_in_range.ensures 
 pub returns-then-room-rows : goal.returns-then-room-rows
 unfolding are_consistent
 returns-then-room-rows c =
-    let d = c in
-    let g = d.args in
-    simp (passed d.is_watch_in_range.ensures d.if-not-is_watch_in_range.false, lt-leb g.state.rows (capacity (length g.table.now)) (rw c.rows_that_fit-room.ensures at c.if-room-rows.true))
+    let g = c.args in
+    simp (passed c.is_watch_in_range.ensures c.if-not-is_watch_in_range.false, lt-leb g.state.rows (capacity (length g.table.now)) (rw c.rows_that_fit-room.ensures at c.if-room-rows.true))
 
 pub overflow_mul-rows : goal.overflow_mul-rows
 unfolding are_consistent
@@ -54,21 +53,16 @@ are_zeros-requires c = (omega (arith, c.if-room-rows.false), room c)
 
 pub are_rows_consistent-requires : goal.are_rows_consistent-requires
 are_rows_consistent-requires c =
-    let e = (goal.at.are_rows_consistent-requires c).Else-room-rows in
-    let d = e in
-    let s = d in
-    (s.requires, fits e, (entries_told _ s.args.state (passed d.is_watch_in_range.ensures d.if-not-is_watch_in_range.false)).0)
+    (c.requires, fits (goal.at.are_rows_consistent-requires c).Else-room-rows, (entries_told _ c.args.state (passed c.is_watch_in_range.ensures c.if-not-is_watch_in_range.false)).0)
 
 pub returns-then-are_zeros : goal.returns-then-are_zeros
 unfolding are_consistent
 returns-then-are_zeros c =
-    let z = (goal.at.returns-then-are_zeros c).After-are_zeros in
-    let d = z in
-    simp (passed d.is_watch_in_range.ensures d.if-not-is_watch_in_range.false, le-leb _ _ (fits z.before), zeros z ∙ c.if-are_zeros.true, c.are_rows_consistent.ensures)
+    let w = goal.at.returns-then-are_zeros c in
+    simp (passed c.is_watch_in_range.ensures c.if-not-is_watch_in_range.false, le-leb _ _ (fits w.Else-room-rows), zeros w.After-are_zeros ∙ c.if-are_zeros.true, c.are_rows_consistent.ensures)
 
 pub returns-else-are_zeros : goal.returns-else-are_zeros
 unfolding are_consistent
 returns-else-are_zeros c =
-    let z = (goal.at.returns-else-are_zeros c).After-are_zeros in
-    let d = z in
-    simp (passed d.is_watch_in_range.ensures d.if-not-is_watch_in_range.false, le-leb _ _ (fits z.before), zeros z ∙ c.if-are_zeros.false, c.if-are_zeros.false)
+    let w = goal.at.returns-else-are_zeros c in
+    simp (passed c.is_watch_in_range.ensures c.if-not-is_watch_in_range.false, le-leb _ _ (fits w.Else-room-rows), zeros w.After-are_zeros ∙ c.if-are_zeros.false, c.if-are_zeros.false)

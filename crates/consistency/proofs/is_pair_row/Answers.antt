@@ -23,15 +23,11 @@ returns-then-i-right c = let d = c in simp (← d.part_at-left.ensures, right (g
 pub returns-then-spans_parts : goal.returns-then-spans_parts
 unfolding is_pair_row
 returns-then-spans_parts c =
-    let z = (goal.at.returns-then-spans_parts c).After-spans_parts in
-    let e = z in
-    let r = e in
-    let d = r in
-    simp (← d.part_at-left.ensures, right e.before, lt-ltb _ _ d.if-i-left.false, lt-ltb _ _ e.if-i-right.false, spans z ∙ c.if-spans_parts.true, c.meets_condition.ensures, r.row_at-p.ensures, z.row_at-q.ensures)
+    let w = goal.at.returns-then-spans_parts c in
+    simp (← c.part_at-left.ensures, right w.After-part_at-right, lt-ltb _ _ c.if-i-left.false, lt-ltb _ _ c.if-i-right.false, spans w.After-spans_parts ∙ c.if-spans_parts.true, c.meets_condition.ensures, c.row_at-p.ensures, c.row_at-q.ensures)
 
 pub returns-else-spans_parts : goal.returns-else-spans_parts
 unfolding is_pair_row
 returns-else-spans_parts c =
-    let e = c in
-    let d = e in
-    simp (← d.part_at-left.ensures, right e.before, lt-ltb _ _ d.if-i-left.false, lt-ltb _ _ e.if-i-right.false, spans (goal.at.returns-else-spans_parts c).After-spans_parts ∙ c.if-spans_parts.false, c.if-spans_parts.false)
+    let w = goal.at.returns-else-spans_parts c in
+    simp (← c.part_at-left.ensures, right w.After-part_at-right, lt-ltb _ _ c.if-i-left.false, lt-ltb _ _ c.if-i-right.false, spans w.After-spans_parts ∙ c.if-spans_parts.false, c.if-spans_parts.false)

@@ -6,7 +6,7 @@ use Rattle.consistency.proofs.is_watch_in_range.Goals.{After-are_instants_in_ran
 use Rattle.consistency.proofs.is_watch_in_range.Goals as goal
 
 instants : (c : After-are_instants_in_range) → let s = c.args.state in c.are_instants_in_range.result ≡ are_instants_in_range s.instant s.floor
-instants c = simp c.Limits-of.ensures at c.are_instants_in_range.ensures
+instants c = simp c.limits_of.ensures at c.are_instants_in_range.ensures
 
 pub returns-then-not-are_instants_in_range : goal.returns-then-not-are_instants_in_range
 unfolding is_watch_in_range
@@ -15,13 +15,9 @@ returns-then-not-are_instants_in_range c = simp (failed (instants (goal.at.retur
 pub returns-then-are_counts_in_range : goal.returns-then-are_counts_in_range
 unfolding is_watch_in_range
 returns-then-are_counts_in_range c =
-    let b = c in
-    let a = b in
-    simp (passed (instants a.before) a.if-not-are_instants_in_range.false, sym b.are_counts_in_range.ensures ∙ c.if-are_counts_in_range.true, c.are_entries_in_range.ensures)
+    simp (passed (instants (goal.at.returns-then-are_counts_in_range c).After-are_instants_in_range) c.if-not-are_instants_in_range.false, sym c.are_counts_in_range.ensures ∙ c.if-are_counts_in_range.true, c.are_entries_in_range.ensures)
 
 pub returns-else-are_counts_in_range : goal.returns-else-are_counts_in_range
 unfolding is_watch_in_range
 returns-else-are_counts_in_range c =
-    let b = c in
-    let a = b in
-    simp (passed (instants a.before) a.if-not-are_instants_in_range.false, sym b.are_counts_in_range.ensures ∙ c.if-are_counts_in_range.false, c.if-are_counts_in_range.false)
+    simp (passed (instants (goal.at.returns-else-are_counts_in_range c).After-are_instants_in_range) c.if-not-are_instants_in_range.false, sym c.are_counts_in_range.ensures ∙ c.if-are_counts_in_range.false, c.if-are_counts_in_range.false)

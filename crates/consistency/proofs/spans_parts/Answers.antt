@@ -13,7 +13,7 @@ starts : (c : After-is_same) → let g = c.args in eq_z g.row.start (least g.p.s
 starts c =
     let l = c in
     let g = l.args in
-    let m : SFits w32 l.least_start-start.result = record { sfits = l.least_start-start.type-inv } in
+    let m : SFits w32 l.least_start-start.result = record { sfits = l.least_start-start.type_inv } in
     let r = numbers g.row c.struct_told-5-1.given in
     let p = numbers g.p l.struct_told-1.given in
     let q = numbers g.q l.struct_told-2-1.given in
@@ -25,7 +25,7 @@ returns-then-is_same c =
     let e = (goal.at.returns-then-is_same c).After-is_same in
     let d = e in
     let g = d.args in
-    let m : SFits w32 d.greatest_end-end.result = record { sfits = d.greatest_end-end.type-inv } in
+    let m : SFits w32 d.greatest_end-end.result = record { sfits = d.greatest_end-end.type_inv } in
     let r = numbers g.row c.struct_told-then-is_same-1.given in
     let p = numbers g.p d.struct_told-3-1.given in
     let q = numbers g.q d.struct_told-4-1.given in

@@ -1,24 +1,24 @@
 -- Whole logs line by line: the first line of some bytes, whatever comes behind them, and a line that was written.
-use Prim.Native.Nat.{ℕ, suc, ◌+◌, ◌-◌, ◌^◌, ◌≤◌, ◌<◌}
+use Prim.Native.Nat.{ℕ, ◌+◌, ◌-◌, ◌≤◌, ◌<◌}
 use native.Mathlib.Omega.{arith}
 use mathlib.Core.Path.{◌≡◌, refl, sym, ap, ◌∙◌}
 use mathlib.Core.Bool.{Bool, true, false, cond}
 use mathlib.Core.List.{List, [], ◌∷◌, ◌++◌, append_assoc, map}
 use borrow.Author.Tests.{lt-ltb, leb-true}
 use lib.Dec.{eqb, leb}
-use lib.IntN.{ℤ, pos, negsuc, nat_abs}
+use lib.IntN.{ℤ}
 use lib.ListN.{length, take, drop, length-append, length-take}
 use Rattle.interval.specs.Instants.{is_instant}
 use Rattle.interval.proofs.Signed.{never}
 use Rattle.interval.proofs.Machine.{instant_fits}
-use Rattle.text.specs.Text.{Line, whole, lines, is_record, line_size, fields}
-use Rattle.text.proofs.Laws.{lacks, index_lacks, lacks_append, split_word, first_part}
+use Rattle.text.specs.Text.{Line, whole, is_record, line_size, fields}
+use Rattle.text.proofs.Laws.{lacks, index_lacks, lacks_append, first_part}
 use Rattle.text.proofs.FirstLine.{line_front, lines_first, Unformed, long_line, last_line}
 use Rattle.decimal.specs.Spelling.{number_of, instant_of, spelled_number, spelled_instant}
 use Rattle.decimal.specs.declared.Number.{Number}
 use Rattle.decimal.specs.declared.Instant.{Instant}
 use Rattle.decimal.proofs.Laws.{number_read_back, spelled_number_lacks, fits_below}
-use Rattle.decimal.proofs.Tenths.{instants_hold, written_instant_few, written_instant_lacks}
+use Rattle.decimal.proofs.Tenths.{instants_hold, written_instant_lacks}
 use Rattle.chart.specs.Operators.{place_of}
 use Rattle.log_line.specs.declared.Call.{Call}
 use Rattle.log_line.specs.Log.{open_word, event_word, clock_word, forget_word, call_words, event_call, instant_call, word_call, fields_call, call_of, call_in, calls_of, word_line, instant_line, line_of, line_most}

@@ -1,5 +1,4 @@
 -- `starts_with` meets its contract: the comparison of what is left is the comparison of all.
-use Prim.Native.Nat.{◌-◌}
 use mathlib.Core.Path.{refl, sym}
 use native.Mathlib.Omega.{arith}
 use Rattle.log_line.proofs.Laws.{starts_short, starts_on, starts_not, starts_end}

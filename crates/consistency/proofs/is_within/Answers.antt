@@ -1,5 +1,4 @@
 -- `is_within` meets its contract: the tests are the definition's.
-use mathlib.Core.Path.{sym, ◌∙◌}
 use Rattle.interval.proofs.Machine.{same32}
 use Rattle.consistency.specs.Rows.{is_within}
 use Rattle.consistency.proofs.Tests.{failed, passed, numbers, instants}

@@ -187,7 +187,13 @@ fn take_piece<R: Read>(
 }
 
 // Plays what a reading brought behind the bytes kept.
-fn play_got(run: Run, table: &mut [i32], buf: &mut [u8], kept: usize, got: io::Result<usize>) -> Turn
+fn play_got(
+    run: Run,
+    table: &mut [i32],
+    buf: &mut [u8],
+    kept: usize,
+    got: io::Result<usize>,
+) -> Turn
     requires { (length buf.old ≡ 65536) × Reached (record { run = run; table = table.old }) × HasLines run 65537 × (kept < 64) }
     ensures { Turned false got (piece_of got (drop kept buf.old)) (held run table.old kept buf.old) result table.new buf.new × Reached (record { run = result.run; table = table.new }) × (is_refused result.run.stage ≡ false → result.run.line ≤ run.line + 65536) × (result.kept < 64) × (result.ended ≡ false → is_refused result.run.stage ≡ false) }
 {

@@ -38,25 +38,25 @@ returns-then-is_of c = simp (same32, c.ranges.a) at c.loop-r.invariant
 pub returns-then-is_of-2 : goal.returns-then-is_of-2
 returns-then-is_of-2 c =
     simp (same32, c.ranges.a) at (
-        one _ _ _ _ _ (omega arith) c.loop-r.invariant
-        (sym c.is_of.ensures ∙ c.if-is_of.false)
+    one _ _ _ _ _ (omega arith) c.loop-r.invariant
+    (sym c.is_of.ensures ∙ c.if-is_of.false)
     )
 
 pub returns-then-is_of-3 : goal.returns-then-is_of-3
 returns-then-is_of-3 c =
     simp (same32, c.ranges.a) at (
-        two _ _ _ _ _ (omega arith) c.loop-r.invariant
-        (sym c.is_of.ensures ∙ c.if-is_of.false)
-        (sym c.is_of-in-loop-r.ensures ∙ c.if-is_of-2.false)
+    two _ _ _ _ _ (omega arith) c.loop-r.invariant
+    (sym c.is_of.ensures ∙ c.if-is_of.false)
+    (sym c.is_of-in-loop-r.ensures ∙ c.if-is_of-2.false)
     )
 
 pub returns-then-is_of-4 : goal.returns-then-is_of-4
 returns-then-is_of-4 c =
     simp (same32, c.ranges.a) at (
-        three _ _ _ _ _ (omega arith) c.loop-r.invariant
-        (sym c.is_of.ensures ∙ c.if-is_of.false)
-        (sym c.is_of-in-loop-r.ensures ∙ c.if-is_of-2.false)
-        (sym c.is_of-in-loop-r-2.ensures ∙ c.if-is_of-3.false)
+    three _ _ _ _ _ (omega arith) c.loop-r.invariant
+    (sym c.is_of.ensures ∙ c.if-is_of.false)
+    (sym c.is_of-in-loop-r.ensures ∙ c.if-is_of-2.false)
+    (sym c.is_of-in-loop-r-2.ensures ∙ c.if-is_of-3.false)
     )
 
 pub loop-r-preserved : goal.loop-r-preserved

@@ -41,8 +41,8 @@ is_of-requires-in-loop-j c = omega (arith, c.loop-j.invariant.most)
 pub returns-then-is_of-2 : goal.returns-then-is_of-2
 returns-then-is_of-2 c =
     simp (same32, c.ranges.b) at (
-        one _ _ _ _ (omega arith) c.loop-j.invariant
-        (sym c.is_of.ensures ∙ c.if-is_of.false)
+    one _ _ _ _ (omega arith) c.loop-j.invariant
+    (sym c.is_of.ensures ∙ c.if-is_of.false)
     )
 
 pub is_of-requires-in-loop-j-2 : goal.is_of-requires-in-loop-j-2
@@ -51,9 +51,9 @@ is_of-requires-in-loop-j-2 c = omega (arith, c.loop-j.invariant.most)
 pub returns-then-is_of-3 : goal.returns-then-is_of-3
 returns-then-is_of-3 c =
     simp (same32, c.ranges.b) at (
-        two _ _ _ _ (omega arith) c.loop-j.invariant
-        (sym c.is_of.ensures ∙ c.if-is_of.false)
-        (sym c.is_of-in-loop-j.ensures ∙ c.if-is_of-2.false)
+    two _ _ _ _ (omega arith) c.loop-j.invariant
+    (sym c.is_of.ensures ∙ c.if-is_of.false)
+    (sym c.is_of-in-loop-j.ensures ∙ c.if-is_of-2.false)
     )
 
 pub is_of-requires-in-loop-j-3 : goal.is_of-requires-in-loop-j-3
@@ -62,10 +62,10 @@ is_of-requires-in-loop-j-3 c = omega (arith, c.loop-j.invariant.most)
 pub returns-then-is_of-4 : goal.returns-then-is_of-4
 returns-then-is_of-4 c =
     simp (same32, c.ranges.b) at (
-        three _ _ _ _ (omega arith) c.loop-j.invariant
-        (sym c.is_of.ensures ∙ c.if-is_of.false)
-        (sym c.is_of-in-loop-j.ensures ∙ c.if-is_of-2.false)
-        (sym c.is_of-in-loop-j-2.ensures ∙ c.if-is_of-3.false)
+    three _ _ _ _ (omega arith) c.loop-j.invariant
+    (sym c.is_of.ensures ∙ c.if-is_of.false)
+    (sym c.is_of-in-loop-j.ensures ∙ c.if-is_of-2.false)
+    (sym c.is_of-in-loop-j-2.ensures ∙ c.if-is_of-3.false)
     )
 
 pub loop-j-preserved : goal.loop-j-preserved

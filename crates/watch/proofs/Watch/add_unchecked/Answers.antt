@@ -42,10 +42,10 @@ extended-requires c =
     let g = c.args in
     let a = c.read_added-a in
     omega (
-        arith,
-        many g.chart g.s.now a.result a.ensures c.if-a-ne0.false,
-        few g.chart g.s.now a.result a.ensures c.if-a-ne0.false,
-        (told g.chart g.self.state g.table.now c.requires).entries,
+      arith,
+      many g.chart g.s.now a.result a.ensures c.if-a-ne0.false,
+      few g.chart g.s.now a.result a.ensures c.if-a-ne0.false,
+      (told g.chart g.self.state g.table.now c.requires).entries,
     )
 
 pub returns : goal.returns

@@ -55,8 +55,8 @@ pub record Numbers (r : Row) : Type 0 where
   pub start : SFits w32 r.start
   pub end : SFits w32 r.end
 
-pub numbers : {A B C D E F : Type 0} (r : Row) → ((A × (mag r.entry < 2 ^ 31)) × ((B × (mag r.left < 2 ^ 31)) × ((C × (mag r.right < 2 ^ 31)) × ((D × (mag r.start < 2 ^ 31)) × ((E × (mag r.end < 2 ^ 31)) × F))))) → Numbers r
-numbers r f = record { entry = record { sfits = f.0.1 }; left = record { sfits = f.1.0.1 }; right = record { sfits = f.1.1.0.1 }; start = record { sfits = f.1.1.1.0.1 }; end = record { sfits = f.1.1.1.1.0.1 } }
+pub numbers : (r : Row) → (mag r.entry < 2 ^ 31) × (mag r.left < 2 ^ 31) × (mag r.right < 2 ^ 31) × (mag r.start < 2 ^ 31) × (mag r.end < 2 ^ 31) → Numbers r
+numbers r f = record { entry = record { sfits = f.0 }; left = record { sfits = f.1 }; right = record { sfits = f.2 }; start = record { sfits = f.3 }; end = record { sfits = f.4 } }
 
 -- and of limits, in front of a count
 pub record Instants (l : Limits) : Type 0 where
@@ -65,5 +65,5 @@ pub record Instants (l : Limits) : Type 0 where
   pub since : SFits w32 l.since
   pub last : SFits w32 l.last
 
-pub instants : {A B C D E : Type 0} (l : Limits) → ((A × (mag l.instant < 2 ^ 31)) × ((B × (mag l.floor < 2 ^ 31)) × ((C × (mag l.since < 2 ^ 31)) × ((D × (mag l.last < 2 ^ 31)) × E)))) → Instants l
-instants l f = record { instant = record { sfits = f.0.1 }; floor = record { sfits = f.1.0.1 }; since = record { sfits = f.1.1.0.1 }; last = record { sfits = f.1.1.1.0.1 } }
+pub instants : (l : Limits) → (mag l.instant < 2 ^ 31) × (mag l.floor < 2 ^ 31) × (mag l.since < 2 ^ 31) × (mag l.last < 2 ^ 31) → Instants l
+instants l f = record { instant = record { sfits = f.0 }; floor = record { sfits = f.1 }; since = record { sfits = f.2 }; last = record { sfits = f.3 } }

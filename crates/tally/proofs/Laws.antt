@@ -1,7 +1,6 @@
 -- Laws of tallies: none for no row, one more for the entry of one row more, and their sum.
 use Prim.Native.Nat.{ℕ, zero, suc, ◌+◌, ◌-◌, ◌≤◌, ◌<◌}
 use native.Mathlib.Omega.{arith}
-use native.Mathlib.Numerals.{add-one}
 use native.Mathlib.Nat.{add-zero}
 use mathlib.Core.Path.{◌≡◌, refl, sym, ap, ap₂, ◌∙◌}
 use mathlib.Core.Bool.{Bool, true, false, cond}
@@ -9,13 +8,12 @@ use mathlib.Core.List.{List, [], ◌∷◌, ◌++◌, map, append-nil, Memᴰ}
 use borrow.Author.Tests.{eq-eqb, ne_eqb}
 use lib.Dec.{eqb}
 use lib.Seq.{take_at}
-use lib.ListN.{length, get_or, take, set, replicate, length-append, length-map, length-replicate, replicate-append-replicate, get_or-append}
+use lib.ListN.{length, get_or, take, set, replicate, length-append, length-map, length-replicate, replicate-append-replicate}
 use Rattle.model.specs.Lists.{keep, numbers}
 use Rattle.model.specs.Order.{Row}
 use Rattle.model.proofs.History.{keep_length}
 use Rattle.model.proofs.Sorted.{keep_append}
 use Rattle.tally.specs.Tally.{tally, tallies, counts, sum, report_of, refused_report}
-use Rattle.tally.specs.declared.Report.{Report}
 
 -- a list with its number at place e one higher
 abbrev pub raised : List ℕ → ℕ → List ℕ

@@ -56,14 +56,14 @@ pub returns-then-not-is_no_later : goal.returns-then-not-is_no_later
 returns-then-not-is_no_later c =
     let w = c.args.state in
     let full : length w.since ≡ 32 = omega arith in
-    let one = next w c.args.count c.requires full c.if-state-count.false _ c.loop-i.i c.loop-i-test.true (record { sfits = c.x-1.given }) in
+    let one = next w c.args.count c.requires full c.if-state-count.false _ c.loop-i.i c.loop-i-test.true (record { sfits = omega arith }) in
     sym (counted w c.args.count c.requires full c.if-state-count.false ∙ sym c.loop-i.invariant.1 ∙ one ∙ rw (sym c.is_no_later.ensures ∙ c.if-not-is_no_later.true))
 
 pub loop-i-preserved : goal.loop-i-preserved
 loop-i-preserved c =
     let w = c.args.state in
     let full : length w.since ≡ 32 = omega arith in
-    let one = next w c.args.count c.requires full c.if-state-count.false _ c.loop-i.i c.loop-i-test.true (record { sfits = c.x-1.given }) in
+    let one = next w c.args.count c.requires full c.if-state-count.false _ c.loop-i.i c.loop-i-test.true (record { sfits = omega arith }) in
     (omega arith, sym (sym c.loop-i.invariant.1 ∙ one ∙ rw (sym c.is_no_later.ensures ∙ c.if-not-is_no_later.false)))
 
 pub returns : goal.returns
@@ -71,6 +71,6 @@ returns c =
     let w = c.args.state in
     let full : length w.since ≡ 32 = omega arith in
     let all : c.loop-i.i ≡ length (entry_since w) = omega (arith, long w c.args.count c.requires full c.if-state-count.false, c.loop-i-test.false, c.loop-i.invariant.0) in
-    let opened : SFits w32 w.instant = record { sfits = c.struct_told-1.given.0.1 } in
+    let opened : SFits w32 w.instant = record { sfits = omega arith } in
     let whole = counted w c.args.count c.requires full c.if-state-count.false ∙ sym c.loop-i.invariant.1 ∙ ap (λ k. is_rising (to_z w32 c.loop-i.last-bits) w.instant (drop k (entry_since w))) all ∙ rising_end _ w.instant (entry_since w) in
     (rw (same32 _ opened) at c.is_no_later-2.ensures) ∙ sym whole

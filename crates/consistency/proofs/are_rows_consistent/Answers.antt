@@ -1,4 +1,5 @@
 -- `are_rows_consistent` meets its contract: the rows passed are consistent, and one that is not ends the walk.
+use borrow.Author.Rules.{rules}
 use Prim.Native.Nat.{ℕ, ◌+◌, ◌*◌, ◌<◌, ◌≤◌}
 use mathlib.Core.Path.{◌≡◌, sym, ap, ◌∙◌}
 use mathlib.Core.Bool.{true, false}
@@ -61,19 +62,19 @@ row_at-row-requires c = room c.args.state.rows c.loop-i.i c.args.t.now c.require
 pub returns-then-z-lt0 : goal.returns-then-z-lt0
 returns-then-z-lt0 c =
     let g = c.args in
-    let f = (numbers c.row_at-row.result c.struct_told-1.given).entry in
+    let f = (numbers c.row_at-row.result (search rules)).entry in
     sym (not_all g.state.rows _ c.loop-i.i c.loop-i-test.true (row_negative g.chart g.state g.t.now c.loop-i.i (rw (read c.args.t.now c.loop-i.i c.row_at-row.result c.row_at-row.ensures f) at c.if-z-lt0.true)))
 
 pub overflow_cast-n : goal.overflow_cast-n
 overflow_cast-n c =
-    let f = (numbers c.row_at-row.result c.struct_told-1.given).entry in
+    let f = (numbers c.row_at-row.result (search rules)).entry in
     let up : le_z (pos 0) c.row_at-row.result.entry ≡ true = not_below c.row_at-row.result.entry (pos 0) (rw (same32 _ f) at c.if-z-lt0.false) in
     rw (same32 _ f) (cast_up _ f up)
 
 pub returns-then-count-n : goal.returns-then-count-n
 returns-then-count-n c =
     let g = c.args in
-    let f = (numbers c.row_at-row.result c.struct_told-1.given).entry in
+    let f = (numbers c.row_at-row.result (search rules)).entry in
     let far = rw (read c.args.t.now c.loop-i.i c.row_at-row.result c.row_at-row.ensures f) at c.if-count-n.true in
     sym (not_all g.state.rows _ c.loop-i.i c.loop-i-test.true (row_unknown g.chart g.state g.t.now c.loop-i.i c.loop-i-test.true (omega (arith, c.requires.2, far))))
 
@@ -99,8 +100,8 @@ is_row_of-requires c =
 pub returns-then-not-is_row_of : goal.returns-then-not-is_row_of
 returns-then-not-is_row_of c =
     let g = c.args in
-    let f = numbers c.row_at-row.result c.struct_told-1.given in
-    let row = tested g.t.now c.loop-i.i c.row_at-row.result c.row_at-row.ensures f.entry g.chart g.state c.loop-i.limits _ c.loop-i-test.true c.requires.0 c.requires.2 c.loop-i.invariant.3 c.if-z-lt0.false c.if-count-n.false f.end (record { sfits = c.limits-1.given }) in
+    let f = numbers c.row_at-row.result (search rules) in
+    let row = tested g.t.now c.loop-i.i c.row_at-row.result c.row_at-row.ensures f.entry g.chart g.state c.loop-i.limits _ c.loop-i-test.true c.requires.0 c.requires.2 c.loop-i.invariant.3 c.if-z-lt0.false c.if-count-n.false f.end (record { sfits = omega arith }) in
     sym (not_all g.state.rows _ c.loop-i.i c.loop-i-test.true (failed (c.is_row_of.ensures ∙ row) c.if-not-is_row_of.true))
 
 pub overflow_add-i : goal.overflow_add-i
@@ -111,8 +112,8 @@ loop-i-preserved c =
     let g = c.args in
     let i = c.loop-i.i in
     let r = c.row_at-row.result in
-    let f = numbers r c.struct_told-1.given in
-    let row = tested g.t.now i r c.row_at-row.ensures f.entry g.chart g.state c.loop-i.limits _ c.loop-i-test.true c.requires.0 c.requires.2 c.loop-i.invariant.3 c.if-z-lt0.false c.if-count-n.false f.end (record { sfits = c.limits-1.given }) in
+    let f = numbers r (search rules) in
+    let row = tested g.t.now i r c.row_at-row.ensures f.entry g.chart g.state c.loop-i.limits _ c.loop-i-test.true c.requires.0 c.requires.2 c.loop-i.invariant.3 c.if-z-lt0.false c.if-count-n.false f.end (record { sfits = omega arith }) in
     let next : last_end g.t.now (i + 1) ≡ to_z w32 (of_z w32 r.end) = last_next _ i ∙ sym (same32 _ f.end ∙ ap (λ q. q.end) c.row_at-row.ensures) in
     (omega arith, one_more i _ c.loop-i.invariant.1 (passed (c.is_row_of.ensures ∙ row) c.if-not-is_row_of.false), to_z w32 (of_z w32 (since_of g.state.since (nat_abs (to_z w32 (of_z w32 r.entry))))), rw (c.loop-i.invariant.3, next))
 

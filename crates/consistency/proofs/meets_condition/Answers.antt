@@ -19,8 +19,8 @@ returns-in-Pair c =
     let b = c in
     let d = b in
     let g = d.args in
-    let p = numbers g.p b.struct_told-1.given in
-    let q = numbers g.q c.struct_told-in-Pair-3-1.given in
+    let p = numbers g.p (search rules) in
+    let q = numbers g.q (search rules) in
     simp (d.in-Pair.is, c.is_related.ensures, same32, p.start, p.end, q.start, q.end)
 
 pub returns-in-Absence : goal.returns-in-Absence
@@ -31,7 +31,7 @@ pub returns-in-Length : goal.returns-in-Length
 unfolding meets_condition
 returns-in-Length c =
     let d = c in
-    let p = numbers d.args.p c.struct_told-in-Length-2-1.given in
+    let p = numbers d.args.p (search rules) in
     simp (d.in-Length.is, c.has_length.ensures, same32, p.start, p.end)
 
 pub returns-in-After : goal.returns-in-After
@@ -44,8 +44,8 @@ returns-in-Nearest c =
     let b = c in
     let e = b in
     let g = e.args in
-    let p = numbers g.p b.struct_told-in-Nearest-1.given in
-    let q = numbers g.q c.struct_told-in-Nearest-4-1.given in
+    let p = numbers g.p (search rules) in
+    let q = numbers g.q (search rules) in
     simp (e.in-Nearest.is, c.is_related-in-Nearest.ensures, same32, p.start, p.end, q.start, q.end)
 
 pub returns-in-Unknown : goal.returns-in-Unknown

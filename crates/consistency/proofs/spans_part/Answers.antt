@@ -1,4 +1,5 @@
 -- `spans_part` meets its contract: start and end are tested in the definition's order.
+use borrow.Author.Rules.{rules}
 use mathlib.Core.Path.{sym, ◌∙◌}
 use Rattle.interval.proofs.Machine.{same32}
 use Rattle.consistency.specs.Rows.{spans_part}
@@ -10,8 +11,8 @@ unfolding spans_part
 returns-then-starts_as c =
     let e = c in
     let g = e.args in
-    let r = numbers g.row c.struct_told-1.given in
-    let p = numbers g.p c.struct_told-then-starts_as-1.given in
+    let r = numbers g.row (search rules) in
+    let p = numbers g.p (search rules) in
     simp (sym e.starts_as.ensures ∙ e.if-starts_as.true, c.is_same.ensures, same32, r.end, p.end)
 
 pub returns-else-starts_as : goal.returns-else-starts_as

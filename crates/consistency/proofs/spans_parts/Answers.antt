@@ -1,4 +1,5 @@
 -- `spans_parts` meets its contract: start and end are tested in the definition's order.
+use borrow.Author.Rules.{rules}
 use mathlib.Core.Path.{◌≡◌, sym, ◌∙◌}
 use mir.Syntax.{w32}
 use mir.Val.{SFits}
@@ -14,9 +15,9 @@ starts c =
     let l = c in
     let g = l.args in
     let m : SFits w32 l.least_start-start.result = record { sfits = l.least_start-start.type_inv } in
-    let r = numbers g.row c.struct_told-5-1.given in
-    let p = numbers g.p l.struct_told-1.given in
-    let q = numbers g.q l.struct_told-2-1.given in
+    let r = numbers g.row (search rules) in
+    let p = numbers g.p (search rules) in
+    let q = numbers g.q (search rules) in
     sym (simp (same32, p.start, q.start, l.least_start-start.ensures) at (simp (same32, r.start, m) at c.is_same.ensures))
 
 pub returns-then-is_same : goal.returns-then-is_same
@@ -26,9 +27,9 @@ returns-then-is_same c =
     let d = e in
     let g = d.args in
     let m : SFits w32 d.greatest_end-end.result = record { sfits = d.greatest_end-end.type_inv } in
-    let r = numbers g.row c.struct_told-then-is_same-1.given in
-    let p = numbers g.p d.struct_told-3-1.given in
-    let q = numbers g.q d.struct_told-4-1.given in
+    let r = numbers g.row (search rules) in
+    let p = numbers g.p (search rules) in
+    let q = numbers g.q (search rules) in
     let ends = simp (same32, p.end, q.end, d.greatest_end-end.ensures) at (simp (same32, r.end, m) at c.is_same-then-is_same.ensures) in
     simp (starts e ∙ c.if-is_same.true, ends)
 

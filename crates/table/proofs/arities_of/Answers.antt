@@ -1,5 +1,4 @@
 -- `arities_of` meets its contract: each turn puts the arity of one entry where it belongs.
-use Prim.Native.Nat.{◌-◌}
 use native.Mathlib.Omega.{arith}
 use Rattle.chart.proofs.Usable.{usable_few}
 use Rattle.table.proofs.Arities.{filled_none, filled_more, filled_all}

@@ -14,7 +14,7 @@ use Rattle.table.proofs.count_ending.Goals as goal
 -- the test of the middle row
 tested : (c : After-ends_before) → c.ends_before.result ≡ ends_before c.args.included (to_z w64 (of_z w64 c.args.e)) (cell c.args.table.now (c.loop-low.low + (c.loop-low.high - c.loop-low.low) / 2) 4)
 tested c =
-    let f : SFits w32 (cell c.args.table.now (c.loop-low.low + (c.loop-low.high - c.loop-low.low) / 2) 4) = record { sfits = c.end-1.given } in
+    let f : SFits w32 (cell c.args.table.now (c.loop-low.low + (c.loop-low.high - c.loop-low.low) / 2) 4) = record { sfits = omega arith } in
     simp (same32, f) at c.ends_before.ensures
 
 pub loop-low-init : goal.loop-low-init

@@ -25,10 +25,9 @@ unfolding put_row
 returns c =
     let g = c in
     let r = g.args.row in
-    let f = c.struct_told-5-1.given in
-    let entry : SFits w32 r.entry = record { sfits = f.0.1 } in
-    let left : SFits w32 r.left = record { sfits = f.1.0.1 } in
-    let right : SFits w32 r.right = record { sfits = f.1.1.0.1 } in
-    let start : SFits w32 r.start = record { sfits = f.1.1.1.0.1 } in
-    let end : SFits w32 r.end = record { sfits = f.1.1.1.1.0.1 } in
+    let entry : SFits w32 r.entry = record { sfits = omega arith } in
+    let left : SFits w32 r.left = record { sfits = omega arith } in
+    let right : SFits w32 r.right = record { sfits = omega arith } in
+    let start : SFits w32 r.start = record { sfits = omega arith } in
+    let end : SFits w32 r.end = record { sfits = omega arith } in
     simp (towards_suc, same32 _ entry, same32 _ left, same32 _ right, same32 _ start, same32 _ end, pos_of r.entry g.requires.1)

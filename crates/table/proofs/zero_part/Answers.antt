@@ -1,5 +1,4 @@
 -- `zero_part` meets its contract: zeros up to the place reached.
-use Prim.Native.Nat.{◌-◌}
 use mathlib.Core.Path.{◌≡◌, sym, ap, ◌∙◌}
 use native.Mathlib.Omega.{arith}
 use lib.IntN.{pos}

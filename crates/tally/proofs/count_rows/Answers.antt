@@ -39,17 +39,17 @@ overflow_add-read c = omega (arith, c.loop-i.invariant.1, c.loop-i-test.true)
 pub overflow_cast-entry : goal.overflow_cast-entry
 overflow_cast-entry c =
     let above = c.requires.entry_above c.loop-i.i c.loop-i-test.true in
-    let f : SFits w32 c.row_at-row.result.entry = record { sfits = c.struct_told-1.given.0.1 } in
+    let f : SFits w32 c.row_at-row.result.entry = record { sfits = omega arith } in
     rw (same32 _ f) (cast_up _ f (rw c.row_at-row.ensures above))
 
 pub offset_bounds-tallies-entry : goal.offset_bounds-tallies-entry
 offset_bounds-tallies-entry c =
-    let f : SFits w32 c.row_at-row.result.entry = record { sfits = c.struct_told-1.given.0.1 } in
+    let f : SFits w32 c.row_at-row.result.entry = record { sfits = omega arith } in
     record { fits = omega (arith, few _ _ _ c.requires _ c.loop-i-test.true _ c.row_at-row.ensures f) }
 
 pub bounds-tallies-entry : goal.bounds-tallies-entry
 bounds-tallies-entry c =
-    let f : SFits w32 c.row_at-row.result.entry = record { sfits = c.struct_told-1.given.0.1 } in
+    let f : SFits w32 c.row_at-row.result.entry = record { sfits = omega arith } in
     few _ _ _ c.requires _ c.loop-i-test.true _ c.row_at-row.ensures f
 
 pub overflow_add-tallies : goal.overflow_add-tallies
@@ -60,7 +60,7 @@ overflow_add-tallies c =
 
 pub bounds-tallies-entry-in-loop-i : goal.bounds-tallies-entry-in-loop-i
 bounds-tallies-entry-in-loop-i c =
-    let f : SFits w32 c.row_at-row.result.entry = record { sfits = c.struct_told-1.given.0.1 } in
+    let f : SFits w32 c.row_at-row.result.entry = record { sfits = omega arith } in
     few _ _ _ c.requires _ c.loop-i-test.true _ c.row_at-row.ensures f
 
 pub loop-i-preserved : goal.loop-i-preserved
@@ -68,7 +68,7 @@ loop-i-preserved c =
     let n = c.args.chart.count in
     let t = c.args.table.now in
     let i = c.loop-i.i in
-    let f : SFits w32 c.row_at-row.result.entry = record { sfits = c.struct_told-1.given.0.1 } in
+    let f : SFits w32 c.row_at-row.result.entry = record { sfits = omega arith } in
     let more = counts_more n (rows_in i t) (table_row t i) (c.requires.entry_below i c.loop-i-test.true) in (
       omega (arith, c.loop-i-test.true),
       ap (λ k. k + 1) c.loop-i.invariant.1,

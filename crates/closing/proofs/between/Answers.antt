@@ -10,19 +10,16 @@ use Rattle.table.specs.Table.{cell}
 use Rattle.table.specs.Ends.{ending_before}
 use Rattle.closing.specs.Added.{top_of, next_row, latest_start, near_from, near_to}
 use Rattle.closing.proofs.Laws.{top_le, read_back}
-use Rattle.closing.proofs.between.Goals.{After-latest_start-new, After-latest_start-old, After-top_of-top}
+use Rattle.closing.proofs.between.Goals.{After-latest_start-new, After-latest_start-old}
 use Rattle.closing.proofs.between.Goals as goal
-
-top : (c : After-top_of-top) → let g = c.args in c.top_of-top.result ≡ top_of g.b g.f.first g.t.now
-top c = simp (same32 _ c.ranges.b) at c.top_of-top.ensures
 
 -- of the old rows and of the new ones
 old : (c : After-latest_start-old) → let g = c.args in c.latest_start-old.result ≡ latest_start g.b (cell g.t.now 0 4) 0 (top_of g.b g.f.first g.t.now) g.t.now
 old c =
-    let p = c.before in
+    let top = simp (same32 _ c.ranges.b) at c.top_of-top.ensures in
     let end : SFits w32 c.row_at-earliest.result.end = search rules in
     let x = read_back _ _ end (ap (λ q. q.end) c.row_at-earliest.ensures) in
-    simp (same32 _ p.ranges.b, x, top p) at c.latest_start-old.ensures
+    simp (same32 _ c.ranges.b, x, top) at c.latest_start-old.ensures
 
 new : (c : After-latest_start-new) → let g = c.args in c.latest_start-new.result ≡ latest_start g.b (cell g.t.now (next_row g.b g.f.first g.f.end g.t.now) 3) (next_row g.b g.f.first g.f.end g.t.now) g.f.end g.t.now
 new c =
@@ -33,10 +30,10 @@ new c =
 
 pub latest_start-old-requires : goal.latest_start-old-requires
 latest_start-old-requires c =
-    let p = (goal.at.latest_start-old-requires c).After-top_of-top in
-    let g = p.args in
-    let most : p.top_of-top.result ≤ g.f.end = omega (arith, top p, top_le g.b g.t.now g.f.first) in
-    (omega arith, omega arith, (λ i j h k. p.requires.4 i j h (omega arith)), (λ i h. p.requires.5 i (omega arith)))
+    let g = c.args in
+    let top = simp (same32 _ c.ranges.b) at c.top_of-top.ensures in
+    let most : c.top_of-top.result ≤ g.f.end = omega (arith, top, top_le g.b g.t.now g.f.first) in
+    (omega arith, omega arith, (λ i j h k. c.requires.4 i j h (omega arith)), (λ i h. c.requires.5 i (omega arith)))
 
 pub ending_before-requires : goal.ending_before-requires
 ending_before-requires c = (omega arith, λ i j h k. c.requires.4 i j h (omega arith))
@@ -47,9 +44,7 @@ ending_before-requires-2 c = (omega arith, λ i j h k. c.requires.4 i j h (omega
 pub returns : goal.returns
 unfolding near_from near_to
 returns c =
-    let n = c.before in
-    let o = n.before.before.before in
-    let g = o.args in
-    let f : SFits w32 o.latest_start-old.result = search rules in
-    let h : SFits w32 n.latest_start-new.result = search rules in
-    (c.ending_before.ensures ∙ ap (λ z. ending_before g.f.first z g.t.now) (read_back _ _ f (old o)), c.ending_before-2.ensures ∙ ap (λ z. ending_before g.f.first z g.t.now) (read_back _ _ h (new n)))
+    let g = c.args in
+    let f : SFits w32 c.latest_start-old.result = search rules in
+    let h : SFits w32 c.latest_start-new.result = search rules in
+    (c.ending_before.ensures ∙ ap (λ z. ending_before g.f.first z g.t.now) (read_back _ _ f (old (goal.at.returns c).After-latest_start-old)), c.ending_before-2.ensures ∙ ap (λ z. ending_before g.f.first z g.t.now) (read_back _ _ h (new (goal.at.returns c).After-latest_start-new)))

@@ -3,12 +3,10 @@ use Prim.Native.Nat.{◌≤◌, ◌<◌}
 use native.Mathlib.Omega.{arith}
 use mathlib.Core.Path.{◌≡◌, sym, ap, ap₂, ◌∙◌}
 use mathlib.Core.Bool.{false}
-use mir.Syntax.{w32}
-use mir.Val.{SFits}
 use Rattle.interval.specs.Instants.{is_mark_refused}
 use Rattle.interval.proofs.Signed.{is_lt}
 use Rattle.interval.proofs.Laws.{mark_taken}
-use Rattle.interval.proofs.Machine.{same32}
+use Rattle.interval.proofs.Machine.{instant_fits, same32}
 use Rattle.state.specs.State.{marked}
 use Rattle.table.specs.Table.{room_in}
 use Rattle.closing.specs.Closed.{closed_number, closed_table}
@@ -20,7 +18,7 @@ use Rattle.watch.proofs.Watch.clock_unchecked.Goals as goal
 -- whether the mark is refused
 early : (c : After-is_mark_refused) → let g = c.args in is_mark_refused g.self.state.instant g.instant ≡ c.is_mark_refused.result
 early c =
-    let now : SFits w32 c.args.self.state.instant = record { sfits = c.struct_told-1.given.0.1 } in
+    let now = instant_fits _ (told c.args.chart c.args.self.state c.args.table.now c.requires).open_range in
     sym (c.is_mark_refused.ensures ∙ ap₂ is_mark_refused (same32 _ now) (same32 _ c.ranges.instant))
 
 in_time : (c : After-is_mark_refused) → c.is_mark_refused.result ≡ false → let g = c.args in is_mark_refused g.self.state.instant g.instant ≡ false

@@ -1,9 +1,7 @@
 -- `forget_unchecked` meets its contract: 11, then forgetting.
 use mathlib.Core.Path.{◌≡◌, sym, ap, ap₂, ◌∙◌}
-use mir.Syntax.{w32}
-use mir.Val.{SFits}
 use Rattle.interval.specs.Instants.{is_forget_refused}
-use Rattle.interval.proofs.Machine.{same32}
+use Rattle.interval.proofs.Machine.{instant_fits, same32}
 use Rattle.state.specs.State.{raised}
 use Rattle.watch.specs.Steps.{answered}
 use Rattle.watch.proofs.Calls.{told, forget_11, forget_taken, parts}
@@ -13,9 +11,8 @@ use Rattle.watch.proofs.Watch.forget_unchecked.Goals as goal
 -- whether the forget is refused
 barred : (c : After-is_forget_refused) → let g = c.args in is_forget_refused g.self.state.floor g.self.state.instant g.f ≡ c.is_forget_refused.result
 barred c =
-    let floor : SFits w32 c.args.self.state.floor = record { sfits = c.struct_told-1.given.1.0.1 } in
-    let now : SFits w32 c.args.self.state.instant = record { sfits = c.struct_told-2-1.given.0.1 } in
-    sym (simp (same32 _ c.ranges.f, same32 _ now, same32 _ floor) at c.is_forget_refused.ensures)
+    let j = told c.args.chart c.args.self.state c.args.table.now c.requires in
+    sym (simp (same32 _ c.ranges.f, same32 _ (instant_fits _ j.open_range), same32 _ (instant_fits _ j.floor_range)) at c.is_forget_refused.ensures)
 
 pub returns-then-is_forget_refused : goal.returns-then-is_forget_refused
 returns-then-is_forget_refused c = let g = c.args in parts (forget_11 g.chart g.self.state g.table.now g.f (barred (goal.at.returns-then-is_forget_refused c).After-is_forget_refused ∙ c.if-is_forget_refused.true))

@@ -1,11 +1,9 @@
 use Prim.Native.Nat.{◌-◌, ◌≤◌}
-use mir.Syntax.{w32}
-use mir.Val.{to_z}
 use Rattle.forgetting.specs.Walk.{AllLate}
 use Rattle.forgetting.proofs.first_early.Given as goal
 
 abbrev pub invariant-loop-i : goal.invariant-loop-i
-invariant-loop-i l = (l.i ≤ l.rows) × AllLate (to_z w32 l.floor) l.i l.table
+invariant-loop-i l = (l.i ≤ l.rows) × AllLate l.floor l.i l.table
 
 abbrev pub decreases-loop-i : goal.decreases-loop-i
 decreases-loop-i l = l.rows - l.i

@@ -11,28 +11,23 @@ asks : (c : After-arities_of-arities) → RowsReady (event_in c.arities_of-ariti
 asks c = ready_rows _ c.args.state _ c.args.floor c.requires _ c.arities_of-arities.ensures
 
 pub first_early-first-requires : goal.first_early-first-requires
-first_early-first-requires c = let a = asks c in (a.few, a.fit)
+first_early-first-requires c = let a = asks (goal.at.first_early-first-requires c).After-arities_of-arities in (a.few, a.fit)
 
 pub keep_rows-kept-requires : goal.keep_rows-kept-requires
 keep_rows-kept-requires c =
-    let f = c in
-    (asks f.before.before, f.first_early-first.ensures.0, f.first_early-first.ensures.1)
+    (asks (goal.at.keep_rows-kept-requires c).After-arities_of-arities, c.first_early-first.ensures.0, c.first_early-first.ensures.1)
 
 pub overflow_mul-rows : goal.overflow_mul-rows
 overflow_mul-rows c = omega (arith, (asks (goal.at.overflow_mul-rows c).After-arities_of-arities).few)
 
 pub zero_part-requires : goal.zero_part-requires
 zero_part-requires c =
-    let r = c in
-    let k = r in
-    omega (arith, (asks k.before.before.before.before).fit, k.keep_rows-kept.ensures.most, k.keep_rows-kept.auto.1.0, r.restore.auto.0)
+    omega (arith, (asks (goal.at.zero_part-requires c).After-arities_of-arities).fit, c.keep_rows-kept.ensures.most, c.keep_rows-kept.auto.table, c.restore.auto.table)
 
 pub returns : goal.returns
 returns c =
-    let z = c in
-    let r = z in
-    let k = r in
-    let e = k in
-    let s = e in
-    let w = simp (same32, s.ranges.floor) at k.keep_rows-kept.ensures in
-    (forgotten_count _ s.args.state _ _ s.requires _ e.arities_of-arities.ensures _ _ _ w, forgotten_table_lem _ s.args.state _ _ s.requires _ e.arities_of-arities.ensures _ _ _ w _ _ k.keep_rows-kept.auto.1.0 r.restore.ensures z.zero_part.ensures)
+    let s = c.args.state in
+    let a = c.arities_of-arities.ensures in
+    let f = c.ranges.floor in
+    let w = simp (same32, f) at c.keep_rows-kept.ensures in
+    (forgotten_count _ s _ _ c.requires _ a _ _ _ w, forgotten_table_lem _ s _ _ c.requires _ a _ _ _ w _ _ c.keep_rows-kept.auto.table c.restore.ensures c.zero_part.ensures)

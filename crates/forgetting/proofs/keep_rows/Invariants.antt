@@ -1,12 +1,10 @@
 use Prim.Native.Nat.{◌-◌}
-use mir.Syntax.{w32}
-use mir.Val.{to_z}
 use Rattle.forgetting.specs.Walk.{event_in}
 use Rattle.forgetting.proofs.Walk.{Walked}
 use Rattle.forgetting.proofs.keep_rows.Given as goal
 
 abbrev pub invariant-loop-i : goal.invariant-loop-i
-invariant-loop-i l = Walked (event_in l.arities) (to_z w32 l.floor) l.rows l.initial.table l.i l.kept l.mark l.table
+invariant-loop-i l = Walked (event_in l.arities) l.floor l.rows l.initial.table l.i l.kept l.mark l.table
 
 abbrev pub decreases-loop-i : goal.decreases-loop-i
 decreases-loop-i l = l.rows - l.i

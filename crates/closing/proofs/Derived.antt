@@ -335,13 +335,13 @@ module _ (o : ℤ) (m n : ℕ) (t : List ℤ) (g : Grown o m n t) (entry : ℕ) 
   -- what an entry makes, before it is put in order
   pub made_is : (op : Operator) (first pending : ℕ) (codes : List ℕ) → pending ≤ length codes → made_rows (record { entry = entry; operator = op; test = ends_here o }) (numbered o first (take pending codes)) (rows_in n t) ≡ added_rows op entry o (pending_from first pending) codes m n t
   unfolding added_rows
-  made_is (event k) first pending codes h = event_derived k first pending codes h
-  made_is (related c a b) first pending codes h = pair_derived c a b
-  made_is (or a b) first pending codes h = or_derived a b
-  made_is (absence e a b) first pending codes h = absence_derived e a b
-  made_is (lasting c a d) first pending codes h = length_derived c a d
-  made_is (after a d) first pending codes h = delay_derived a d
-  made_is (nearest c a b) first pending codes h = nearest_derived g entry b c a
+  made_is (event k) serial pending codes h = event_derived k serial pending codes h
+  made_is (related c a b) _ _ _ _ = pair_derived c a b
+  made_is (or a b) _ _ _ _ = or_derived a b
+  made_is (absence e a b) _ _ _ _ = absence_derived e a b
+  made_is (lasting c a d) _ _ _ _ = length_derived c a d
+  made_is (after a d) _ _ _ _ = delay_derived a d
+  made_is (nearest c a b) _ _ _ _ = nearest_derived g entry b c a
 
   -- and what of it counts
   pub counted_is : (since : List ℤ) (op : Operator) (first pending : ℕ) (codes : List ℕ) → pending ≤ length codes → made_rows (record { entry = entry; operator = op; test = ends_at since o entry }) (numbered o first (take pending codes)) (rows_in n t) ≡ counted (since_of since entry) (added_rows op entry o (pending_from first pending) codes m n t)

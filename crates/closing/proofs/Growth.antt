@@ -1,6 +1,6 @@
 -- The table grows: the rows appended for an entry end at the instant and start no later, and the table with them is one in which the
 -- next entry's rows may be derived.
-use Prim.Native.Nat.{ℕ, suc, ◌+◌, ◌*◌, ◌-◌, ◌≤◌, ◌<◌}
+use Prim.Native.Nat.{ℕ, suc, ◌+◌, ◌*◌, ◌≤◌, ◌<◌}
 use native.Mathlib.Omega.{arith}
 use native.Mathlib.Nat.{add-zero}
 use native.Mathlib.Decide.{ℕ_discrete}
@@ -9,7 +9,6 @@ use mathlib.Core.List.Memᴰ
 use mathlib.Core.List.{List, [], ◌∷◌, map, Memᴰ}
 use lib.IntN.{ℤ, pos, ◌+ℤ◌}
 use lib.ListN.{length, take}
-use Rattle.interval.specs.Instants.{eq_z}
 use Rattle.interval.proofs.Signed.{◌≤ᶻ◌, lt_true, is_lt, le_true, is_le, eq_z→, add_fact}
 use Rattle.interval.proofs.Laws.{start_le_end}
 use Rattle.model.specs.Lists.{numbers}

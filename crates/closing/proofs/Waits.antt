@@ -4,11 +4,11 @@ use native.Mathlib.Omega.{arith}
 use mathlib.Core.Path.{◌≡◌, refl, sym, ap, ◌∙◌, subst}
 use mathlib.Core.Bool.{Bool, true, false, ◌&&◌}
 use mathlib.Core.List.Memᴰ
-use mathlib.Core.List.{List, [], ◌∷◌, ◌++◌, map, Memᴰ}
+use mathlib.Core.List.{List, [], ◌++◌, map, Memᴰ}
 use borrow.Author.Tests.{leb-true, leb-false}
 use lib.Dec.{T, eqb, leb}
 use lib.IntN.{ℤ, pos, nat_abs, ◌+ℤ◌, ◌-ℤ◌}
-use lib.Signed.{le_z, lt_z}
+use lib.Signed.{le_z}
 use Rattle.interval.specs.Instants.{eq_z, least}
 use Rattle.interval.proofs.Signed.{◌≤ᶻ◌, ◌<ᶻ◌, never, eq_fact, holds→, →holds, lt_false, le_true, le_false, lt_z→, →le_z, le_z→, least_is, least_most, add_fact, sub_fact}
 use Rattle.interval.proofs.Machine.{pos_of}

@@ -1,5 +1,4 @@
 -- `first_of` meets its contract: the search from the row reached finds what the whole search finds.
-use Prim.Native.Nat.{◌-◌}
 use native.Mathlib.Omega.{arith}
 use mathlib.Core.Path.{refl, sym, ◌∙◌}
 use mir.Syntax.{w32}

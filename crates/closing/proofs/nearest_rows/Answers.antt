@@ -11,7 +11,6 @@ use mir.Val.{to_z, of_z}
 use Rattle.interval.specs.Instants.{eq_z}
 use Rattle.interval.proofs.Machine.{same32}
 use Rattle.model.specs.Lists.{each}
-use Rattle.model.specs.Order.{Row}
 use Rattle.table.specs.Table.{cell}
 use Rattle.closing.specs.declared.Sought.{Sought}
 use Rattle.closing.specs.Added.{span, next_row, near_from, sought_by, nearest_of, nearest_with, nearest_rows}

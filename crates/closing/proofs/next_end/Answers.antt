@@ -14,7 +14,6 @@ use Rattle.interval.proofs.Machine.{same32, same64, earlier_fits}
 use Rattle.model.specs.Statements.{NextDue}
 use Rattle.table.specs.Table.{cell}
 use Rattle.table.specs.Ends.{count_ending}
-use Rattle.closing.specs.Added.{FirstWaited}
 use Rattle.closing.proofs.Waits.{few, inside, first_due, first_long, found_due, none_found}
 use Rattle.closing.proofs.next_end.Goals.{After-count_ending-end, After-count_ending-first, Start}
 use Rattle.closing.proofs.next_end.Goals as goal

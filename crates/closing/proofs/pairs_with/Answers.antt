@@ -1,5 +1,4 @@
 -- `pairs_with` meets its contract: what the rows s left append is what all were to append.
-use Prim.Native.Nat.{◌-◌}
 use native.Mathlib.Omega.{arith}
 use mathlib.Core.Path.{◌≡◌, sym, ◌∙◌}
 use mir.Syntax.{w32}

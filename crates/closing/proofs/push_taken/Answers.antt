@@ -3,7 +3,6 @@ use mathlib.Core.Path.{◌≡◌, sym, ap, ◌∙◌}
 use mathlib.Core.Bool.{Bool}
 use lib.IntN.{ℤ, nat_abs}
 use Rattle.interval.proofs.Machine.{same32}
-use Rattle.table.specs.Table.{stored_row}
 use Rattle.table.specs.declared.Row.{Row}
 use Rattle.closing.specs.declared.Taken.{Taken}
 use Rattle.closing.specs.Added.{arm_of, is_taken, taken_row}

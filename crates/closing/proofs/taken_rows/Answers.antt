@@ -1,5 +1,4 @@
 -- `taken_rows` meets its contract: what the rows left append is what all were to append.
-use Prim.Native.Nat.{◌-◌}
 use native.Mathlib.Omega.{arith}
 use mathlib.Core.Path.{◌∙◌}
 use Rattle.interval.proofs.Machine.{same32}

@@ -1,4 +1,3 @@
-use Prim.Native.Nat.{◌-◌}
 use Rattle.closing.specs.Added.{SameTop}
 use Rattle.closing.proofs.top_in_fours.Given as goal
 

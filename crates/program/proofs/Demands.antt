@@ -26,8 +26,7 @@ use Rattle.watch.proofs.Demands as watch
 use Rattle.log_line.specs.declared.Call.{Call}
 use Rattle.log_line.specs.declared.Call.TheVariants as log
 use Rattle.log_line.proofs.Demands as line
-use Rattle.log_line.specs.Log.{call_in}
-use Rattle.program.specs.Outcomes.{Outcome, listed, refused, opening_answer, call_answer, play_calls, play_log, chart_lines, log_lines, play_lines, outcome_text, printed_for}
+use Rattle.program.specs.Outcomes.{Outcome, listed, refused, call_in, opening_answer, call_answer, play_calls, play_log, chart_lines, log_lines, play_lines, outcome_text, printed_for}
 use Rattle.program.specs.Runs.{Progress, start_run}
 use Rattle.program.specs.Demands.{Shows, Refuses, Demand1, ReportTotals, Agree, ReportAgrees}
 use Rattle.program.specs.declared.Format.{Format}

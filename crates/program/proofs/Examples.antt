@@ -21,13 +21,13 @@ use Rattle.model.specs.Reference.{opening, event_step, clock_step, forget_step}
 use Rattle.table.specs.Table.{flat}
 use Rattle.table.specs.Operators.{operator_by, operators_of, arity_of}
 use Rattle.tree.specs.Tree.{row_bytes, reference_bytes, tree_within, tree_bytes}
-use Rattle.log_line.specs.Log.{call_words, event_call, instant_call, word_call, fields_call, call_of, call_in}
+use Rattle.log_line.specs.Log.{call_words, event_call, instant_call, word_call, fields_call, call_of}
 use Rattle.tally.specs.Tally.{tally, tallies}
 use Rattle.printing.specs.Listing.{row_texts}
 use Rattle.printing.specs.Report.{tally_texts}
 use Rattle.program.specs.declared.Format.{Format}
 use Rattle.program.specs.declared.Format.TheVariants.{Listing, Report}
-use Rattle.program.specs.Outcomes.{Outcome, listed, refused, opening_answer, call_answer, play_calls, play_log, chart_lines, log_lines, play_lines, outcome_text, printed_for}
+use Rattle.program.specs.Outcomes.{Outcome, listed, refused, call_in, opening_answer, call_answer, play_calls, play_log, chart_lines, log_lines, play_lines, outcome_text, printed_for}
 
 -- which program, how many rows the table can hold, the input, and what must be printed
 pub record Case : Type 0 where

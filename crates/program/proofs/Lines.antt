@@ -4,7 +4,7 @@ use native.Mathlib.Omega.{arith}
 use mathlib.Core.Path.{◌≡◌, refl, sym, ap, ap₂, ◌∙◌, subst}
 use mathlib.Core.Logic.{inl}
 use mathlib.Core.Bool.{true, false, cond, Bool}
-use mathlib.Core.List.{List, [], ◌∷◌, ◌++◌}
+use mathlib.Core.List.{List, [], ◌∷◌, ◌++◌, map}
 use borrow.Author.Tests.{le-leb, lt-leb, lt-ltb, eq-eqb, ne_eqb}
 use lib.Dec.{eqb}
 use lib.IntN.{ℤ, pos}
@@ -18,7 +18,8 @@ use Rattle.chart.specs.Charts.{is_usable, read_lines, add_line, no_entries, take
 use Rattle.chart.specs.declared.Chart.{Chart}
 use Rattle.chart.specs.declared.ChartAnswer.{ChartAnswer}
 use Rattle.chart.proofs.Lines.{line_added}
-use Rattle.log_line.specs.Log.{call_of, call_in}
+use Rattle.log_line.specs.Log.{call_of}
+use Rattle.log_line.specs.Log as whole_log
 use Rattle.log_line.specs.declared.Call.{Call}
 use Rattle.log_line.specs.declared.Call.TheVariants as log
 use Rattle.watch.specs.Steps.{Step, refused_step, check_number, opening_step, event_own, clock_own, forget_own}
@@ -27,7 +28,7 @@ use Rattle.watch.specs.Histories.{State}
 use Rattle.watch.specs.declared.Answer.{Answer}
 use Rattle.watch.proofs.Calls.{clock_8, forget_11, opening_8}
 use Rattle.watch.proofs.Steps.{event_passed, clock_passed, forget_passed}
-use Rattle.program.specs.Outcomes.{is_empty}
+use Rattle.program.specs.Outcomes.{call_in, is_empty}
 use Rattle.program.specs.Runs.{Progress, refused_run, next_run, entry_run, chart_end, stepped, opening_line, call_step, narrowed, line_step, after_line, is_refused, is_early, Holds, HasLines}
 use Rattle.program.specs.declared.Run.{Run}
 use Rattle.program.specs.declared.Stage.{Stage}
@@ -172,6 +173,15 @@ module _ (r : Run) (t : List ℤ) where
 pub line_room : (r : Run) (s : Stage) → HasLines r 1 → r.stage ≡ s → is_refused s ≡ false → r.line + 1 < 2 ^ 64
 unfolding HasLines
 line_room r s h e z = h (ap is_refused e ∙ z)
+
+-- A line of the log in an input is read as a line of a whole log is.
+pub call_in_log : (l : Line) → call_in l ≡ whole_log.call_in l
+unfolding call_in whole_log.call_in
+call_in_log l = refl
+
+pub calls_in_log : (ls : List Line) → map call_in ls ≡ map whole_log.call_in ls
+calls_in_log [] = refl
+calls_in_log (l ∷ ls) = ap₂ (λ c cs. c ∷ cs) (call_in_log l) (calls_in_log ls)
 
 -- one line by the stage
 pub at_entries : (r q : Run) (t : List ℤ) (s : List ℕ) → r.stage ≡ Entries → q ≡ entries_run r s → progress_of q t ≡ after_line (progress_of r t) (whole s)

@@ -22,9 +22,10 @@ use Rattle.watch.specs.Steps.{Step, holding, answered, refused_step, check_numbe
 use Rattle.watch.specs.Histories.{State}
 use Rattle.watch.specs.declared.Answer.{Answer}
 use Rattle.watch.specs.declared.Watch.{Watch}
-use Rattle.log_line.specs.Log.{call_of, call_in}
+use Rattle.log_line.specs.Log.{call_of}
 use Rattle.log_line.specs.declared.Call.{Call}
 use Rattle.log_line.specs.declared.Call.TheVariants as log
+use Rattle.program.specs.Outcomes.{call_in}
 use Rattle.program.specs.Runs.{Progress, refused_run, next_run, stepped, call_step, line_step, after_line, is_refused, Holds, Reached, Read, calls_run}
 use Rattle.program.specs.declared.Run.{Run}
 use Rattle.program.proofs.Reaching.{history_checked}

@@ -12,8 +12,7 @@ use Rattle.text.specs.Text.{Line, whole, broken, in_front, split, ended, lines, 
 use Rattle.text.proofs.Laws.{split_some, split_empty, split_byte, glued, split_append, lines_parts}
 use Rattle.chart.specs.Charts.{read_lines}
 use Rattle.chart.proofs.Lines.{refused_number, refused_line, read_unformed}
-use Rattle.log_line.specs.Log.{call_in}
-use Rattle.program.specs.Outcomes.{is_empty}
+use Rattle.program.specs.Outcomes.{call_in, is_empty}
 use Rattle.program.specs.Runs.{Progress, refused_run, unformed_run, entry_run, stepped, opening_line, call_step, line_step, after_line, after_parts, after_bytes, last_part, is_refused, kept_of, end_run, finished, Between, fed, fed_all}
 use Rattle.program.specs.declared.Run.{Run}
 use Rattle.program.specs.declared.Stage.{Stage}

@@ -37,8 +37,7 @@ use Rattle.table.proofs.Operators.{length_operators}
 use Rattle.table.proofs.Tables as tables
 use Rattle.log_line.specs.declared.Call.{Call}
 use Rattle.log_line.specs.declared.Call.TheVariants as log
-use Rattle.log_line.specs.Log.{call_in}
-use Rattle.program.specs.Outcomes.{Outcome, listed, refused, opening_answer, call_answer, play_calls, play_log, is_empty, chart_lines, log_lines, play_lines}
+use Rattle.program.specs.Outcomes.{Outcome, listed, refused, call_in, opening_answer, call_answer, play_calls, play_log, is_empty, chart_lines, log_lines, play_lines}
 use Rattle.program.specs.Runs.{Progress, progress, start_run, refused_run, refused_at, next_run, entry_run, chart_end, stepped, opening_line, call_step, line_step, end_run, outcome_of, result_of}
 use Rattle.program.specs.declared.Run.{Run}
 use Rattle.program.specs.declared.Stage.TheVariants.{Entries, Opening, Calls}

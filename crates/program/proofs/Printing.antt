@@ -41,8 +41,7 @@ use Rattle.printing.specs.Report.{report_text, report_fits}
 use Rattle.printing.proofs.Laws as printing
 use Rattle.text.proofs.Written.{length_room, output_room, front_within}
 use Rattle.printing.proofs.Laws.{report_fits_lem, table_listing, refusal_fits_lem}
-use Rattle.log_line.specs.Log.{call_in}
-use Rattle.program.specs.Outcomes.{Outcome, listed, refused, outcome_text}
+use Rattle.program.specs.Outcomes.{Outcome, listed, refused, call_in, outcome_text}
 use Rattle.program.specs.Runs.{Progress, refused_run, next_run, stepped, opening_line, state_of, call_step, line_step, after_line, end_run, result_of, outcome_of, OfHistory, Holds, Reached, is_refused, Printable, reported_length, reported_output, table_length, table_output, length_at, output_at, printed_length, printed_output}
 use Rattle.program.specs.Statements.{bytes_for}
 use Rattle.program.specs.declared.Format.{Format}

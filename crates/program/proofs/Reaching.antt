@@ -28,8 +28,7 @@ use Rattle.model.proofs.ReferenceLaws.{run_none, run_more}
 use Rattle.watch.proofs.Steps.{event_call, clock_call, forget_call}
 use Rattle.log_line.specs.declared.Call.{Call}
 use Rattle.log_line.specs.declared.Call.TheVariants as log
-use Rattle.log_line.specs.Log.{call_in}
-use Rattle.program.specs.Outcomes.{is_empty}
+use Rattle.program.specs.Outcomes.{call_in, is_empty}
 use Rattle.program.specs.Runs.{Progress, refused_run, next_run, entry_run, chart_end, stepped, opening_line, state_of, call_step, line_step, after_line, after_parts, after_bytes, is_refused, Holds, Reached, OfHistory, HasFew, HasLines, start_run}
 use Rattle.program.specs.declared.Run.{Run}
 use Rattle.program.specs.declared.Stage.{Stage}

@@ -4,14 +4,14 @@
 -- "A report program, with the listing program's input, table and refusals" (request N3): the two differ in what they print of a run that is not refused.
 use Rattle.std.specs.Prelude.{ℕ, suc, ◌-◌, Bool, cond, ◌&&◌, List, [], ◌∷◌, eqb, pos, length}
 use Rattle.interval.specs.Instants.{first_floor}
-use Rattle.text.specs.Text.{Line, lines}
+use Rattle.text.specs.Text.{Line, lines, is_record}
 use Rattle.chart.specs.Charts.{or_no_line}
 use Rattle.model.specs.Order.{Row}
 use Rattle.model.specs.Recognitions.{Operator}
 use Rattle.model.specs.Reference as model
 use Rattle.model.specs.Reference.{Model, Answer, rows_of}
 use Rattle.table.specs.Operators.{operators_of}
-use Rattle.log_line.specs.Log.{call_in, answer_of}
+use Rattle.log_line.specs.Log.{call_of, answer_of}
 use Rattle.log_line.specs.declared.Call.{Call}
 use Rattle.log_line.specs.declared.Call.TheVariants as log
 use Rattle.tally.specs.Tally.{tallies}
@@ -24,6 +24,10 @@ use Rattle.program.specs.declared.Format.TheVariants.{Listing, Report}
 pub data Outcome : Type 0 where
   listed : ℕ → List Row → Outcome
   refused : ℕ → ℕ → Outcome
+
+-- a log line, Malformed where it lacks its byte 10 or has over 64 bytes
+unfoldable pub call_in : Line → Call
+call_in l = cond (is_record l) (call_of l.bytes) log.Malformed
 
 -- a model of no entries, as a refused opening leaves it
 abbrev no_model : Model

@@ -19,8 +19,7 @@ use Rattle.tally.specs.Tally.{report_of}
 use Rattle.tally.specs.declared.Report as tally
 use Rattle.printing.specs.Listing.{listing_length, listing_output, refusal_length, refusal_output}
 use Rattle.printing.specs.Report.{report_length, report_output}
-use Rattle.log_line.specs.Log.{call_in}
-use Rattle.program.specs.Outcomes.{Outcome, listed, refused, is_empty}
+use Rattle.program.specs.Outcomes.{Outcome, listed, refused, call_in, is_empty}
 use Rattle.program.specs.declared.Format.{Format}
 use Rattle.program.specs.declared.Format.TheVariants.{Listing, Report}
 use Rattle.program.specs.declared.Stage.{Stage}

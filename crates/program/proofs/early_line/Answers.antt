@@ -8,30 +8,26 @@ use Rattle.program.proofs.early_line.Goals as goal
 pub entries_line-requires : goal.entries_line-requires
 unfolding is_refused
 entries_line-requires c =
-    let s = c in
     let e = c.in-Entries.is in
-    (line_room s.args.run Entries s.requires.1 e refl, entries_few s.args.run s.args.table.now s.requires.0 e)
+    (line_room c.args.run Entries c.requires.1 e refl, entries_few c.args.run c.args.table.now c.requires.0 e)
 
 pub opening_line-requires : goal.opening_line-requires
 unfolding is_refused
 opening_line-requires c =
-    let s = c in
     let e = c.in-Opening.is in
-    (line_room s.args.run Opening s.requires.1 e refl, opening_usable s.args.run s.args.table.now s.requires.0 e)
+    (line_room c.args.run Opening c.requires.1 e refl, opening_usable c.args.run c.args.table.now c.requires.0 e)
 
 pub returns-in-Entries : goal.returns-in-Entries
 unfolding is_early
 returns-in-Entries c = at_entries _ _ _ _ c.in-Entries.is c.entries_line.ensures
 
 pub returns-in-Opening : goal.returns-in-Opening
-returns-in-Opening c =
-    let k = c in
-    at_opening _ _ _ _ _ k.in-Opening.is k.requires.3 c.opening_line.ensures
+returns-in-Opening c = at_opening _ _ _ _ _ c.in-Opening.is c.requires.3 c.opening_line.ensures
 
 pub returns-in-Calls : goal.returns-in-Calls
 unfolding is_early
-returns-in-Calls c = let s = c in not_early s.args.run Calls s.requires.2 c.in-Calls.is refl
+returns-in-Calls c = not_early c.args.run Calls c.requires.2 c.in-Calls.is refl
 
 pub returns-in-Refused : goal.returns-in-Refused
 unfolding is_early
-returns-in-Refused c = let s = c in not_early s.args.run Refused s.requires.2 c.in-Refused.is refl
+returns-in-Refused c = not_early c.args.run Refused c.requires.2 c.in-Refused.is refl

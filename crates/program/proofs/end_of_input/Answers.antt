@@ -6,11 +6,11 @@ use Rattle.program.proofs.end_of_input.Goals as goal
 
 pub end_of_entries-requires : goal.end_of_entries-requires
 unfolding is_refused end_run
-end_of_entries-requires c = let z = c in lines_at _ _ c.in-Entries.is refl 1 z.requires
+end_of_entries-requires c = lines_at _ _ c.in-Entries.is refl 1 c.requires
 
 pub overflow_add-run : goal.overflow_add-run
 unfolding is_refused end_run
-overflow_add-run c = let z = c in record { fits = lines_at _ _ c.in-Opening.is refl 1 z.requires }
+overflow_add-run c = record { fits = lines_at _ _ c.in-Opening.is refl 1 c.requires }
 
 pub returns-in-Entries : goal.returns-in-Entries
 unfolding is_refused end_run

@@ -8,26 +8,17 @@ use Rattle.program.proofs.opening_line.Goals as goal
 
 pub returns-in-Open : goal.returns-in-Open
 returns-in-Open c =
-    let k = c in
-    let fits : SFits w64 k.in-Open.o = record { sfits = c.in-Open.known_told-1-own.given.0.1 } in
-    opening_open _ _ _ _ _ _ (sym k.read_call-c.ensures.0 ∙ k.in-Open.is) (simp (same64 _ fits) at c.open_at.ensures)
+    let fits : SFits w64 c.in-Open.o = record { sfits = c.in-Open.known_told-1-own.given.0.1 } in
+    opening_open _ _ _ _ _ _ (sym c.read_call-c.ensures.0 ∙ c.in-Open.is) (simp (same64 _ fits) at c.open_at.ensures)
 
 pub returns-in-Malformed : goal.returns-in-Malformed
-returns-in-Malformed c =
-    let k = c in
-    opening_malformed _ _ _ _ c.refused_run.ensures (sym k.read_call-c.ensures.0 ∙ k.in-Malformed.is)
+returns-in-Malformed c = opening_malformed _ _ _ _ c.refused_run.ensures (sym c.read_call-c.ensures.0 ∙ c.in-Malformed.is)
 
 pub returns-in-Event : goal.returns-in-Event
-returns-in-Event c =
-    let k = c in
-    opening_event _ _ _ _ c.refused_run-in-Event.ensures _ (sym k.read_call-c.ensures.0 ∙ k.in-Event.is)
+returns-in-Event c = opening_event _ _ _ _ c.refused_run-in-Event.ensures _ (sym c.read_call-c.ensures.0 ∙ c.in-Event.is)
 
 pub returns-in-Clock : goal.returns-in-Clock
-returns-in-Clock c =
-    let k = c in
-    opening_clock _ _ _ _ c.refused_run-in-Clock.ensures _ (sym k.read_call-c.ensures.0 ∙ k.in-Clock.is)
+returns-in-Clock c = opening_clock _ _ _ _ c.refused_run-in-Clock.ensures _ (sym c.read_call-c.ensures.0 ∙ c.in-Clock.is)
 
 pub returns-in-Forget : goal.returns-in-Forget
-returns-in-Forget c =
-    let k = c in
-    opening_forget _ _ _ _ c.refused_run-in-Forget.ensures _ (sym k.read_call-c.ensures.0 ∙ k.in-Forget.is)
+returns-in-Forget c = opening_forget _ _ _ _ c.refused_run-in-Forget.ensures _ (sym c.read_call-c.ensures.0 ∙ c.in-Forget.is)

@@ -10,9 +10,8 @@ use Rattle.program.proofs.print_report.Goals as goal
 
 few : (c : After-report_unchecked-report) → c.report_unchecked-report.result.entries ≤ length c.report_unchecked-report.result.tallies
 few c =
-    let s = c in
-    let g = s.args in
-    subst (λ p. p.entries ≤ length p.tallies) (report_passed g.chart g.watch.state g.table.now s.requires ∙ sym c.report_unchecked-report.ensures) (report_within g.chart g.watch.state g.table.now)
+    let g = c.args in
+    subst (λ p. p.entries ≤ length p.tallies) (report_passed g.chart g.watch.state g.table.now c.requires ∙ sym c.report_unchecked-report.ensures) (report_within g.chart g.watch.state g.table.now)
 
 pub slice_bounds-tallies-end : goal.slice_bounds-tallies-end
 slice_bounds-tallies-end c = few (goal.at.slice_bounds-tallies-end c).After-report_unchecked-report
@@ -22,7 +21,5 @@ slice_bounds-write_report-end c = sym (length-take-le _ _ (few (goal.at.slice_bo
 
 pub returns : goal.returns
 returns c =
-    let w = c in
-    let r = w in
-    let out = r.args.out.now in
-    (w.write_report.ensures.0 ∙ ap (λ p. reported_length p out) r.report_unchecked-report.ensures, w.write_report.ensures.1 ∙ ap (λ p. reported_output p out) r.report_unchecked-report.ensures)
+    let out = c.args.out.now in
+    (c.write_report.ensures.0 ∙ ap (λ p. reported_length p out) c.report_unchecked-report.ensures, c.write_report.ensures.1 ∙ ap (λ p. reported_output p out) c.report_unchecked-report.ensures)

@@ -13,25 +13,19 @@ use Rattle.program.proofs.print_whole.Goals.{After-finish-last, After-start-firs
 use Rattle.program.proofs.print_whole.Goals as goal
 
 -- the run before the first byte
-ready : (c : After-start-first) → let s = c.before.before.before.before.before in Reached (record { run = c.start-first.result; table = s.args.table.now }) × HasLines c.start-first.result (length s.args.input.now + 1)
+ready : (c : After-start-first) → Reached (record { run = c.start-first.result; table = c.args.table.now }) × HasLines c.start-first.result (length c.args.input.now + 1)
 ready c =
-    let s = c in
     let e = sym c.start-first.ensures in
-    (subst (λ r. Reached (record { run = r; table = s.args.table.now })) e (start_reached s.args.table.now), subst (λ r. HasLines r (length s.args.input.now + 1)) e (start_lines _ (omega (arith, s.well_formed.1.0))))
+    (subst (λ r. Reached (record { run = r; table = c.args.table.now })) e (start_reached c.args.table.now), subst (λ r. HasLines r (length c.args.input.now + 1)) e (start_lines _ (omega (arith, c.well_formed.1.0))))
 
 -- the run of the whole input
-run_is : (c : After-finish-last) →
-    let s = c.before.before.before.before.before.before.before.before.before.before.before in
-    whole_run s.args.table.now (s.args.input.now ∷ []) ≡ record { run = c.finish-last.result; table = c.feed-fed.new.1.0 }
+run_is : (c : After-finish-last) → whole_run c.args.table.now (c.args.input.now ∷ []) ≡ record { run = c.finish-last.result; table = c.feed-fed.new.table }
 run_is c =
-    let f = c in
-    let st = f in
-    let s = st in
-    let t = s.args.table.now in
-    let x = s.args.input.now in
-    let e = f.feed-fed.ensures.0 ∙ ap (λ r. after_bytes (record { run = r; table = t }) x) st.start-first.ensures in
-    let k = f.feed-fed.ensures.2 ∙ ap (λ r. kept_of (after_bytes (record { run = r; table = t }) x) x) st.start-first.ensures in
-    one_piece x t _ _ _ e k ∙ ap (λ r. record { run = r; table = f.feed-fed.new.1.0 }) (sym c.finish-last.ensures)
+    let t = c.args.table.now in
+    let x = c.args.input.now in
+    let e = c.feed-fed.ensures.0 ∙ ap (λ r. after_bytes (record { run = r; table = t }) x) c.start-first.ensures in
+    let k = c.feed-fed.ensures.2 ∙ ap (λ r. kept_of (after_bytes (record { run = r; table = t }) x) x) c.start-first.ensures in
+    one_piece x t _ _ _ e k ∙ ap (λ r. record { run = r; table = c.feed-fed.new.table }) (sym c.finish-last.ensures)
 
 pub returns-then-out-needed : goal.returns-then-out-needed
 returns-then-out-needed c = whole_none _ _ _ _ (rw (← c.bytes_for-needed.ensures) c.if-out-needed.true)
@@ -46,16 +40,11 @@ finish-last-requires c =
     (bytes_lines _ _ _ k.1 e, bytes_few _ _ _ k.0 e)
 
 pub print-requires : goal.print-requires
-print-requires c =
-    let f = (goal.at.print-requires c).After-struct_known-1 in
-    let s = f in
-    subst (λ x. Printable s.args.format x.run x.table) (run_is f) (whole_printable s.args.table.now (s.args.input.now ∷ []) s.args.format)
+print-requires c = subst (λ x. Printable c.args.format x.run x.table) (run_is (goal.at.print-requires c).After-finish-last) (whole_printable c.args.table.now (c.args.input.now ∷ []) c.args.format)
 
 pub returns : goal.returns
 returns c =
-    let f = (goal.at.returns c).After-struct_known-1 in
-    let b = f in
-    let g = b.args in
+    let g = c.args in
     let p = c.print.ensures in
-    let w = whole_all g.input.now g.table.now g.format g.out.now (rw (← b.bytes_for-needed.ensures) b.if-out-needed.false) _ (run_is f) in
+    let w = whole_all g.input.now g.table.now g.format g.out.now (rw (← c.bytes_for-needed.ensures) c.if-out-needed.false) _ (run_is (goal.at.returns c).After-finish-last) in
     (p.0 ∙ w.0, w.1, p.1 ∙ w.2)

@@ -6,15 +6,15 @@ use Rattle.program.proofs.unformed_line.Goals as goal
 
 pub unformed_entry-requires : goal.unformed_entry-requires
 unfolding is_refused unformed_run
-unformed_entry-requires c = let z = c in few_at _ _ c.in-Entries.is refl z.requires.1
+unformed_entry-requires c = few_at _ _ c.in-Entries.is refl c.requires.1
 
 pub overflow_add-run : goal.overflow_add-run
 unfolding is_refused unformed_run
-overflow_add-run c = let z = c in record { fits = lines_at _ _ c.in-Opening.is refl 1 z.requires.0 }
+overflow_add-run c = record { fits = lines_at _ _ c.in-Opening.is refl 1 c.requires.0 }
 
 pub overflow_add-run-in-Calls : goal.overflow_add-run-in-Calls
 unfolding is_refused unformed_run
-overflow_add-run-in-Calls c = let z = c in record { fits = lines_at _ _ c.in-Calls.is refl 1 z.requires.0 }
+overflow_add-run-in-Calls c = record { fits = lines_at _ _ c.in-Calls.is refl 1 c.requires.0 }
 
 pub returns-in-Entries : goal.returns-in-Entries
 unfolding is_refused unformed_run

@@ -1,7 +1,6 @@
 -- `opened_check` meets its contract: an opening out of range is refused with 8.
 use mathlib.Core.Path.{sym, ap, ◌∙◌}
 use Rattle.interval.proofs.Machine.{same64}
-use borrow.Author.Tests.{not-true, not-false}
 use Rattle.interval.specs.Instants.{is_instant}
 use Rattle.checking.proofs.Checking.{open_out, open_taken}
 use borrow.Author.Rules.{rules}
@@ -18,7 +17,7 @@ returns-then-not-is_wide_instant c =
     let a = c in
     let s = a in
     let e = a.is_wide_instant.ensures ∙ ap is_instant (same64 _ s.ranges.o) in
-    open_out _ _ _ (sym e ∙ not-true _ c.if-not-is_wide_instant.true) c.refused_check.ensures
+    open_out _ _ _ (sym e ∙ c.if-not-is_wide_instant.true) c.refused_check.ensures
 
 pub overflow_add-result : goal.overflow_add-result
 overflow_add-result c = search rules
@@ -29,4 +28,4 @@ returns c =
     let s = a in
     let same = same64 _ s.ranges.o in
     let e = a.is_wide_instant.ensures ∙ ap is_instant same in
-    open_taken _ _ _ (sym e ∙ not-false _ c.if-not-is_wide_instant.false) (simp same)
+    open_taken _ _ _ (sym e ∙ c.if-not-is_wide_instant.false) (simp same)

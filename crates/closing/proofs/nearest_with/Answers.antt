@@ -19,8 +19,8 @@ returns c =
     let end : SFits w32 c.row_at-left.result.end = search rules in
     -- the limit of cut, and that of change
     let limit : to_z w32 c.match-nearest.limit-bits ≡ limit_by g.k.nearest g.f.instant g.k.a g.k.to g.t.now g.r =
-        elim c.match-nearest.branch [
-        in-Cut w ↦ w.limit-is ∙ rw w.in-Cut.is (same32 _ o)
-        | in-Change w ↦ let e : SFits w32 w.rival_end-limit.result = search rules in w.limit-is ∙ rw w.in-Change.is (same32 _ e ∙ simp (same32 _ a, same32 _ o, c.row_at-left.ensures) at w.rival_end-limit.ensures)
-        ] in
+    elim c.match-nearest.branch [
+      | in-Cut w ↦ w.limit-is ∙ rw w.in-Cut.is (same32 _ o)
+      | in-Change w ↦ let e : SFits w32 w.rival_end-limit.result = search rules in w.limit-is ∙ rw w.in-Change.is (same32 _ e ∙ simp (same32 _ a, same32 _ o, c.row_at-left.ensures) at w.rival_end-limit.ensures)
+    ] in
     simp (limit, c.row_at-left.ensures) at (simp (same32 _ b, same32 _ start, same32 _ end) at c.nearest_pairs.ensures)

@@ -43,7 +43,7 @@ use Rattle.watch.specs.Steps.{Step, empty_watch, opening_step, refused_step, tak
 use Rattle.watch.specs.Histories.{Call, State, Called, stepped, added, call, after, opened}
 use Rattle.state.specs.declared.WatchState.{WatchState}
 use Rattle.watch.specs.declared.Addition.{Addition}
-use Rattle.watch.specs.Demands.{history, model_after, listed, FollowsModel, check_numbers, is_forget, nothing_forgotten, HoldsRecognitions, EndPartHolds, ReportAdds, ReportHolds, Demand1, Demand2, Demand3}
+use Rattle.watch.specs.Demands.{history, model_after, listed, FollowsModel, check_numbers, is_forget, nothing_forgotten, HoldsRecognitions, EndPartHolds, ReportHolds, Demand1, Demand2, Demand3}
 use Rattle.table.proofs.Tables.{rows_flat}
 use Rattle.watch.proofs.Shown.{Shows}
 use Rattle.watch.proofs.History.{played, history_shown, history_consistent}

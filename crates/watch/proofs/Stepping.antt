@@ -35,7 +35,7 @@ use Rattle.consistency.specs.Consistency.{are_consistent}
 use Rattle.state.specs.State.{extended, with_event, marked, raised}
 use Rattle.closing.specs.Closed.{closed_rows}
 use Rattle.forgetting.specs.Forgetting.{kept_rows}
-use Rattle.watch.specs.Steps.{Step, taken_step, answered, addition, add_own, add_step, check_number, checked, event_own, event_step, clock_own, clock_step, forget_own, forget_step}
+use Rattle.watch.specs.Steps.{Step, taken_step, answered, addition, add_own, add_step, checked, event_own, event_step, clock_own, clock_step, forget_own, forget_step}
 use Rattle.closing.proofs.Entries.{closed_is}
 use Rattle.forgetting.proofs.Forgetting.{kept_is, forgotten_is}
 use Rattle.watch.specs.Histories.{Call, Called, stepped, added, call}

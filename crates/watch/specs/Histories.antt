@@ -1,6 +1,6 @@
 -- A history: an accepted opening and then any list of events, clock marks, forgets and additions, refused ones included, watch, table and chart handed in
 -- as the last call left them: "each call getting it", the chart, "as the last addition left it" (request N13).
-use Rattle.std.specs.Prelude.{ℕ, List, [], ◌∷◌, ℤ}
+use Rattle.std.specs.Prelude.{ℕ, List, ℤ}
 use Rattle.chart.specs.declared.Chart.{Chart}
 use Rattle.model.specs.Reference as ref
 use Rattle.model.specs.Reference.{event, clock, forget, add}

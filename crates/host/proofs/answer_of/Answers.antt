@@ -1,4 +1,5 @@
 -- `answer_of` meets its contract: each arm is the definition's.
+use native.Mathlib.Omega.{arith}
 use mathlib.Core.Path.{sym, ap}
 use mir.Syntax.{w64}
 use mir.Val.{SFits}
@@ -8,7 +9,7 @@ use Rattle.host.proofs.answer_of.Goals as goal
 
 pub returns-in-Value : goal.returns-in-Value
 returns-in-Value c =
-    let fit : SFits w64 c.in-Value.z = record { sfits = c.in-Value.known_told-1-own.given.0.1 } in
+    let fit : SFits w64 c.in-Value.z = record { sfits = omega arith } in
     simp (same64 _ fit) (sym (ap tenths_of c.in-Value.is))
 
 pub returns-in-Malformed : goal.returns-in-Malformed

@@ -19,7 +19,6 @@ use Rattle.model.specs.Reference as ref
 use Rattle.model.specs.RowSteps as rows
 use Rattle.model.proofs.Capacity.{capacity_fits}
 use Rattle.model.proofs.Theorems as model
-use Rattle.table.specs.Operators.{operators_of}
 use Rattle.table.specs.Table.{rows_in, room_in}
 use Rattle.watch.specs.Steps.{Step, opening_step}
 use Rattle.watch.specs.Histories as histories
@@ -29,7 +28,6 @@ use Rattle.watch.proofs.History.{bounds, played, reached, history_shown}
 use Rattle.watch.proofs.Reading.{report_passed}
 use Rattle.watch.proofs.Demands.{report_holds}
 use Rattle.table.proofs.Rows.{length_rows}
-use Rattle.table.proofs.Lower.{usable_lower}
 use Rattle.table.proofs.Tables as tables
 use Rattle.watch.proofs.Shown.{Shows}
 use Rattle.watch.proofs.Steps.{opening_length, event_call, clock_call, forget_call}

@@ -1,5 +1,4 @@
 -- `feed_calls` meets its contract: each turn plays one line, and what is left to read gives the whole answer.
-use Prim.Native.Nat.{◌-◌}
 use mathlib.Core.Path.{refl, sym, ap, ◌∙◌, subst}
 use native.Mathlib.Omega.{arith}
 use mir.Syntax.{w32}

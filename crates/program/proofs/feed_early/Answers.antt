@@ -1,5 +1,4 @@
 -- `feed_early` meets its contract: each turn plays one line, and what is left to read gives the whole answer.
-use Prim.Native.Nat.{◌-◌}
 use mathlib.Core.Path.{refl, sym, ◌∙◌}
 use native.Mathlib.Omega.{arith}
 use Rattle.interval.proofs.Signed.{never}

@@ -22,10 +22,11 @@ use Rattle.model.proofs.Sorted.{keep_append}
 use Rattle.model.proofs.Local.{Chart, chart_lower}
 use Rattle.model.proofs.Listing.{listing_event}
 use Rattle.model.proofs.ReferenceLaws.{opening_accepted}
-use Rattle.log_line.specs.Log.{call_in, calls_of}
+use Rattle.log_line.specs.Log.{calls_of}
 use Rattle.log_line.specs.declared.Call.{Call}
 use Rattle.log_line.specs.declared.Call.TheVariants as log
-use Rattle.program.specs.Outcomes.{Outcome, listed, refused, opening_answer, call_answer, play_calls, play_log}
+use Rattle.program.specs.Outcomes.{Outcome, listed, refused, call_in, opening_answer, call_answer, play_calls, play_log}
+use Rattle.program.proofs.Lines.{calls_in_log}
 use Rattle.logs.specs.Logs.{Group, opened_in, marks_calls, log_calls, log_text, outcome_of, outcome_text, merged_for}
 use Rattle.logs.specs.Statements.{Timed, timed_at, events_in, Follow, IsLog, Together, merged_log}
 use Rattle.logs.proofs.Texts.{log_read}
@@ -159,7 +160,7 @@ module _ (ops : List Operator) (lower : Chart 0 ops) (room : ℕ) (rows : List R
   unfolding IsLog Opens log_calls opening_answer last_mark events_in
   log_played n k [] f e = absurd f
   log_played n k (g ∷ gs) f e =
-      let p : Opens room rows ops (log_calls (g ∷ gs)) = subst (Opens room rows ops) (log_read (g ∷ gs) f) (log_accepted room rows ops n k (lines (log_text (g ∷ gs))) e) in
+      let p : Opens room rows ops (log_calls (g ∷ gs)) = subst (Opens room rows ops) (calls_in_log (lines (log_text (g ∷ gs))) ∙ log_read (g ∷ gs) f) (log_accepted room rows ops n k (lines (log_text (g ∷ gs))) e) in
       let opened = ap (λ a. a.state) (opening_accepted ops g.instant f.0) in
       marks_played g.instant [] g.codes gs (λ t l. refl) f.2 (subst (λ m. Plays room rows m (map log.Event g.codes ++ marks_calls gs)) opened p)
 

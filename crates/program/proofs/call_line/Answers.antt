@@ -1,5 +1,6 @@
 -- `call_line` meets its contract: the call that the line reads as is made, or refused with 7.
 use mathlib.Core.Path.{sym, ◌∙◌}
+use native.Mathlib.Omega.{arith}
 use mir.Syntax.{w32, w64}
 use mir.Val.{SFits}
 use Rattle.interval.proofs.Machine.{same32, same64}
@@ -11,7 +12,7 @@ returns-in-Event c = call_event _ _ _ c.requires _ _ _ (sym c.read_call-c.ensure
 
 pub returns-in-Clock : goal.returns-in-Clock
 returns-in-Clock c =
-    let x : SFits w64 c.in-Clock.x = record { sfits = c.in-Clock.known_told-in-Clock-1-own.given.0.1 } in
+    let x : SFits w64 c.in-Clock.x = record { sfits = omega arith } in
     let f : SFits w32 c.narrowed.result = record { sfits = c.narrowed.type_inv } in
     let is = same32 _ f ∙ simp (same64 _ x) at c.narrowed.ensures in
     let own = c.clock_unchecked.ensures in
@@ -19,7 +20,7 @@ returns-in-Clock c =
 
 pub returns-in-Forget : goal.returns-in-Forget
 returns-in-Forget c =
-    let x : SFits w64 c.in-Forget.f = record { sfits = c.in-Forget.known_told-in-Forget-1-own.given.0.1 } in
+    let x : SFits w64 c.in-Forget.f = record { sfits = omega arith } in
     let f : SFits w32 c.narrowed-in-Forget.result = record { sfits = c.narrowed-in-Forget.type_inv } in
     let is = same32 _ f ∙ simp (same64 _ x) at c.narrowed-in-Forget.ensures in
     let own = c.forget_unchecked.ensures in

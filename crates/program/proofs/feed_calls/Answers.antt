@@ -72,8 +72,8 @@ loop-size-preserved c =
     let some = c.loop-size-test.true in
     let h = c.loop-size.invariant.2 in
     let size = c.loop-size.invariant.1 in
-    let instant : SFits w32 k.result.watch.state.instant = record { sfits = c.struct_told-1.given.0.1 } in
-    let floor : SFits w32 k.result.watch.state.floor = record { sfits = c.struct_told-in-loop-size-1.given.1.0.1 } in
+    let instant : SFits w32 k.result.watch.state.instant = record { sfits = omega arith } in
+    let floor : SFits w32 k.result.watch.state.floor = record { sfits = omega arith } in
     (k.auto.table ∙ c.loop-size.invariant.0, simp part_from at c.line_size-size-in-loop-size.ensures, rw (same32 _ instant, same32 _ floor) (read_next _ _ _ _ _ h size some _ (line_taken _ _ _ _ _ (next_short _ _ _ _ _ h size some) _ _ k.ensures c.if-refusal-ne0.false)))
 
 pub shape_of-table : goal.shape_of-table

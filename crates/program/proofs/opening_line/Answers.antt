@@ -1,5 +1,6 @@
 -- `opening_line` meets its contract: the call that the line reads as opens the watch, or is refused with 7.
 use mathlib.Core.Path.{sym, ◌∙◌}
+use native.Mathlib.Omega.{arith}
 use mir.Syntax.{w64}
 use mir.Val.{SFits}
 use Rattle.interval.proofs.Machine.{same64}
@@ -8,7 +9,7 @@ use Rattle.program.proofs.opening_line.Goals as goal
 
 pub returns-in-Open : goal.returns-in-Open
 returns-in-Open c =
-    let fits : SFits w64 c.in-Open.o = record { sfits = c.in-Open.known_told-1-own.given.0.1 } in
+    let fits : SFits w64 c.in-Open.o = record { sfits = omega arith } in
     opening_open _ _ _ _ _ _ (sym c.read_call-c.ensures.0 ∙ c.in-Open.is) (simp (same64 _ fits) at c.open_at.ensures)
 
 pub returns-in-Malformed : goal.returns-in-Malformed

@@ -1,13 +1,9 @@
 -- `feed` meets its contract: each turn checks one line, and what is left to do gives the whole answer.
 use Prim.Native.Nat.{◌-◌}
 use native.Mathlib.Omega.{arith}
-use borrow.Author.Rules.{rules}
 use Rattle.text.proofs.Laws.{part_from}
 use Rattle.checking.proofs.Checking.{feeding_start, feeding_inside, feeding_next, feeding_long, feeding_short}
 use Rattle.checking.proofs.feed.Goals as goal
-
-pub line_size-size-requires : goal.line_size-size-requires
-line_size-size-requires c = search rules
 
 pub loop-size-init : goal.loop-size-init
 loop-size-init c = feeding_start _ _ _ c.line_size-size.ensures
@@ -40,12 +36,6 @@ slice_bounds-line_size-count c = feeding_inside _ _ _ _ _ c.loop-size.invariant
 
 pub slice_bounds-line_size-start : goal.slice_bounds-line_size-start
 slice_bounds-line_size-start c = omega (arith, feeding_inside _ _ _ _ _ c.loop-size.invariant)
-
-pub slice_bounds-line_size-end : goal.slice_bounds-line_size-end
-slice_bounds-line_size-end c = search rules
-
-pub line_size-size-requires-in-loop-size : goal.line_size-size-requires-in-loop-size
-line_size-size-requires-in-loop-size c = search rules
 
 pub loop-size-smaller : goal.loop-size-smaller
 loop-size-smaller c =

@@ -5,6 +5,7 @@ use mathlib.Core.Path.{refl, sym}
 use lib.Seq.{length-take-le}
 use mir.Syntax.{w64}
 use mir.Val.{SFits}
+use borrow.Author.Rules.{rules}
 use Rattle.interval.proofs.Machine.{same64}
 use Rattle.text.proofs.Laws.{size_le}
 use Rattle.merging.specs.Turns.{call_next}
@@ -39,7 +40,7 @@ returns-in-Clock c =
     let r = k in
     let e = r in
     let s = e in
-    let fits : SFits w64 k.in-Clock.t = record { sfits = c.in-Clock.known_told-in-Clock-1-own.given.0.1 } in
+    let fits : SFits w64 k.in-Clock.t = search rules in
     next_call _ _ _ _ e.line_size-size.ensures e.if-size-eq0.false _ _ r.read_call-call.ensures.0 k.in-Clock.is _ (simp (same64 _ fits, same64 _ s.ranges.instant) at c.mark_next.ensures)
 
 pub returns-in-Forget : goal.returns-in-Forget

@@ -2,6 +2,7 @@
 use mathlib.Core.Path.{sym, ◌∙◌}
 use mir.Syntax.{w64}
 use mir.Val.{SFits}
+use borrow.Author.Rules.{rules}
 use Rattle.interval.proofs.Machine.{same64}
 use Rattle.merging.specs.Turns.{step_second}
 use Rattle.merging.specs.declared.Next.{Next}
@@ -41,5 +42,5 @@ returns-in-Stopped c =
     let l = k in
     let s = l in
     let i = same64 _ s.ranges.instant in
-    let fits : SFits w64 k.in-Stopped.t = record { sfits = c.in-Stopped.known_told-in-Stopped-1-own.given.1.0.1 } in
+    let fits : SFits w64 k.in-Stopped.t = search rules in
     by_second _ _ _ _ (Next.Stopped _ _) _ (sym (simp i at l.next_line-q.ensures) ∙ k.in-Stopped.is) (simp (i, same64 _ fits, same64 _ s.ranges.s) at c.step_marks.ensures)

@@ -8,9 +8,8 @@ use Rattle.checking.proofs.first_call.Goals as goal
 
 pub returns-in-Open : goal.returns-in-Open
 returns-in-Open c =
-    let k = c in
-    let fits : SFits w64 k.in-Open.o = search rules in
-    first_open _ _ _ _ k.in-Open.is (simp (same64 _ fits) at c.opened_check.ensures)
+    let fits : SFits w64 c.in-Open.o = search rules in
+    first_open _ _ _ _ c.in-Open.is (simp (same64 _ fits) at c.opened_check.ensures)
 
 pub returns-in-Malformed : goal.returns-in-Malformed
 returns-in-Malformed c = first_malformed _ _ _ c.in-Malformed.is c.refused_check.ensures

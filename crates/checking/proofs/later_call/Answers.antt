@@ -8,15 +8,13 @@ use Rattle.checking.proofs.later_call.Goals as goal
 
 pub returns-in-Event : goal.returns-in-Event
 returns-in-Event c =
-    let s = c in
-    let instant : SFits w64 s.args.check.instant = search rules in
+    let instant : SFits w64 c.args.check.instant = search rules in
     later_event _ _ _ _ c.in-Event.is (simp (same64 _ instant) at c.next_check.ensures)
 
 pub returns-in-Clock : goal.returns-in-Clock
 returns-in-Clock c =
-    let k = c in
-    let fits : SFits w64 k.in-Clock.t = search rules in
-    later_clock _ _ _ _ k.in-Clock.is (simp (same64 _ fits) at c.mark_check.ensures)
+    let fits : SFits w64 c.in-Clock.t = search rules in
+    later_clock _ _ _ _ c.in-Clock.is (simp (same64 _ fits) at c.mark_check.ensures)
 
 pub returns-in-Forget : goal.returns-in-Forget
 returns-in-Forget c = later_forget _ _ _ _ c.in-Forget.is c.refused_check.ensures

@@ -9,16 +9,12 @@ use Rattle.checking.proofs.mark_check.Goals as goal
 
 pub returns-then-is_wide_mark_refused : goal.returns-then-is_wide_mark_refused
 returns-then-is_wide_mark_refused c =
-    let a = c in
-    let s = a in
-    let instant : SFits w64 s.args.check.instant = search rules in
-    let e = simp (same64 _ instant, same64 _ s.ranges.t) at a.is_wide_mark_refused.ensures in
+    let instant : SFits w64 c.args.check.instant = search rules in
+    let e = simp (same64 _ instant, same64 _ c.ranges.t) at c.is_wide_mark_refused.ensures in
     mark_out _ _ _ (sym e ∙ c.if-is_wide_mark_refused.true) c.refused_check.ensures
 
 pub returns : goal.returns
 returns c =
-    let a = c in
-    let s = a in
-    let instant : SFits w64 s.args.check.instant = search rules in
-    let e = simp (same64 _ instant, same64 _ s.ranges.t) at a.is_wide_mark_refused.ensures in
-    mark_taken _ _ _ (sym e ∙ c.if-is_wide_mark_refused.false) (simp (same64 _ s.ranges.t) at c.next_check.ensures)
+    let instant : SFits w64 c.args.check.instant = search rules in
+    let e = simp (same64 _ instant, same64 _ c.ranges.t) at c.is_wide_mark_refused.ensures in
+    mark_taken _ _ _ (sym e ∙ c.if-is_wide_mark_refused.false) (simp (same64 _ c.ranges.t) at c.next_check.ensures)

@@ -9,6 +9,5 @@ use Rattle.checking.proofs.next_check.Goals as goal
 pub returns : goal.returns
 unfolding next_check
 returns c =
-    let s = c in
-    let opened : SFits w64 s.args.check.opened = search rules in
-    simp (same64 _ opened, same64 _ s.ranges.t)
+    let opened : SFits w64 c.args.check.opened = search rules in
+    simp (same64 _ opened, same64 _ c.ranges.t)

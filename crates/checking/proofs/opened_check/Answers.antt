@@ -7,15 +7,11 @@ use Rattle.checking.proofs.opened_check.Goals as goal
 
 pub returns-then-not-is_wide_instant : goal.returns-then-not-is_wide_instant
 returns-then-not-is_wide_instant c =
-    let a = c in
-    let s = a in
-    let e = a.is_wide_instant.ensures ∙ ap is_instant (same64 _ s.ranges.o) in
+    let e = c.is_wide_instant.ensures ∙ ap is_instant (same64 _ c.ranges.o) in
     open_out _ _ _ (sym e ∙ c.if-not-is_wide_instant.true) c.refused_check.ensures
 
 pub returns : goal.returns
 returns c =
-    let a = c in
-    let s = a in
-    let same = same64 _ s.ranges.o in
-    let e = a.is_wide_instant.ensures ∙ ap is_instant same in
+    let same = same64 _ c.ranges.o in
+    let e = c.is_wide_instant.ensures ∙ ap is_instant same in
     open_taken _ _ _ (sym e ∙ c.if-not-is_wide_instant.false) (simp same)

@@ -9,7 +9,6 @@ use Rattle.checking.proofs.refused_check.Goals as goal
 pub returns : goal.returns
 unfolding refused_check
 returns c =
-    let s = c in
-    let opened : SFits w64 s.args.check.opened = search rules in
-    let instant : SFits w64 s.args.check.instant = search rules in
+    let opened : SFits w64 c.args.check.opened = search rules in
+    let instant : SFits w64 c.args.check.instant = search rules in
     simp (same64 _ opened, same64 _ instant)

@@ -1,10 +1,9 @@
 -- What is claimed of the check of a log; proofs/Pieces.antt proves it. No proof stands here.
-use Rattle.std.specs.Prelude.{◌≡◌, List, [], ◌++◌, ℕ}
+use Rattle.std.specs.Prelude.{◌≡◌, List, [], ℕ}
 use Rattle.text.specs.Text.{joined}
 use Rattle.log_line.specs.Log.{calls_of}
 use Rattle.logs.specs.Logs.{log_refusal, opened_in}
 use Rattle.checking.specs.Checks.{start_check, fed_all, verdict_of}
-use Rattle.checking.specs.declared.Check.{Check}
 
 -- However a log is cut into pieces: it is turned away as the definition says, or else its opening instant is found.
 pub record ChecksLog (pieces : List (List ℕ)) : Type 0 where

@@ -2,8 +2,9 @@
 // say that there are pieces of which the run, the table and what is printed are those of crate `program`, and that these are the reader's bytes where they are known.
 #![tactic(auto)]
 
-ghost use Rattle.std.specs.Prelude.{◌≡◌, Bool, true, false, List, ℕ, ◌+◌, ◌≤◌, ◌<◌, Result, length, take, drop};
-ghost use Rattle.std.specs.Io.KnownBytes.{Keeps};
+ghost use Rattle.std.specs.Prelude.{◌≡◌, Bool, true, false, List, ℕ, ◌+◌, ◌≤◌, ◌<◌, Result, IfSome, length, take, drop};
+ghost use Rattle.std.specs.Io.KnownBytes.{Appends, Keeps};
+ghost use Rattle.program.specs.Outcomes.{printed_for};
 ghost use Rattle.program.specs.Runs.{Reached, HasLines, HasFew, is_refused, fed};
 ghost use Rattle.reading.specs.Readings.{piece_of, Hands};
 ghost use Rattle.input.specs.Inputs.{Error, held, Turned, Took, end_of, OfInput, PrintsInput, Printout};
@@ -49,7 +50,9 @@ pub fn run<R: Read, W: Write, E: Write>(
     out: &mut [u8],
 ) -> bool
     requires { (length table.old ≡ 15000) × (bytes_for format 3000 ≤ length out.old) }
-    ensures { (r : Printed) × PrintsInput format (R.remaining reader.old.reader) (R.remaining reader.new.reader) table.old out.old r table.new out.new × Hands (W.contents writer.old) (W.contents writer.new) (take r.length out.new) result × (result ≡ true → (r.failed ≡ false) × Keeps (E.contents errors.old) (E.contents errors.new)) }
+    ensures printed { (r : Printed) × PrintsInput format (R.remaining reader.old.reader) (R.remaining reader.new.reader) table.old out.old r table.new out.new × Hands (W.contents writer.old) (W.contents writer.new) (take r.length out.new) result }
+    ensures whole { result ≡ true → IfSome (R.remaining reader.old.reader) (λ s. Appends (W.contents writer.old) (W.contents writer.new) (printed_for format 3000 s)) }
+    ensures silent { result ≡ true → Keeps (E.contents errors.old) (E.contents errors.new) }
 {
     let printed = print_input(reader, format, table, out);
     if printed.failed {
@@ -69,7 +72,8 @@ fn write<W: Write, E: Write>(
     text: &[u8],
 ) -> bool
     requires { Printout format 3000 text.now }
-    ensures { Hands (W.contents writer.old) (W.contents writer.new) text.now result × (result ≡ true → Keeps (E.contents errors.old) (E.contents errors.new)) }
+    ensures handed { Hands (W.contents writer.old) (W.contents writer.new) text.now result }
+    ensures silent { result ≡ true → Keeps (E.contents errors.old) (E.contents errors.new) }
 {
     if let Err(e) = reading::write_whole(writer, text) {
         say_not_written(errors, name, e);

@@ -1,18 +1,18 @@
 -- Codes and marks of a log that is taken: they ascend, and are its groups.
 use Prim.Native.Nat.{ℕ, suc}
 use native.Mathlib.Omega.{arith}
-use mathlib.Core.Path.{◌≡◌, refl, sym, ap, ◌∙◌, subst}
+use mathlib.Core.Path.{◌≡◌, refl, subst}
 use mathlib.Core.Bool.{Bool, true, false, cond}
-use mathlib.Core.List.{List, [], ◌∷◌, ◌++◌, append_assoc, map}
+use mathlib.Core.List.{List, [], ◌∷◌, map}
 use lib.Dec.{eqb, leb}
 use lib.IntN.{ℤ}
 use Rattle.interval.specs.Instants.{is_instant, is_mark_refused}
 use Rattle.text.specs.Text.{Line, lines}
-use Rattle.log_line.specs.Log.{call_in, calls_of, line_of}
+use Rattle.log_line.specs.Log.{call_in, calls_of}
 use Rattle.log_line.specs.declared.Call.{Call}
 use Rattle.log_line.specs.declared.Call.TheVariants as log
 use Rattle.log_line.proofs.ReadBack.{CodeFits, call_fits}
-use Rattle.logs.specs.Logs.{Item, code, mark, items_of, opening_refusal, opened_by, opened_in, line_refusal, instant_after, lines_refusal, log_refusal, refusal, codes_first, groups_after, groups_from, log_of, marks_calls, log_calls, text_of}
+use Rattle.logs.specs.Logs.{Item, code, mark, items_of, opening_refusal, opened_by, opened_in, line_refusal, instant_after, lines_refusal, log_refusal, refusal, codes_first, groups_after, groups_from, log_of}
 use Rattle.logs.specs.Statements.{AreCodes, Follow, IsLog}
 
 -- codes, and marks that ascend from t

@@ -1,18 +1,16 @@
 -- The text of a log, and that text read back.
 use Prim.Native.Nat.{ℕ, suc}
 use mathlib.Core.Path.{◌≡◌, refl, sym, ap, ◌∙◌}
-use mathlib.Core.Bool.{Bool, true, false, cond}
-use mathlib.Core.List.{List, [], ◌∷◌, ◌++◌, append_assoc, map}
-use lib.Dec.{eqb}
+use mathlib.Core.Bool.{true}
+use mathlib.Core.List.{List, [], ◌∷◌, ◌++◌, map}
 use lib.IntN.{ℤ}
-use Rattle.interval.specs.Instants.{is_instant, is_mark_refused}
 use Rattle.text.proofs.Laws.{lines_none}
-use Rattle.log_line.specs.Log.{call_in, calls_of, line_of}
+use Rattle.log_line.specs.Log.{call_in, calls_of}
 use Rattle.log_line.specs.Demands.{has_line}
 use Rattle.log_line.specs.declared.Call.{Call}
 use Rattle.log_line.specs.declared.Call.TheVariants as log
 use Rattle.log_line.proofs.ReadBack.{lines_read_back}
-use Rattle.logs.specs.Logs.{Item, code, mark, Group, group, items_of, opening_refusal, opened_by, opened_in, line_refusal, instant_after, lines_refusal, log_refusal, call_for, codes_first, groups_after, groups_from, log_of, marks_calls, log_calls, text_of, log_text}
+use Rattle.logs.specs.Logs.{Item, code, mark, Group, items_of, opening_refusal, opened_by, opened_in, line_refusal, instant_after, lines_refusal, log_refusal, call_for, codes_first, groups_after, groups_from, log_of, marks_calls, log_calls, text_of, log_text}
 use Rattle.logs.specs.Statements.{AreCodes, Follow, IsLog}
 use Rattle.logs.proofs.Groups.{next_in}
 

@@ -1,18 +1,16 @@
 -- The statement of specs/Statements.antt.
-use Prim.Native.Nat.{ℕ}
 use native.Mathlib.Omega.{arith}
-use mathlib.Core.Path.{◌≡◌, refl, sym, ap, ◌∙◌, subst}
-use mathlib.Core.Bool.{true, false}
-use mathlib.Core.List.{List, [], ◌∷◌, ◌++◌}
+use mathlib.Core.Path.{◌≡◌, sym, ap, ◌∙◌, subst}
+use mathlib.Core.Bool.{false}
+use mathlib.Core.List.{List, [], ◌∷◌}
 use lib.IntN.{ℤ, negsuc}
 use lib.Signed.{lt_z}
-use Rattle.interval.specs.Instants.{is_instant, is_mark_refused}
 use Rattle.interval.proofs.Signed.{signed, not_lt, is_lt}
 use Rattle.log_line.specs.Log.{calls_of}
-use Rattle.logs.specs.Logs.{Group, group, merge, merge_with, log_refusal, log_of, log_text}
-use Rattle.logs.specs.Statements.{AreCodes, Follow, IsLog, MergesLogs, Together, MergeHolds}
-use Rattle.logs.proofs.Groups.{Merged, merge_is, merged_follow, merged_codes, merged_instants, merged_events, codes_append, next_of}
-use Rattle.logs.proofs.Items.{Taken, taken_log, taken_is_log}
+use Rattle.logs.specs.Logs.{Group, merge, merge_with, log_refusal, log_of, log_text}
+use Rattle.logs.specs.Statements.{Follow, IsLog, MergesLogs, MergeHolds}
+use Rattle.logs.proofs.Groups.{merge_is, merged_follow, merged_codes, merged_instants, merged_events, codes_append, next_of}
+use Rattle.logs.proofs.Items.{taken_log, taken_is_log}
 use Rattle.logs.proofs.Texts.{log_read, calls_log, calls_taken}
 
 -- an instant below all

@@ -1,28 +1,27 @@
 -- The statements of specs/Statements.antt.
-use Prim.Native.Nat.{ℕ, zero, suc, ◌+◌, ◌-◌, ◌≤◌, ◌<◌}
+use Prim.Native.Nat.{ℕ, zero, suc, ◌+◌, ◌≤◌, ◌<◌}
 use native.Mathlib.Omega.{arith}
 use mathlib.Core.Path.{◌≡◌, refl, sym, ap, ap₂, ◌∙◌, subst}
 use mathlib.Core.Bool.{Bool, true, false, cond}
-use mathlib.Core.List.{List, [], ◌∷◌, ◌++◌, append_assoc, map}
+use mathlib.Core.List.{List, [], ◌++◌, append_assoc}
 use borrow.Author.Tests.{eqb-true, eq-eqb, leb-false}
 use lib.Dec.{eqb, leb}
 use lib.IntN.{ℤ}
-use lib.ListN.{length, drop, length-append, length-drop}
+use lib.ListN.{length, drop, length-drop}
 use lib.Seq.{drop-drop}
 use lib.Signed.{lt_z}
 use Rattle.interval.specs.Instants.{is_instant, eq_z}
-use Rattle.interval.proofs.Signed.{never, eq_true, eq_same, not_lt}
+use Rattle.interval.proofs.Signed.{eq_true, eq_same, not_lt}
 use Rattle.log_line.specs.Log.{calls_of, line_of, line_most}
 use Rattle.log_line.specs.declared.Call.{Call}
 use Rattle.log_line.specs.declared.Call.TheVariants as log
-use Rattle.logs.specs.Logs.{Item, items_of, call_for, groups_from, log_of, log_refusal, opened_in, merge, merge_with, log_calls, text_of, log_text, outcome_of, outcome_text, merged_for}
+use Rattle.logs.specs.Logs.{Item, items_of, groups_from, log_of, log_refusal, opened_in, merge, merge_with, text_of, log_text, outcome_of, outcome_text, merged_for}
 use Rattle.logs.specs.Statements.{Together}
-use Rattle.logs.proofs.Items.{Rising, rising_coded, bytes_coded, from_log, Taken, taken_log}
+use Rattle.logs.proofs.Items.{Rising, bytes_coded, from_log, taken_log}
 use Rattle.logs.proofs.Texts.{from_calls}
 use Rattle.logs.proofs.Theorems.{text_taken}
-use Rattle.printing.specs.Listing.{refusal_text}
 use Rattle.merging.specs.Merging.{merge_items, rest_for}
-use Rattle.merging.specs.Turns.{Steps, step_to, step_want, steps_to, steps_from, steps_of, step_of, is_go}
+use Rattle.merging.specs.Turns.{Steps, steps_to, steps_from, steps_of, step_of, is_go}
 use Rattle.merging.specs.Statements.{Comes, TurnStops, TurnsHold, printed_for, PrintsMerged, AlwaysTaken}
 use Rattle.merging.specs.declared.Ended.{Ended}
 use Rattle.merging.specs.declared.Step.{Step}

@@ -2,7 +2,7 @@
 use Prim.Native.Nat.{ℕ, suc, ◌+◌, ◌-◌, ◌≤◌, ◌<◌}
 use native.Mathlib.Omega.{arith}
 use mathlib.Core.Path.{◌≡◌, refl, sym, ap, ap₂, ◌∙◌, subst}
-use mathlib.Core.Bool.{Bool, true, false}
+use mathlib.Core.Bool.{true, false}
 use mathlib.Core.List.{List, [], ◌++◌, append_assoc}
 use borrow.Author.Tests.{le-leb, lt-leb}
 use lib.Dec.{leb}
@@ -11,10 +11,10 @@ use lib.ListN.{length, take, drop, length-append, length-drop}
 use lib.Seq.{sets, sets-eq, take-append_seam, drop-append-add, drop-drop}
 use Rattle.interval.proofs.Signed.{never}
 use Rattle.text.proofs.Laws.{part_from}
-use Rattle.text.proofs.Written.{part, with_part, with_part_lem, length_room, output_room, front_within}
+use Rattle.text.proofs.Written.{part, with_part, with_part_lem, length_room, output_room}
 use Rattle.log_line.specs.Log.{line_of, line_most, call_length, call_output}
 use Rattle.log_line.specs.declared.Call.{Call}
-use Rattle.merging.specs.Turns.{step_to, step_want, step_of, is_go, steps_to, steps_from, steps_of, turn_of, output_of}
+use Rattle.merging.specs.Turns.{step_of, is_go, steps_to, steps_from, steps_of, turn_of, output_of}
 use Rattle.merging.specs.declared.Ended.{Ended}
 use Rattle.merging.specs.declared.Step.{Step}
 use Rattle.merging.specs.declared.Turn.{Turn}

@@ -1,6 +1,6 @@
 -- Merging as the code does it: item by item, with no more to remember than the instant reached. Of two logs that are taken it gives the merged log
 -- (`PrintsMerged`); of any others it still gives the lines of a log (`AlwaysTaken`): a mark that may not follow ends its log.
-use Rattle.std.specs.Prelude.{ℕ, cond, List, [], ◌∷◌, ◌++◌, map, ℤ, pos}
+use Rattle.std.specs.Prelude.{ℕ, cond, List, [], ◌∷◌, map, ℤ, pos}
 use Rattle.std.specs.Int.Signed.{lt_z}
 use Rattle.interval.specs.Instants.{is_mark_refused}
 use Rattle.log_line.specs.Log.{calls_of}

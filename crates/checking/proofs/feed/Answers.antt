@@ -1,13 +1,8 @@
 -- `feed` meets its contract: each turn checks one line, and what is left to do gives the whole answer.
-use Prim.Native.Nat.{◌-◌}
 use native.Mathlib.Omega.{arith}
-use borrow.Author.Rules.{rules}
 use Rattle.text.proofs.Laws.{part_from}
 use Rattle.checking.proofs.Checking.{feeding_start, feeding_inside, feeding_next, feeding_long, feeding_short}
 use Rattle.checking.proofs.feed.Goals as goal
-
-pub line_size-size-requires : goal.line_size-size-requires
-line_size-size-requires c = search rules
 
 pub loop-size-init : goal.loop-size-init
 loop-size-init c = feeding_start _ _ _ c.line_size-size.ensures
@@ -29,11 +24,10 @@ slice_bounds-check_line-end c = omega (arith, feeding_inside _ _ _ _ _ c.loop-si
 
 pub check_line-next-requires : goal.check_line-next-requires
 check_line-next-requires c =
-    let l = c in
-    omega (arith, l.loop-size.invariant.lines, c.loop-size-test.true, feeding_inside _ _ _ _ _ l.loop-size.invariant, l.requires)
+    omega (arith, c.loop-size.invariant.lines, c.loop-size-test.true, feeding_inside _ _ _ _ _ c.loop-size.invariant, c.requires)
 
 pub overflow_add-at : goal.overflow_add-at
-overflow_add-at c = let l = c in omega (arith, feeding_inside _ _ _ _ _ l.loop-size.invariant, l.well_formed.1.0)
+overflow_add-at c = omega (arith, feeding_inside _ _ _ _ _ c.loop-size.invariant, c.well_formed.1.0)
 
 pub slice_bounds-line_size-count : goal.slice_bounds-line_size-count
 slice_bounds-line_size-count c = feeding_inside _ _ _ _ _ c.loop-size.invariant
@@ -41,32 +35,23 @@ slice_bounds-line_size-count c = feeding_inside _ _ _ _ _ c.loop-size.invariant
 pub slice_bounds-line_size-start : goal.slice_bounds-line_size-start
 slice_bounds-line_size-start c = omega (arith, feeding_inside _ _ _ _ _ c.loop-size.invariant)
 
-pub slice_bounds-line_size-end : goal.slice_bounds-line_size-end
-slice_bounds-line_size-end c = search rules
-
-pub line_size-size-requires-in-loop-size : goal.line_size-size-requires-in-loop-size
-line_size-size-requires-in-loop-size c = search rules
-
 pub loop-size-smaller : goal.loop-size-smaller
 loop-size-smaller c =
-    let l = c in
-    omega (arith, c.loop-size-test.true, feeding_inside _ _ _ _ _ l.loop-size.invariant)
+    omega (arith, c.loop-size-test.true, feeding_inside _ _ _ _ _ c.loop-size.invariant)
 
 pub loop-size-preserved : goal.loop-size-preserved
 loop-size-preserved c =
-    let l = c in
-    feeding_next _ _ _ _ _ l.loop-size.invariant c.loop-size-test.true _ _ c.check_line-next.ensures (simp part_from at c.line_size-size-in-loop-size.ensures)
+    feeding_next _ _ _ _ _ c.loop-size.invariant c.loop-size-test.true _ _ c.check_line-next.ensures (simp part_from at c.line_size-size-in-loop-size.ensures)
 
 pub overflow_sub-n : goal.overflow_sub-n
 overflow_sub-n c = c.loop-size.invariant.inside
 
 pub check_call-refused-requires : goal.check_call-refused-requires
 check_call-refused-requires c =
-    let l = c in
-    omega (arith, l.loop-size.invariant.lines, l.loop-size.invariant.inside, l.requires)
+    omega (arith, c.loop-size.invariant.lines, c.loop-size.invariant.inside, c.requires)
 
 pub returns-then-n-at-ge64 : goal.returns-then-n-at-ge64
-returns-then-n-at-ge64 c = let d = c in feeding_long _ _ _ _ _ d.loop-size.invariant d.loop-size-test.false _ c.if-n-at-ge64.true c.check_call-refused.ensures
+returns-then-n-at-ge64 c = feeding_long _ _ _ _ _ c.loop-size.invariant c.loop-size-test.false _ c.if-n-at-ge64.true c.check_call-refused.ensures
 
 pub returns : goal.returns
-returns c = let d = c in feeding_short _ _ _ _ _ d.loop-size.invariant d.loop-size-test.false c.if-n-at-ge64.false
+returns c = feeding_short _ _ _ _ _ c.loop-size.invariant c.loop-size-test.false c.if-n-at-ge64.false

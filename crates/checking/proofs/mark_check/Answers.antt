@@ -7,27 +7,14 @@ use Rattle.checking.proofs.Checking.{mark_out, mark_taken}
 use borrow.Author.Rules.{rules}
 use Rattle.checking.proofs.mark_check.Goals as goal
 
-pub is_wide_mark_refused-requires : goal.is_wide_mark_refused-requires
-is_wide_mark_refused-requires c = search rules
-
-pub refused_check-requires : goal.refused_check-requires
-refused_check-requires c = search rules
-
 pub returns-then-is_wide_mark_refused : goal.returns-then-is_wide_mark_refused
 returns-then-is_wide_mark_refused c =
-    let a = c in
-    let s = a in
-    let instant : SFits w64 s.args.check.instant = record { sfits = a.struct_told-1.given.1.1.1.1.0.1 } in
-    let e = simp (same64 _ instant, same64 _ s.ranges.t) at a.is_wide_mark_refused.ensures in
+    let instant : SFits w64 c.args.check.instant = search rules in
+    let e = simp (same64 _ instant, same64 _ c.ranges.t) at c.is_wide_mark_refused.ensures in
     mark_out _ _ _ (sym e ∙ c.if-is_wide_mark_refused.true) c.refused_check.ensures
-
-pub next_check-requires : goal.next_check-requires
-next_check-requires c = search rules
 
 pub returns : goal.returns
 returns c =
-    let a = c in
-    let s = a in
-    let instant : SFits w64 s.args.check.instant = record { sfits = a.struct_told-1.given.1.1.1.1.0.1 } in
-    let e = simp (same64 _ instant, same64 _ s.ranges.t) at a.is_wide_mark_refused.ensures in
-    mark_taken _ _ _ (sym e ∙ c.if-is_wide_mark_refused.false) (simp (same64 _ s.ranges.t) at c.next_check.ensures)
+    let instant : SFits w64 c.args.check.instant = search rules in
+    let e = simp (same64 _ instant, same64 _ c.ranges.t) at c.is_wide_mark_refused.ensures in
+    mark_taken _ _ _ (sym e ∙ c.if-is_wide_mark_refused.false) (simp (same64 _ c.ranges.t) at c.next_check.ensures)

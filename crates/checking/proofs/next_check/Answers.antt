@@ -6,12 +6,8 @@ use Rattle.checking.specs.Checks.{next_check}
 use borrow.Author.Rules.{rules}
 use Rattle.checking.proofs.next_check.Goals as goal
 
-pub overflow_add-result : goal.overflow_add-result
-overflow_add-result c = search rules
-
 pub returns : goal.returns
 unfolding next_check
 returns c =
-    let s = c in
-    let opened : SFits w64 s.args.check.opened = record { sfits = c.struct_told-1.given.1.1.1.0.1 } in
-    simp (same64 _ opened, same64 _ s.ranges.t)
+    let opened : SFits w64 c.args.check.opened = search rules in
+    simp (same64 _ opened, same64 _ c.ranges.t)

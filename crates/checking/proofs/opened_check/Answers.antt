@@ -3,29 +3,15 @@ use mathlib.Core.Path.{sym, ap, ◌∙◌}
 use Rattle.interval.proofs.Machine.{same64}
 use Rattle.interval.specs.Instants.{is_instant}
 use Rattle.checking.proofs.Checking.{open_out, open_taken}
-use borrow.Author.Rules.{rules}
 use Rattle.checking.proofs.opened_check.Goals as goal
-
-pub is_wide_instant-requires : goal.is_wide_instant-requires
-is_wide_instant-requires c = search rules
-
-pub refused_check-requires : goal.refused_check-requires
-refused_check-requires c = search rules
 
 pub returns-then-not-is_wide_instant : goal.returns-then-not-is_wide_instant
 returns-then-not-is_wide_instant c =
-    let a = c in
-    let s = a in
-    let e = a.is_wide_instant.ensures ∙ ap is_instant (same64 _ s.ranges.o) in
+    let e = c.is_wide_instant.ensures ∙ ap is_instant (same64 _ c.ranges.o) in
     open_out _ _ _ (sym e ∙ c.if-not-is_wide_instant.true) c.refused_check.ensures
-
-pub overflow_add-result : goal.overflow_add-result
-overflow_add-result c = search rules
 
 pub returns : goal.returns
 returns c =
-    let a = c in
-    let s = a in
-    let same = same64 _ s.ranges.o in
-    let e = a.is_wide_instant.ensures ∙ ap is_instant same in
+    let same = same64 _ c.ranges.o in
+    let e = c.is_wide_instant.ensures ∙ ap is_instant same in
     open_taken _ _ _ (sym e ∙ c.if-not-is_wide_instant.false) (simp same)

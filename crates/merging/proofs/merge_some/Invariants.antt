@@ -1,12 +1,10 @@
 use Prim.Native.Nat.{◌+◌, ◌-◌}
 use lib.ListN.{length}
-use mir.Syntax.{w64}
-use mir.Val.{to_z}
 use Rattle.merging.proofs.Turning.{Turning}
 use Rattle.merging.proofs.merge_some.Given as goal
 
 abbrev pub invariant-loop-out : goal.invariant-loop-out
-invariant-loop-out l = Turning (to_z w64 l.instant) l.ended l.a l.b l.initial.out l.out (to_z w64 l.reached) l.i l.j l.place
+invariant-loop-out l = Turning l.instant l.ended l.a l.b l.initial.out l.out l.reached l.i l.j l.place
 
 abbrev pub decreases-loop-out : goal.decreases-loop-out
 decreases-loop-out l = (length l.a - l.i) + (length l.b - l.j)

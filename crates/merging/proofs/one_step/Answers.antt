@@ -2,6 +2,7 @@
 use mathlib.Core.Path.{sym, ◌∙◌}
 use mir.Syntax.{w64}
 use mir.Val.{SFits}
+use borrow.Author.Rules.{rules}
 use Rattle.interval.proofs.Machine.{same64}
 use Rattle.merging.specs.Turns.{step_of, step_first}
 use Rattle.merging.specs.declared.Next.{Next}
@@ -11,35 +12,24 @@ use Rattle.merging.proofs.one_step.Goals as goal
 pub returns-in-Needs : goal.returns-in-Needs
 unfolding step_of step_first
 returns-in-Needs c =
-    let l = c in
-    let s = l in
-    let i = same64 _ s.ranges.instant in
-    by_first _ _ (Next.Needs) _ _ (sym (simp i at l.next_line-p.ensures) ∙ c.in-Needs.is) (simp i at c.step_want.ensures)
+    let i = same64 _ c.ranges.instant in
+    by_first _ _ (Next.Needs) _ _ (sym (simp i at c.next_line-p.ensures) ∙ c.in-Needs.is) (simp i at c.step_want.ensures)
 
 pub returns-in-Passed : goal.returns-in-Passed
 unfolding step_of step_first
 returns-in-Passed c =
-    let k = c in
-    let l = k in
-    let s = l in
-    let i = same64 _ s.ranges.instant in
-    by_first _ _ (Next.Passed _) _ _ (sym (simp i at l.next_line-p.ensures) ∙ k.in-Passed.is) (simp i at c.step_to.ensures)
+    let i = same64 _ c.ranges.instant in
+    by_first _ _ (Next.Passed _) _ _ (sym (simp i at c.next_line-p.ensures) ∙ c.in-Passed.is) (simp i at c.step_to.ensures)
 
 pub returns-in-Event : goal.returns-in-Event
 unfolding step_of step_first
 returns-in-Event c =
-    let k = c in
-    let l = k in
-    let s = l in
-    let i = same64 _ s.ranges.instant in
-    by_first _ _ (Next.Event _ _) _ _ (sym (simp i at l.next_line-p.ensures) ∙ k.in-Event.is) (simp i at c.step_to-in-Event.ensures)
+    let i = same64 _ c.ranges.instant in
+    by_first _ _ (Next.Event _ _) _ _ (sym (simp i at c.next_line-p.ensures) ∙ c.in-Event.is) (simp i at c.step_to-in-Event.ensures)
 
 pub returns-in-Stopped : goal.returns-in-Stopped
 unfolding step_of step_first
 returns-in-Stopped c =
-    let k = c in
-    let l = k in
-    let s = l in
-    let i = same64 _ s.ranges.instant in
-    let fits : SFits w64 k.in-Stopped.s = record { sfits = c.in-Stopped.known_told-in-Stopped-1-own.given.1.0.1 } in
-    by_first _ _ (Next.Stopped _ _) _ _ (sym (simp i at l.next_line-p.ensures) ∙ k.in-Stopped.is) (simp (i, same64 _ fits) at c.step_second.ensures)
+    let i = same64 _ c.ranges.instant in
+    let fits : SFits w64 c.in-Stopped.s = search rules in
+    by_first _ _ (Next.Stopped _ _) _ _ (sym (simp i at c.next_line-p.ensures) ∙ c.in-Stopped.is) (simp (i, same64 _ fits) at c.step_second.ensures)

@@ -2,6 +2,7 @@
 use mathlib.Core.Path.{sym, ◌∙◌}
 use mir.Syntax.{w64}
 use mir.Val.{SFits}
+use borrow.Author.Rules.{rules}
 use Rattle.interval.proofs.Machine.{same64}
 use Rattle.merging.specs.Turns.{step_second}
 use Rattle.merging.specs.declared.Next.{Next}
@@ -11,35 +12,24 @@ use Rattle.merging.proofs.step_second.Goals as goal
 pub returns-in-Needs : goal.returns-in-Needs
 unfolding step_second
 returns-in-Needs c =
-    let l = c in
-    let s = l in
-    let i = same64 _ s.ranges.instant in
-    by_second _ _ _ _ (Next.Needs) _ (sym (simp i at l.next_line-q.ensures) ∙ c.in-Needs.is) (simp i at c.step_want.ensures)
+    let i = same64 _ c.ranges.instant in
+    by_second _ _ _ _ (Next.Needs) _ (sym (simp i at c.next_line-q.ensures) ∙ c.in-Needs.is) (simp i at c.step_want.ensures)
 
 pub returns-in-Passed : goal.returns-in-Passed
 unfolding step_second
 returns-in-Passed c =
-    let k = c in
-    let l = k in
-    let s = l in
-    let i = same64 _ s.ranges.instant in
-    by_second _ _ _ _ (Next.Passed _) _ (sym (simp i at l.next_line-q.ensures) ∙ k.in-Passed.is) (simp i at c.step_to.ensures)
+    let i = same64 _ c.ranges.instant in
+    by_second _ _ _ _ (Next.Passed _) _ (sym (simp i at c.next_line-q.ensures) ∙ c.in-Passed.is) (simp i at c.step_to.ensures)
 
 pub returns-in-Event : goal.returns-in-Event
 unfolding step_second
 returns-in-Event c =
-    let k = c in
-    let l = k in
-    let s = l in
-    let i = same64 _ s.ranges.instant in
-    by_second _ _ _ _ (Next.Event _ _) _ (sym (simp i at l.next_line-q.ensures) ∙ k.in-Event.is) (simp i at c.step_to-in-Event.ensures)
+    let i = same64 _ c.ranges.instant in
+    by_second _ _ _ _ (Next.Event _ _) _ (sym (simp i at c.next_line-q.ensures) ∙ c.in-Event.is) (simp i at c.step_to-in-Event.ensures)
 
 pub returns-in-Stopped : goal.returns-in-Stopped
 unfolding step_second
 returns-in-Stopped c =
-    let k = c in
-    let l = k in
-    let s = l in
-    let i = same64 _ s.ranges.instant in
-    let fits : SFits w64 k.in-Stopped.t = record { sfits = c.in-Stopped.known_told-in-Stopped-1-own.given.1.0.1 } in
-    by_second _ _ _ _ (Next.Stopped _ _) _ (sym (simp i at l.next_line-q.ensures) ∙ k.in-Stopped.is) (simp (i, same64 _ fits, same64 _ s.ranges.s) at c.step_marks.ensures)
+    let i = same64 _ c.ranges.instant in
+    let fits : SFits w64 c.in-Stopped.t = search rules in
+    by_second _ _ _ _ (Next.Stopped _ _) _ (sym (simp i at c.next_line-q.ensures) ∙ c.in-Stopped.is) (simp (i, same64 _ fits, same64 _ c.ranges.s) at c.step_marks.ensures)

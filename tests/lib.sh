@@ -78,16 +78,7 @@ make_plain_listing() {
     rust bench/listing/plain.rs "$built/plain_listing" --crate-name plain_listing_main "${with_plain_listing[@]}"
 }
 
-# The merge program without proofs, as a library and as a program.
-make_plain_merge() {
-    is_first plain_merge || return 0
-    make_common
-    rust bench/merge/lib.rs "$built/libplain_merge.rlib" --crate-name plain_merge --crate-type rlib "${with_common[@]}"
-    rust bench/merge/plain.rs "$built/plain_merge" --crate-name plain_merge_main "${with_plain_merge[@]}"
-}
-
 with_common=(--extern "common=$built/libcommon.rlib")
 with_oracle=("${with_common[@]}" --extern "oracle=$built/liboracle.rlib")
 with_plain_listing=("${with_common[@]}" --extern "plain_listing=$built/libplain_listing.rlib")
-with_plain_merge=("${with_common[@]}" --extern "plain_merge=$built/libplain_merge.rlib")
 with_archives=(-L "native=$archives")

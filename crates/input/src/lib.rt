@@ -221,7 +221,7 @@ fn play_piece(run: Run, table: &mut [i32], buf: &mut [u8], kept: usize, n: usize
 {
     let end = kept + n;
     let fed = run.feed(table, &buf[..end]);
-    let rest = text::keep_rest(buf, fed.used, end);
+    let rest = program::keep_rest(buf, fed.used, end);
     let next = fed.run;
     Turn {
         run: next,

@@ -11,6 +11,7 @@ ghost use Rattle.table.specs.Table.{rows_in};
 ghost use Rattle.tally.specs.Tally.{report_of};
 ghost use Rattle.program.specs.Outcomes.{is_empty};
 ghost use Rattle.program.specs.Statements.{bytes_for, whole_length, whole_table, whole_output};
+ghost use Rattle.text.specs.Output.{rest_length, rest_moved};
 ghost use Rattle.program.specs.Runs.{start_run, refused_run, next_run, entry_run, chart_end, unformed_run, stepped, opening_line, call_step, narrowed, calls_run, after_line, after_bytes, is_early, is_refused, kept_of, end_run, finished_run, Reached, Read, HasLines, HasFew, settled_at, settled_going, Printable, reported_length, reported_output, printed_length, printed_output};
 
 use chart::Chart;
@@ -474,4 +475,12 @@ fn narrowed(x: i64) -> i32
         return 2000000000;
     }
     x as i32
+}
+
+// Moves the bytes from one place of the buffer up to another to its front and returns how many they are; 0, and nothing is moved, where they are not
+// all in it. One pass over them.
+pub fn keep_rest(buf: &mut [u8], from: usize, to: usize) -> usize
+    ensures { (result ≡ rest_length from to buf.old) × (buf.new ≡ rest_moved from to buf.old) }
+{
+    text::keep_rest(buf, from, to)
 }

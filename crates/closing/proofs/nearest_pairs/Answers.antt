@@ -1,8 +1,8 @@
 -- `nearest_pairs` meets its contract: what the rows s left append is what all were to append.
-use Prim.Native.Nat.{ℕ, ◌<◌}
+use Prim.Native.Nat.{ℕ}
 use native.Mathlib.Omega.{arith}
 use mathlib.Core.Path.{◌≡◌, sym, ◌∙◌}
-use mathlib.Core.Bool.{Bool, true, false}
+use mathlib.Core.Bool.{true, false}
 use mathlib.Core.List.{List, []}
 use lib.IntN.{ℤ, nat_abs}
 use lib.Signed.{le_z}
@@ -11,24 +11,41 @@ use mir.Val.{SFits, to_z, of_z}
 use Rattle.std.proofs.Common.{rules}
 use Rattle.interval.proofs.Machine.{same32}
 use Rattle.model.specs.Lists.{each}
+use Rattle.model.specs.Order.{Row}
 use Rattle.table.specs.Table.{cell}
-use Rattle.closing.specs.declared.Wanted.{Wanted}
 use Rattle.closing.specs.Added.{span, pair_row, nearest_row, nearest_pairs}
-use Rattle.closing.proofs.Filling.{Kept, begin, turn, stop, skip, over, appendable}
+use Rattle.closing.proofs.Filling.{begin, turn, stop, skip, over, appendable}
 use Rattle.closing.proofs.Laws.{nearest_same, nearest_in, nearest_late, pair_other}
-use Rattle.closing.proofs.nearest_pairs.Goals.{Start}
+use Rattle.closing.proofs.nearest_pairs.Goals.{After-is_no_later, Start}
 use Rattle.closing.proofs.nearest_pairs.Goals as goal
 
--- row s of the table t, while the one before this loop was t₀; and whether it starts at the limit or before
-module _ (n : ℕ) (t t₀ : List ℤ) (kept : Kept n t t₀) (entry : ℕ) (w : Wanted) (limit : ℤ) (s : ℕ) (low : s < n) (b : Bool) (started : b ≡ le_z (cell t s 3) limit) where
-  same : nearest_row entry w limit t s ≡ nearest_row entry w limit t₀ s
-  same = nearest_same n t t₀ kept entry w limit s low
+-- what row s, at which this turn looks, appends by the table as it was before the loop, and whether it starts at the limit or before
+module _ (c : After-is_no_later) where
+  abbrev limit : ℤ
+  limit = to_z w32 (of_z w32 c.args.limit)
 
-  late : b ≡ false → nearest_row entry w limit t₀ s ≡ []
-  late h = sym same ∙ nearest_late entry w t s limit (sym started ∙ h)
+  abbrev t : List ℤ
+  t = c.loop-s.t
 
-  paired : b ≡ true → pair_row w.relation entry w.operand w.left w.start w.end t s ≡ nearest_row entry w limit t₀ s
-  paired h = nearest_in entry w t s limit (sym started ∙ h) ∙ same
+  abbrev s : ℕ
+  s = c.loop-s.s
+
+  abbrev rows : ℕ → List Row
+  rows = nearest_row (nat_abs c.args.f.entry) c.args.w limit c.args.t.now
+
+  same : nearest_row (nat_abs c.args.f.entry) c.args.w limit t s ≡ rows s
+  same = nearest_same c.args.n t c.args.t.now c.loop-s.invariant.kept (nat_abs c.args.f.entry) c.args.w limit s (omega (arith, c.loop-s-test.true, c.requires.0.inside))
+
+  started : c.is_no_later.result ≡ le_z (cell t s 3) limit
+  started =
+      let f : SFits w32 c.row_at-row.result.start = search rules in
+      simp c.row_at-row.ensures at (simp (same32 _ f) at c.is_no_later.ensures)
+
+  late : c.is_no_later.result ≡ false → rows s ≡ []
+  late h = sym same ∙ nearest_late (nat_abs c.args.f.entry) c.args.w t s limit (sym started ∙ h)
+
+  paired : c.is_no_later.result ≡ true → pair_row c.args.w.relation (nat_abs c.args.f.entry) c.args.w.operand c.args.w.left c.args.w.start c.args.w.end t s ≡ rows s
+  paired h = nearest_in (nat_abs c.args.f.entry) c.args.w t s limit (sym started ∙ h) ∙ same
 
 -- what was to be appended
 whole : (c : Start) → let g = c.args in each (nearest_row (nat_abs g.f.entry) g.w (to_z w32 (of_z w32 g.limit)) g.t.now) (span g.f.first g.f.end) ≡ nearest_pairs (nat_abs g.f.entry) g.w g.limit g.f.first g.f.end g.t.now
@@ -53,33 +70,24 @@ shape_of-t-then-room-count c = c.push_pair-count.auto.t ∙ c.loop-s.invariant.s
 pub returns-then-room-count : goal.returns-then-room-count
 returns-then-room-count c =
     let g = c.args in
-    let f : SFits w32 c.row_at-row.result.start = search rules in
-    let started = simp c.row_at-row.ensures at (simp (same32 _ f) at c.is_no_later.ensures) in
-    let pair = paired g.n c.loop-s.t g.t.now c.loop-s.invariant.kept (nat_abs g.f.entry) g.w _ c.loop-s.s (omega (arith, c.loop-s-test.true, c.requires.0.inside)) _ started c.if-is_no_later.true in
+    let pair = paired (goal.at.returns-then-room-count c).After-is_no_later c.if-is_no_later.true in
     simp (whole (goal.at.returns-then-room-count c).Start) at (stop _ c.loop-s.s g.f.end c.loop-s.invariant c.loop-s-test.true pair c.push_pair-count.ensures c.if-room-count.true)
 
 pub loop-s-preserved-else-room-count : goal.loop-s-preserved-else-room-count
 loop-s-preserved-else-room-count c =
     let g = c.args in
-    let f : SFits w32 c.row_at-row.result.start = search rules in
-    let started = simp c.row_at-row.ensures at (simp (same32 _ f) at c.is_no_later.ensures) in
-    let pair = paired g.n c.loop-s.t g.t.now c.loop-s.invariant.kept (nat_abs g.f.entry) g.w _ c.loop-s.s (omega (arith, c.loop-s-test.true, c.requires.0.inside)) _ started c.if-is_no_later.true in
+    let pair = paired (goal.at.loop-s-preserved-else-room-count c).After-is_no_later c.if-is_no_later.true in
     turn _ c.loop-s.s g.f.end c.loop-s.invariant c.loop-s-test.true pair c.push_pair-count.ensures c.if-room-count.false
 
 pub loop-s-preserved-else-is_wanted : goal.loop-s-preserved-else-is_wanted
 loop-s-preserved-else-is_wanted c =
     let g = c.args in
-    let f : SFits w32 c.row_at-row.result.start = search rules in
-    let started = simp c.row_at-row.ensures at (simp (same32 _ f) at c.is_no_later.ensures) in
-    let pair = paired g.n c.loop-s.t g.t.now c.loop-s.invariant.kept (nat_abs g.f.entry) g.w _ c.loop-s.s (omega (arith, c.loop-s-test.true, c.requires.0.inside)) _ started c.if-is_no_later.true in
+    let pair = paired (goal.at.loop-s-preserved-else-is_wanted c).After-is_no_later c.if-is_no_later.true in
     skip _ c.loop-s.s g.f.end c.loop-s.invariant c.loop-s-test.true (sym pair ∙ pair_other (nat_abs g.f.entry) g.w c.loop-s.t c.loop-s.s (sym (simp c.row_at-row.ensures at c.is_wanted.ensures) ∙ c.if-is_wanted.false))
 
 pub loop-s-preserved : goal.loop-s-preserved
 loop-s-preserved c =
-    let g = c.args in
-    let f : SFits w32 c.row_at-row.result.start = search rules in
-    let started = simp c.row_at-row.ensures at (simp (same32 _ f) at c.is_no_later.ensures) in
-    skip _ c.loop-s.s g.f.end c.loop-s.invariant c.loop-s-test.true (late g.n c.loop-s.t g.t.now c.loop-s.invariant.kept (nat_abs g.f.entry) g.w _ c.loop-s.s (omega (arith, c.loop-s-test.true, c.requires.0.inside)) _ started c.if-is_no_later.false)
+    skip _ c.loop-s.s c.args.f.end c.loop-s.invariant c.loop-s-test.true (late (goal.at.loop-s-preserved c).After-is_no_later c.if-is_no_later.false)
 
 pub shape_of-t : goal.shape_of-t
 shape_of-t c = c.loop-s.invariant.size

@@ -3,8 +3,8 @@ use Prim.Native.Nat.{ℕ, ◌+◌, ◌-◌, ◌*◌, ◌≤◌, ◌<◌, min}
 use native.Mathlib.Omega.{arith}
 use mathlib.Core.Path.{◌≡◌, refl, sym, ap, ◌∙◌, subst}
 use mathlib.Core.Bool.{Bool, true, false, cond}
-use borrow.Author.Tests.{le-ltb, lt-ltb, ltb-false, leb-true, leb-false}
-use lib.Dec.{leb, ltb}
+use borrow.Author.Tests.{le-ltb, lt-ltb, ltb-false}
+use lib.Dec.{ltb}
 use mathlib.Core.List.{List, [], ◌∷◌, ◌++◌, append_assoc, append-nil}
 use lib.IntN.{ℤ}
 use lib.ListN.{length, take, drop, length-take, length-drop, length-append}
@@ -29,7 +29,7 @@ use Rattle.program.proofs.Reaching.{bytes_on, bytes_counted}
 use Rattle.program.proofs.Theorems.{whole_printable}
 use Rattle.program.proofs.Whole.{one_run, has_room_lem, whole_none, whole_all, whole_front}
 use Rattle.reading.specs.Readings.{is_came, is_failed, piece_of, Hands}
-use Rattle.reading.proofs.Laws.{failed_err}
+use Rattle.reading.proofs.Laws.{failed_err, some_piece, takes_none}
 use Rattle.input.specs.Inputs.{Error, held, Turned, Took, end_of, played_to, OfReader, OfInput, PrintsInput, Printout}
 use Rattle.input.specs.declared.Turn.{Turn}
 use Rattle.input.specs.declared.Played.{Played}
@@ -45,17 +45,12 @@ unfolding joined
 joined_more [] x = append-nil x
 joined_more (p ∷ ps) x = ap (λ s. p ++ s) (joined_more ps x) ∙ sym (append_assoc p (joined ps) x)
 
--- what is known of a reader's bytes, taken in two parts, and none of them
+-- what is known of a reader's bytes, taken in two parts, and all of them
 takes_more : (a b c : Option (List ℕ)) (x y : List ℕ) → Consumes a b x → Consumes b c y → Consumes a c (x ++ y)
 takes_more None b c x y h k = tt
 takes_more (Some p) None c x y h k = absurd h
 takes_more (Some p) (Some q) None x y h k = absurd k
 takes_more (Some p) (Some q) (Some r) x y h k = h ∙ ap (λ s. x ++ s) k ∙ sym (append_assoc x y r)
-
-takes_none : (a b : Option (List ℕ)) → Keeps a b → Consumes a b []
-takes_none None b h = tt
-takes_none (Some p) None h = absurd h
-takes_none (Some p) (Some q) h = sym h
 
 keeps_same : (a : Option (List ℕ)) → Keeps a a
 keeps_same None = tt
@@ -208,15 +203,6 @@ some_came (Ok n) s e = (lt-ltb 0 n (go (length (take n s)) (length-take n s) e),
     go m k d = omega (arith, k, d)
 some_came (Err x) s e = absurd (e refl)
 
-some_piece : (got : Result ℕ Error) (s : List ℕ) → piece_of got s ≡ take (length (piece_of got s)) s
-unfolding piece_of
-some_piece (Ok n) s = go (leb n (length s)) refl
-  where
-    go : (b : Bool) → leb n (length s) ≡ b → take n s ≡ take (length (take n s)) s
-    go true e = let m : n ≡ length (take n s) = omega (arith, length-take n s, leb-true n (length s) e) in ap (λ k. take k s) m
-    go false e = let m : length s ≡ length (take n s) = omega (arith, length-take n s, leb-false n (length s) e) in take_all n s (omega (arith, leb-false n (length s) e)) ∙ sym (take-length s) ∙ ap (λ k. take k s) m
-some_piece (Err x) s = refl
-
 -- what it took of the reader's bytes
 module _ (before after : Option (List ℕ)) where
   pub took : (got : Result ℕ Error) (s : List ℕ) → ReadConsumes before after got s → 0 < length s → Took false got (piece_of got s) before after
@@ -345,11 +331,3 @@ module _ (f : Format) (before after : Option (List ℕ)) (t : List ℤ) (out : L
         go : (k : Option (List ℕ)) → IfSome k (λ s. s ≡ joined q.pieces) → IfSome k (λ s. Appends a b (printed_for f 3000 s))
         go None w = tt
         go (Some s) w = subst (λ x. Appends a b x) (shown_3000.1 ∙ ap (λ x. printed_for f 3000 x) (sym w)) all
-
-  -- where reading failed nothing is handed over
-  pub none_handed : (r : Printed) (u : List ℤ) (written : List ℕ) (contents : Option (List ℕ)) → PrintsInput f before after t out r u written → Hands contents contents (take r.length written) false
-  none_handed r u written contents q = record { count = 0; inside = omega arith; front = none contents; all = λ y. never y }
-    where
-      none : (c : Option (List ℕ)) → Appends c c []
-      none None = tt
-      none (Some s) = sym (append-nil s)

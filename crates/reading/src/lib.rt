@@ -2,10 +2,10 @@
 // say where it stands, and, where the bytes of a reader or a writer are known, that they are these.
 #![tactic(auto)]
 
-ghost use Rattle.std.specs.Prelude.{◌≡◌, true, ◌+◌, ◌≤◌, ◌↔◌, IfOk, IsErrAnd, IsTrue, is_ok, length, take, drop};
+ghost use Rattle.std.specs.Prelude.{◌≡◌, true, false, ◌+◌, ◌<◌, ◌≤◌, ◌↔◌, Ok, IfOk, IsErrAnd, IsTrue, is_ok, length, take, drop};
 ghost use Rattle.std.specs.IoError.{error_kind};
 ghost use Rattle.std.specs.Io.{ReadsAtMost};
-ghost use Rattle.std.specs.Io.KnownBytes.{ReadConsumes, WriteAppends};
+ghost use Rattle.std.specs.Io.KnownBytes.{Consumes, IsAtEnd, ReadConsumes, WriteAppends};
 ghost use Rattle.reading.specs.Readings.{is_failed, piece_of, Hands};
 
 use std::fmt::InlineText;
@@ -43,7 +43,9 @@ impl<R: Read> Read for Remembering<R> {
 // Reads once, into the buffer behind the bytes kept.
 pub fn read_more<R: Read>(reader: &mut R, buf: &mut [u8], kept: usize) -> Reading
     requires { kept ≤ length buf.old }
-    ensures { (take kept buf.new ≡ take kept buf.old) × (kept + result.count ≤ length buf.old) × (result.ended ≡ true → result.count ≡ 0) × (result.failed ≡ true → result.ended ≡ true) }
+    ensures stands { (take kept buf.new ≡ take kept buf.old) × (kept + result.count ≤ length buf.old) × (result.ended ≡ true → result.count ≡ 0) × (result.failed ≡ true → result.ended ≡ true) }
+    ensures bytes { Consumes (R.remaining reader.old) (R.remaining reader.new) (take result.count (drop kept buf.new)) }
+    ensures left { kept < length buf.old → result.ended ≡ true → result.failed ≡ false → IsAtEnd (R.remaining reader.new) }
 {
     let got = read_behind(reader, buf, kept);
     if is_interrupted(got) {
@@ -59,7 +61,9 @@ pub fn read_more<R: Read>(reader: &mut R, buf: &mut [u8], kept: usize) -> Readin
 // What a reading that was not interrupted brought, into this part of the buffer.
 #[tactic(auto, using(crate::proofs::Laws::failed_none, crate::proofs::Laws::piece_inside))]
 fn reading_of(got: io::Result<usize>, part: &[u8]) -> Reading
-    ensures { (result.count ≤ length part.now) × (result.ended ≡ true → result.count ≡ 0) × (result.failed ≡ true → result.ended ≡ true) }
+    ensures stands { (result.count ≤ length part.now) × (result.ended ≡ true → result.count ≡ 0) × (result.failed ≡ true → result.ended ≡ true) }
+    ensures piece { take result.count part.now ≡ piece_of got part.now }
+    ensures left { 0 < length part.now → result.ended ≡ true → result.failed ≡ false → got ≡ Ok 0 }
 {
     let n = count(got, part);
     Reading {

@@ -1,5 +1,5 @@
 -- `reading_of` meets its contract: what came is the piece, and where none came without a failure none is left.
-use Rattle.std.proofs.Common.{◌≡◌, sym, ap, ◌∙◌, take}
+use Rattle.std.proofs.Common.{sym, ap, ◌∙◌, take}
 use borrow.Author.Tests.{eqb-true}
 use Rattle.reading.proofs.Laws.{some_piece, none_left}
 use Rattle.reading.proofs.reading_of.Goals as goal

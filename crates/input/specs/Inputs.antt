@@ -1,6 +1,6 @@
 -- An input as it is read, in pieces. What a reader hands over is any list of bytes, so each piece is some list: the statements say that there is
 -- one, and that the pieces are the reader's bytes where these are known. The statements of crate `program` then hold of the pieces put together.
--- `played_to`, `OfInput`, `PrintsInput` and `Printout` have to be believed; the others serve the proofs.
+-- `played_to`, `OfReader`, `OfInput`, `PrintsInput` and `Printout` have to be believed; the others serve the proofs.
 use Rattle.std.specs.Prelude.{ℕ, ◌≡◌, Bool, true, false, cond, List, [], ℤ, Option, Result, IfSome, take}
 use Rattle.std.specs.Io.KnownBytes.{Consumes, IsAtEnd}
 use Rattle.std.specs.declared.io.Error.{Error as the_error}

@@ -2,7 +2,7 @@
 // say where it stands, and, where the bytes of a reader or a writer are known, that they are these.
 #![tactic(auto)]
 
-ghost use Rattle.std.specs.Prelude.{◌≡◌, true, false, ◌+◌, ◌<◌, ◌≤◌, ◌↔◌, Ok, IfOk, IsErrAnd, IsTrue, is_ok, length, take, drop};
+ghost use Rattle.std.specs.Prelude.{◌≡◌, true, false, ◌+◌, ◌<◌, ◌≤◌, ◌↔◌, Ok, Some, IfOk, IfErr, IsErrAnd, IsTrue, is_ok, length, take, drop};
 ghost use Rattle.std.specs.IoError.{error_kind};
 ghost use Rattle.std.specs.Io.{ReadsAtMost};
 ghost use Rattle.std.specs.Io.KnownBytes.{Consumes, IsAtEnd, ReadConsumes, WriteAppends};
@@ -31,7 +31,11 @@ pub struct Remembering<R> {
 impl<R: Read> Read for Remembering<R> {
     ghost remaining = { λ s. R.remaining s.reader };
 
-    fn read(&mut self, buf: &mut [u8]) -> io::Result<usize> {
+    fn read(&mut self, buf: &mut [u8]) -> io::Result<usize>
+        ensures bound { ReadsAtMost result buf.new }
+        ensures bytes { ReadConsumes (R.remaining self.old.reader) (R.remaining self.new.reader) result buf.new }
+        ensures kept { IfErr result (λ e. self.new.failure ≡ Some e) }
+    {
         let got = self.reader.read(buf);
         if let Err(e) = got {
             self.failure = Some(e);

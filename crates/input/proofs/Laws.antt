@@ -11,6 +11,7 @@ use lib.ListN.{length, take, drop, length-take, length-append}
 use lib.Seq.{length-take-le, take-add, take-length}
 use Rattle.std.specs.Prelude.{◌⊎◌, Option, None, Some, Result, Ok, Err, IfSome, is_err}
 use Rattle.std.proofs.Common.{inl, inr}
+use Rattle.std.specs.declared.io.Error.{Error}
 use Rattle.std.specs.Io.KnownBytes.{Keeps, Appends, Consumes, IsAtEnd, ReadConsumes}
 use Rattle.interval.proofs.Signed.{never}
 use Rattle.text.specs.Output.{rest_length, rest_moved}
@@ -30,7 +31,7 @@ use Rattle.program.proofs.Theorems.{whole_printable}
 use Rattle.program.proofs.Whole.{one_run, has_room_lem, whole_none, whole_all, whole_front}
 use Rattle.reading.specs.Readings.{is_came, is_failed, piece_of, Hands}
 use Rattle.reading.proofs.Laws.{failed_err, some_piece, takes_none}
-use Rattle.input.specs.Inputs.{Error, held, Turned, Took, end_of, played_to, OfReader, OfInput, PrintsInput, Printout}
+use Rattle.input.specs.Inputs.{held, Turned, Took, end_of, played_to, OfReader, OfInput, PrintsInput, Printout}
 use Rattle.input.specs.declared.Turn.{Turn}
 use Rattle.input.specs.declared.Played.{Played}
 use Rattle.input.specs.declared.Printed.{Printed}

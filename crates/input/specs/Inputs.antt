@@ -3,7 +3,7 @@
 -- `played_to`, `OfReader`, `OfInput`, `PrintsInput` and `Printout` have to be believed; the others serve the proofs.
 use Rattle.std.specs.Prelude.{ℕ, ◌≡◌, Bool, true, false, cond, List, [], ℤ, Option, Result, IfSome, take}
 use Rattle.std.specs.Io.KnownBytes.{Consumes, IsAtEnd}
-use Rattle.std.specs.declared.io.Error.{Error as the_error}
+use Rattle.std.specs.declared.io.Error.{Error}
 use Rattle.reading.specs.Readings.{is_came, is_failed}
 use Rattle.program.specs.Outcomes.{printed_for}
 use Rattle.program.specs.Runs.{Progress, Between, fed, is_refused, finished_run}
@@ -14,10 +14,6 @@ use Rattle.program.specs.declared.Run.{Run}
 use Rattle.input.specs.declared.Turn.{Turn}
 use Rattle.input.specs.declared.Played.{Played}
 use Rattle.input.specs.declared.Printed.{Printed}
-
--- why a reading failed
-abbrev pub Error : Type 0
-Error = the_error
 
 -- a run, its table, and the bytes that are kept at the front of a buffer
 abbrev pub held : Run → List ℤ → ℕ → List ℕ → Between

@@ -3,11 +3,12 @@
 #![tactic(auto)]
 
 ghost use Rattle.std.specs.Prelude.{◌≡◌, Bool, true, false, List, ℕ, ◌+◌, ◌≤◌, ◌<◌, Result, IfSome, length, take, drop};
+ghost use Rattle.std.specs.declared.io.Error.{Error};
 ghost use Rattle.std.specs.Io.KnownBytes.{Appends, Keeps};
 ghost use Rattle.program.specs.Outcomes.{printed_for};
 ghost use Rattle.program.specs.Runs.{Reached, HasLines, HasFew, is_refused, fed};
 ghost use Rattle.reading.specs.Readings.{piece_of, Hands};
-ghost use Rattle.input.specs.Inputs.{Error, held, Turned, Took, end_of, OfInput, PrintsInput, Printout};
+ghost use Rattle.input.specs.Inputs.{held, Turned, Took, end_of, OfInput, PrintsInput, Printout};
 ghost use Rattle.program.specs.Statements.{bytes_for};
 
 use program::{Format, Run};

@@ -10,7 +10,7 @@ use Rattle.text.proofs.Laws.{part_from}
 use Rattle.reading.specs.Readings.{piece_of}
 use Rattle.reading.proofs.Laws.{piece_inside}
 use Rattle.program.proofs.Reading.{lines_fewer}
-use Rattle.input.specs.Inputs.{Error}
+use Rattle.std.specs.declared.io.Error.{Error}
 use Rattle.input.proofs.Laws.{came_turned, none_turned, fed_reached, fed_lines}
 use Rattle.input.proofs.play_got.Goals as goal
 

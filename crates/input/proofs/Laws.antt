@@ -299,36 +299,36 @@ module _ (f : Format) (before after : Option (List ℕ)) (t : List ℤ) (out : L
         record { pieces = q.pieces; from = subst (λ b. OfReader before after b q.pieces) z q.from; room = λ y. never y; length = e ∙ g.0; table = g.1; output = o ∙ g.2 }
 
   -- what stands at the front of the output
-  shown : (r : Printed) (u : List ℤ) (written : List ℕ) → (q : PrintsInput f before after t out r u written) → r.failed ≡ false → bytes_for f (room_in t) ≤ length out → (r.length ≤ length written) × (take r.length written ≡ printed_for f (room_in t) (joined q.pieces))
-  shown r u written q z h =
+  text_shown : (r : Printed) (u : List ℤ) (written : List ℕ) → (q : PrintsInput f before after t out r u written) → r.failed ≡ false → bytes_for f (room_in t) ≤ length out → (r.length ≤ length written) × (take r.length written ≡ printed_for f (room_in t) (joined q.pieces))
+  text_shown r u written q z h =
       let n : r.length ≡ whole_length f (joined q.pieces) t out = rw z at q.length in
       let w : written ≡ whole_output f (joined q.pieces) t out = rw z at q.output in
       let front = whole_front (joined q.pieces) t f out h in
       (rw (n, w) front.0, rw (n, w) front.1)
 
+  shown : (r : Printed) (u : List ℤ) (written : List ℕ) → PrintsInput f before after t out r u written → r.failed ≡ false → bytes_for f (room_in t) ≤ length out → (r.length ≤ length written) × Printout f (room_in t) (take r.length written)
+  shown r u written q z h = let g = text_shown r u written q z h in (g.0, record { pieces = q.pieces; same = g.1 })
+
   -- the same with the 3,000 rows that the programs have
-  module _ (r : Printed) (u : List ℤ) (written : List ℕ) (q : PrintsInput f before after t out r u written) (z : r.failed ≡ false) (e : length t ≡ 15000) (h : bytes_for f 3000 ≤ length out) where
-    shown_3000 : (r.length ≤ length written) × (take r.length written ≡ printed_for f 3000 (joined q.pieces))
-    shown_3000 =
-        let rows : room_in t ≡ 3000 = omega (arith, e, capacity_fits (length t), capacity_all (length t) 3000 (omega (arith, e)) (omega arith)) in
-        subst (λ n. (r.length ≤ length written) × (take r.length written ≡ printed_for f n (joined q.pieces))) rows (shown r u written q z (rw rows h))
+  rows_3000 : length t ≡ 15000 → room_in t ≡ 3000
+  rows_3000 e = omega (arith, e, capacity_fits (length t), capacity_all (length t) 3000 (omega (arith, e)) (omega arith))
 
-    pub inside_3000 : r.length ≤ length written
-    inside_3000 = shown_3000.0
+  pub shown_3000 : (r : Printed) (u : List ℤ) (written : List ℕ) → PrintsInput f before after t out r u written → r.failed ≡ false → length t ≡ 15000 → bytes_for f 3000 ≤ length out → (r.length ≤ length written) × Printout f 3000 (take r.length written)
+  shown_3000 r u written q z e h = let rows = rows_3000 e in subst (λ n. (r.length ≤ length written) × Printout f n (take r.length written)) rows (shown r u written q z (rw rows h))
 
-    pub printout_3000 : Printout f 3000 (take r.length written)
-    printout_3000 = record { pieces = q.pieces; same = shown_3000.1 }
+  -- and where all of it is handed over, that is what is printed for the reader's bytes
+  pub handed_3000 : (r : Printed) (u : List ℤ) (written : List ℕ) → PrintsInput f before after t out r u written → r.failed ≡ false → length t ≡ 15000 → bytes_for f 3000 ≤ length out → (a b : Option (List ℕ)) → Hands a b (take r.length written) true → IfSome before (λ s. Appends a b (printed_for f 3000 s))
+  handed_3000 r u written q z e h a b d = go before (q.from.whole z)
+    where
+      text : List ℕ
+      text = take r.length written
 
-    -- and where all of it is handed over, that is what is printed for the reader's bytes
-    pub handed_3000 : (a b : Option (List ℕ)) → Hands a b (take r.length written) true → IfSome before (λ s. Appends a b (printed_for f 3000 s))
-    handed_3000 a b d = go before (q.from.whole z)
-      where
-        text : List ℕ
-        text = take r.length written
+      text_is : text ≡ printed_for f 3000 (joined q.pieces)
+      text_is = let rows = rows_3000 e in subst (λ n. text ≡ printed_for f n (joined q.pieces)) rows ((text_shown r u written q z (rw rows h)).1)
 
-        all : Appends a b text
-        all = subst (λ x. Appends a b x) (ap (λ n. take n text) (d.all refl) ∙ take-length text) d.front
+      all : Appends a b text
+      all = subst (λ x. Appends a b x) (ap (λ n. take n text) (d.all refl) ∙ take-length text) d.front
 
-        go : (k : Option (List ℕ)) → IfSome k (λ s. s ≡ joined q.pieces) → IfSome k (λ s. Appends a b (printed_for f 3000 s))
-        go None w = tt
-        go (Some s) w = subst (λ x. Appends a b x) (shown_3000.1 ∙ ap (λ x. printed_for f 3000 x) (sym w)) all
+      go : (k : Option (List ℕ)) → IfSome k (λ s. s ≡ joined q.pieces) → IfSome k (λ s. Appends a b (printed_for f 3000 s))
+      go None w = tt
+      go (Some s) w = subst (λ x. Appends a b x) (text_is ∙ ap (λ x. printed_for f 3000 x) (sym w)) all

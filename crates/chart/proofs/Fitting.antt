@@ -10,7 +10,6 @@ use lib.ListN.{length}
 use Rattle.text.specs.Text.{fields}
 use Rattle.text.proofs.Laws.{sizes, split_sizes}
 use Rattle.decimal.specs.Spelling.{number_of, length_of}
-use Rattle.decimal.specs.declared.Number.{Number}
 use Rattle.decimal.proofs.Laws.{number_few}
 use Rattle.decimal.proofs.Tenths.{length_few}
 use Rattle.chart.specs.Operators.{words, operator_of, kind_of, takes_length}
@@ -21,17 +20,17 @@ use Rattle.chart.specs.declared.record.Parsed.{Parsed}
 use Rattle.chart.proofs.Places.{place_le, place_short}
 
 -- a number that is read has at most 10 bytes, a second operand at most 11
-number_fits : (y : List ℕ) (r : Number) → number_of y ≡ r → (r ≡ Number.Malformed → ⊥) → length y ≤ 10
-number_fits y (Number.Value n) e d = number_few y n e
-number_fits y Number.Malformed e d = absurd (d refl)
+number_fits : (y : List ℕ) (r : Option ℕ) → number_of y ≡ r → (r ≡ None → ⊥) → length y ≤ 10
+number_fits y (Some n) e d = number_few y n e
+number_fits y None e d = absurd (d refl)
 
-second_fits : (k : Kind) (y : List ℕ) → (second_of k y ≡ Number.Malformed → ⊥) → length y ≤ 11
+second_fits : (k : Kind) (y : List ℕ) → (second_of k y ≡ None → ⊥) → length y ≤ 11
 unfolding second_of
 second_fits k y d = go (takes_length k) (length_of y) refl d
   where
-    go : (t : Bool) (r : Number) → length_of y ≡ r → (cond t r (number_of y) ≡ Number.Malformed → ⊥) → length y ≤ 11
-    go true (Number.Value n) e g = length_few y n e
-    go true Number.Malformed e g = absurd (g refl)
+    go : (t : Bool) (r : Option ℕ) → length_of y ≡ r → (cond t r (number_of y) ≡ None → ⊥) → length y ≤ 11
+    go true (Some n) e g = length_few y n e
+    go true None e g = absurd (g refl)
     go false r e g = omega (arith, number_fits y (number_of y) refl g)
 
 -- an operator's word has at most 8
@@ -52,12 +51,12 @@ operands_fit e op [] d = absurd (d refl)
 operands_fit e op (x ∷ []) d = absurd (d refl)
 operands_fit e op (x ∷ y ∷ []) d = go (number_of x) refl d
   where
-    second : (a : ℕ) → (with_operands e op (Number.Value a) (second_of (kind_of op) y) ≡ Parsed.Malformed → ⊥) → length y ≤ 11
-    second a g = second_fits (kind_of op) y (λ q. g (ap (with_operands e op (Number.Value a)) q))
+    second : (a : ℕ) → (with_operands e op (Some a) (second_of (kind_of op) y) ≡ Parsed.Malformed → ⊥) → length y ≤ 11
+    second a g = second_fits (kind_of op) y (λ q. g (ap (with_operands e op (Some a)) q))
 
-    go : (r : Number) → number_of x ≡ r → (with_operands e op r (second_of (kind_of op) y) ≡ Parsed.Malformed → ⊥) → sizes 9 (x ∷ y ∷ []) ≤ 23
-    go (Number.Value a) q g = omega (arith, number_few x a q, second a g)
-    go Number.Malformed q g = absurd (g refl)
+    go : (r : Option ℕ) → number_of x ≡ r → (with_operands e op r (second_of (kind_of op) y) ≡ Parsed.Malformed → ⊥) → sizes 9 (x ∷ y ∷ []) ≤ 23
+    go (Some a) q g = omega (arith, number_few x a q, second a g)
+    go None q g = absurd (g refl)
 operands_fit e op (x ∷ y ∷ z ∷ zs) d = absurd (d refl)
 
 operator_fits : (e : ℕ) (fs : List (List ℕ)) → (operator_line e fs ≡ Parsed.Malformed → ⊥) → sizes 9 fs ≤ 32
@@ -75,9 +74,9 @@ unfolding parsed_line numbered
 parsed_fits [] d = absurd (d refl)
 parsed_fits (n ∷ fs) d = go (number_of n) refl d
   where
-    go : (r : Number) → number_of n ≡ r → (numbered r fs ≡ Parsed.Malformed → ⊥) → sizes 9 (n ∷ fs) ≤ 43
-    go (Number.Value e) q g = omega (arith, number_few n e q, operator_fits e fs g)
-    go Number.Malformed q g = absurd (g refl)
+    go : (r : Option ℕ) → number_of n ≡ r → (numbered r fs ≡ Parsed.Malformed → ⊥) → sizes 9 (n ∷ fs) ≤ 43
+    go (Some e) q g = omega (arith, number_few n e q, operator_fits e fs g)
+    go None q g = absurd (g refl)
 
 pub lines_fit : LinesFit
 lines_fit s d = omega (arith, parsed_fits (fields s) d, split_sizes 9 s)

@@ -12,7 +12,6 @@ use Rattle.interval.specs.Instants.{is_length}
 use Rattle.interval.proofs.Signed.{never, and_first, and_second}
 use Rattle.interval.proofs.Laws.{length_told}
 use Rattle.decimal.specs.Spelling.{number_of}
-use Rattle.decimal.specs.declared.Number.{Number}
 use Rattle.text.specs.Text.{fields, index_of}
 use Rattle.text.proofs.Laws.{split_cut, split_none, split_some, index_le}
 use Rattle.chart.specs.Operators.{operator_of, kind_of, in_range, are_lower}
@@ -64,11 +63,11 @@ module _ (e : ℕ) (s : List ℕ) where
       go false false = refl
 
 module _ (e op : ℕ) (s : List ℕ) where
-  pub second_one : (x : Number) → index_of 9 s ≡ length s → second_operand e op x (fields s) ≡ with_operands e op x (second_of (kind_of op) s)
+  pub second_one : (x : Option ℕ) → index_of 9 s ≡ length s → second_operand e op x (fields s) ≡ with_operands e op x (second_of (kind_of op) s)
   unfolding second_operand
   second_one x h = rw (one_field s h)
 
-  pub second_more : (x : Number) → (index_of 9 s ≡ length s → ⊥) → second_operand e op x (fields s) ≡ Parsed.Malformed
+  pub second_more : (x : Option ℕ) → (index_of 9 s ≡ length s → ⊥) → second_operand e op x (fields s) ≡ Parsed.Malformed
   unfolding second_operand
   second_more x d = let m = more_fields s d in rw m.3
 
@@ -76,10 +75,10 @@ module _ (e op : ℕ) (s : List ℕ) where
   unfolding operands_line second_operand
   operands_one h = rw (one_field s h)
 
-numbered_none : (x : Number) → numbered x [] ≡ Parsed.Malformed
+numbered_none : (x : Option ℕ) → numbered x [] ≡ Parsed.Malformed
 unfolding numbered operator_line
-numbered_none (Number.Value n) = refl
-numbered_none Number.Malformed = refl
+numbered_none (Some n) = refl
+numbered_none None = refl
 
 module _ (s : List ℕ) where
   pub parsed_one : index_of 9 s ≡ length s → parsed_line (fields s) ≡ Parsed.Malformed

@@ -2,7 +2,6 @@
 -- `line_answer` alone serves the proofs.
 use Rattle.std.specs.Prelude.{ℕ, ◌-◌, cond, List, [], ◌∷◌, eqb, leb, take}
 use Rattle.decimal.specs.Spelling.{number_of, length_of}
-use Rattle.decimal.specs.declared.Number.{Number}
 use Rattle.text.specs.Text.{Line, is_record, fields}
 use Rattle.chart.specs.Operators.{operator_of, kind_of, takes_length, in_range, are_lower}
 use Rattle.chart.specs.declared.Entry.{Entry}
@@ -14,9 +13,9 @@ abbrev pub entry : ℕ → ℕ → ℕ → Entry
 entry op a b = record { op = op; a = a; b = b }
 
 -- an event has one operand, its code
-unfoldable pub with_code : ℕ → Number → Parsed
-with_code e (Number.Value k) = Parsed.Line e 0 k 0
-with_code e Number.Malformed = Parsed.Malformed
+unfoldable pub with_code : ℕ → Option ℕ → Parsed
+with_code e (Some k) = Parsed.Line e 0 k 0
+with_code e None = Parsed.Malformed
 
 unfoldable pub event_line : ℕ → List (List ℕ) → Parsed
 event_line e [] = Parsed.Malformed
@@ -24,16 +23,16 @@ event_line e (k ∷ []) = with_code e (number_of k)
 event_line e (k ∷ l ∷ ls) = Parsed.Malformed
 
 -- every other operator has two
-unfoldable pub with_operands : ℕ → ℕ → Number → Number → Parsed
-with_operands e op (Number.Value a) (Number.Value b) = Parsed.Line e op a b
-with_operands e op (Number.Value a) Number.Malformed = Parsed.Malformed
-with_operands e op Number.Malformed y = Parsed.Malformed
+unfoldable pub with_operands : ℕ → ℕ → Option ℕ → Option ℕ → Parsed
+with_operands e op (Some a) (Some b) = Parsed.Line e op a b
+with_operands e op (Some a) None = Parsed.Malformed
+with_operands e op None y = Parsed.Malformed
 
 -- a second operand on paper: a length, which may have a point (request N11), or the number of an entry
-unfoldable pub second_of : Kind → List ℕ → Number
+unfoldable pub second_of : Kind → List ℕ → Option ℕ
 second_of k y = cond (takes_length k) (length_of y) (number_of y)
 
-unfoldable pub second_operand : ℕ → ℕ → Number → List (List ℕ) → Parsed
+unfoldable pub second_operand : ℕ → ℕ → Option ℕ → List (List ℕ) → Parsed
 second_operand e op x [] = Parsed.Malformed
 second_operand e op x (y ∷ []) = with_operands e op x (second_of (kind_of op) y)
 second_operand e op x (y ∷ z ∷ zs) = Parsed.Malformed
@@ -49,9 +48,9 @@ unfoldable pub operator_line : ℕ → List (List ℕ) → Parsed
 operator_line e [] = Parsed.Malformed
 operator_line e (w ∷ fs) = by_operator e (operator_of w) fs
 
-unfoldable pub numbered : Number → List (List ℕ) → Parsed
-numbered (Number.Value e) fs = operator_line e fs
-numbered Number.Malformed fs = Parsed.Malformed
+unfoldable pub numbered : Option ℕ → List (List ℕ) → Parsed
+numbered (Some e) fs = operator_line e fs
+numbered None fs = Parsed.Malformed
 
 -- "entry number, operator word, operands"
 unfoldable pub parsed_line : List (List ℕ) → Parsed

@@ -17,7 +17,6 @@ use mir.Val.{SFits}
 use borrow.Author.Tests.{lt-ltb, le-leb, lt-leb, ne_eqb, ltb-true, leb-true, leb-false, eqb-false, not-true}
 use Rattle.interval.proofs.Signed.{never, and_first, and_second}
 use Rattle.text.proofs.Laws.{lt_or_le, lacks}
-use Rattle.decimal.specs.declared.Number.{Number}
 use Rattle.decimal.specs.Spelling.{is_digit, all_digits, value_from, digits_value, has_leading_zero, is_number, number_of, digit, spelled_number, signed, spelled, written_length, written_output}
 use Rattle.decimal.proofs.Digits.{digit_least, digit_most, digits_lack, spelled_small, spelled_large, spelled_value, spelled_digits, spelled_nonempty, spelled_first, length_most, value_below}
 
@@ -29,11 +28,11 @@ record Numeral (s : List ℕ) (n : ℕ) : Type 0 where
   digits : all_digits s ≡ true
   value : digits_value s ≡ n
 
-numeral : (s : List ℕ) (n : ℕ) → number_of s ≡ Number.Value n → Numeral s n
+numeral : (s : List ℕ) (n : ℕ) → number_of s ≡ Some n → Numeral s n
 unfolding number_of is_number
 numeral s n e = at (is_number s) refl e
   where
-    at : (t : Bool) → is_number s ≡ t → cond t (Number.Value (digits_value s)) Number.Malformed ≡ Number.Value n → Numeral s n
+    at : (t : Bool) → is_number s ≡ t → cond t (Some (digits_value s)) None ≡ Some n → Numeral s n
     at true p q =
         let rest = leb (length s) 10 && (not (has_leading_zero s) && all_digits s) in
         let p₁ = and_second (ltb 0 (length s)) rest p in
@@ -48,26 +47,26 @@ numeral s n e = at (is_number s) refl e
     at false p q = let z : ◌≡◌ {A = ℕ} 0 1 = cc in absurd (omega arith)
 
 -- The number of a spelling is below the power of ten of its length, and so below the tenth.
-pub number_below_length : (s : List ℕ) (n : ℕ) → number_of s ≡ Number.Value n → n < 10 ^ length s
+pub number_below_length : (s : List ℕ) (n : ℕ) → number_of s ≡ Some n → n < 10 ^ length s
 number_below_length s n e =
     let f = numeral s n e in
     let below : digits_value s < 10 ^ length s = rw zero-add at (value_below 0 0 s (omega arith) f.digits) in
     rw (← f.value) below
 
-pub number_below : (s : List ℕ) (n : ℕ) → number_of s ≡ Number.Value n → n < 10 ^ 10
+pub number_below : (s : List ℕ) (n : ℕ) → number_of s ≡ Some n → n < 10 ^ 10
 number_below s n e = lt_of_lt_of_le (number_below_length s n e) (pow-le-pow_right {n = 10} (omega arith) (numeral s n e).few_bytes)
 
 -- It has 1 to 10 bytes, and lacks every byte below the digits.
-pub number_some : (s : List ℕ) (n : ℕ) → number_of s ≡ Number.Value n → 1 ≤ length s
+pub number_some : (s : List ℕ) (n : ℕ) → number_of s ≡ Some n → 1 ≤ length s
 number_some s n e = (numeral s n e).some_bytes
 
-pub number_few : (s : List ℕ) (n : ℕ) → number_of s ≡ Number.Value n → length s ≤ 10
+pub number_few : (s : List ℕ) (n : ℕ) → number_of s ≡ Some n → length s ≤ 10
 number_few s n e = (numeral s n e).few_bytes
 
-pub number_digits : (s : List ℕ) (n : ℕ) → number_of s ≡ Number.Value n → all_digits s ≡ true
+pub number_digits : (s : List ℕ) (n : ℕ) → number_of s ≡ Some n → all_digits s ≡ true
 number_digits s n e = (numeral s n e).digits
 
-pub number_lacks : (x : ℕ) → x < 48 → (s : List ℕ) (n : ℕ) → number_of s ≡ Number.Value n → lacks x s ≡ true
+pub number_lacks : (x : ℕ) → x < 48 → (s : List ℕ) (n : ℕ) → number_of s ≡ Some n → lacks x s ≡ true
 number_lacks x h s n e = digits_lack x s h (number_digits s n e)
 
 -- A number of at most ten digits is read back from its spelling.
@@ -76,7 +75,7 @@ unfolding has_leading_zero
 leading zero = rw (spelled_small 0 (omega arith))
 leading (suc n) = rw (ne_eqb (get_or (spelled_number (suc n)) 0 0) 48 (λ e. omega (arith, spelled_first (suc n) (omega arith)))) (and-false (ltb 1 (length (spelled_number (suc n)))))
 
-pub number_read_back : (n : ℕ) → n < 10 ^ 10 → number_of (spelled_number n) ≡ Number.Value n
+pub number_read_back : (n : ℕ) → n < 10 ^ 10 → number_of (spelled_number n) ≡ Some n
 unfolding number_of is_number
 number_read_back n h =
     simp (lt-ltb 0 (length (spelled_number n)) (spelled_nonempty n), le-leb (length (spelled_number n)) 10 (length_most 9 n h), leading n, spelled_digits n, spelled_value n)
@@ -115,7 +114,7 @@ spelled_again (b ∷ a ∷ s) h f e =
     let z : 0 < 0 * 10 + (b - 48) = omega (arith, eqb-false b 48 f₁) in
     from_digits (0 * 10 + (b - 48)) (a ∷ s) z (and_second (is_digit b) (is_digit a && all_digits s) e) ∙ rw (one_digit b d)
 
-pub number_one_spelling : (s : List ℕ) (n : ℕ) → number_of s ≡ Number.Value n → s ≡ spelled_number n
+pub number_one_spelling : (s : List ℕ) (n : ℕ) → number_of s ≡ Some n → s ≡ spelled_number n
 number_one_spelling s n e =
     let f = numeral s n e in
     sym (spelled_again s f.some_bytes f.first f.digits) ∙ ap spelled_number f.value

@@ -7,13 +7,6 @@ ghost use Rattle.std.specs.Prelude.{◌≡◌, ◌+◌, ◌≤◌, cond, nat_abs
 ghost use Rattle.std.proofs.lemmas.List.Edits.{sets};
 ghost use Rattle.decimal.specs.Spelling.{all_digits, digits_value, has_leading_zero, number_of, milliseconds_of, in_tenths, has_point, parts_of, length_of, sign_size, instant_of, spelled_number, spelled_length, signed, spelled, spelled_instant, spelled_in, written_length, written_output};
 
-// A number that was read, or a length in tenths. A well-formed one is below 10,000,000,000; the caller refuses it where it is out of range.
-#[derive(Clone, Copy)]
-pub enum Number {
-    Value(u64),
-    Malformed,
-}
-
 // A length on paper: how many bytes its whole milliseconds take, and the byte of its tenth.
 #[derive(Clone, Copy)]
 struct Parts {
@@ -21,31 +14,24 @@ struct Parts {
     tenth: u8,
 }
 
-// An instant that was read, in tenths. A well-formed one may exceed an i32; the caller refuses it as out of range.
-#[derive(Clone, Copy)]
-pub enum Instant {
-    Value(i64),
-    Malformed,
-}
-
 // The number that the whole slice spells, or Malformed. One pass over at most 10 bytes; a longer slice is refused unread.
-pub fn read_number(s: &[u8]) -> Number
+pub fn read_number(s: &[u8]) -> Option<u64>
     ensures { result ≡ number_of s.now }
 {
     if s.len() == 0 {
-        return Number::Malformed;
+        return None;
     }
     if 10 < s.len() {
-        return Number::Malformed;
+        return None;
     }
     if has_leading_zero(s) {
-        return Number::Malformed;
+        return None;
     }
     read_digits(s)
 }
 
 // The length that the whole slice spells, in tenths, or Malformed. One pass over at most 11 bytes.
-pub fn read_length(s: &[u8]) -> Number
+pub fn read_length(s: &[u8]) -> Option<u64>
     ensures { result ≡ length_of s.now }
 {
     let parts = parts_of(s);
@@ -54,21 +40,21 @@ pub fn read_length(s: &[u8]) -> Number
 }
 
 // The instant that the whole slice spells, in tenths, or Malformed. One pass over at most 12 bytes.
-pub fn read_instant(s: &[u8]) -> Instant
+pub fn read_instant(s: &[u8]) -> Option<i64>
     ensures { result ≡ instant_of s.now }
 {
     let from = sign_size(s);
     let n = read_length(&s[from..]);
-    let Number::Value(v) = n else {
-        return Instant::Malformed;
+    let Some(v) = n else {
+        return None;
     };
     if from == 0 {
-        return Instant::Value(v as i64);
+        return Some(v as i64);
     }
     if v == 0 {
-        return Instant::Malformed;
+        return None;
     }
-    Instant::Value(0 - (v as i64))
+    Some(0 - (v as i64))
 }
 
 // Writes the instant x, which is in tenths, at the front of the output, its minus, its point and one digit behind it included, and returns
@@ -139,23 +125,23 @@ pub fn integer_length(x: i32) -> usize
 }
 
 // Whole milliseconds and the byte b behind their point, in tenths, or Malformed. More than 9 digits are refused unread.
-fn read_tenths(s: &[u8], b: u8) -> Number
+fn read_tenths(s: &[u8], b: u8) -> Option<u64>
     ensures { result ≡ in_tenths (milliseconds_of s.now) b }
 {
     if 9 < s.len() {
-        return Number::Malformed;
+        return None;
     }
     let n = read_number(s);
-    let Number::Value(v) = n else {
-        return Number::Malformed;
+    let Some(v) = n else {
+        return None;
     };
     if b < b'0' {
-        return Number::Malformed;
+        return None;
     }
     if b'9' < b {
-        return Number::Malformed;
+        return None;
     }
-    Number::Value(v * 10 + wide(b - b'0'))
+    Some(v * 10 + wide(b - b'0'))
 }
 
 // How many bytes the minus takes in front of an instant: 1 or 0. Constant time.
@@ -249,24 +235,24 @@ fn write_length(m: u64, out: &mut [u8]) -> usize
 }
 
 // The number that the digits spell, leading zeros or not, or Malformed. At most 10 digits, so that no value wraps. One pass.
-fn read_digits(s: &[u8]) -> Number
+fn read_digits(s: &[u8]) -> Option<u64>
     requires { length s.now ≤ 10 }
-    ensures { result ≡ cond (all_digits s.now) (Number.Value (digits_value s.now)) Number.Malformed }
+    ensures { result ≡ cond (all_digits s.now) (Some (digits_value s.now)) None }
 {
     let mut value: u64 = 0;
     let mut i: usize = 0;
     while i < s.len() {
         let b = s[i];
         if b < b'0' {
-            return Number::Malformed;
+            return None;
         }
         if b'9' < b {
-            return Number::Malformed;
+            return None;
         }
         value = value * 10 + wide(b - b'0');
         i += 1;
     }
-    Number::Value(value)
+    Some(value)
 }
 
 // Whether the digit 0 comes first with more behind it. Constant time.

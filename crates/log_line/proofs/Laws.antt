@@ -18,8 +18,6 @@ use Rattle.interval.proofs.Machine.{same64}
 use Rattle.text.specs.Text.{index_of, fields}
 use Rattle.text.proofs.Laws.{index_le, lacks, index_lacks, index_cut, split_some, split_word, part_from}
 use Rattle.decimal.specs.Spelling.{number_of, instant_of}
-use Rattle.decimal.specs.declared.Number.{Number}
-use Rattle.decimal.specs.declared.Instant.{Instant}
 use Rattle.decimal.proofs.Laws.{number_lacks}
 use Rattle.decimal.proofs.Tenths.{instant_below, instant_lacks}
 use Rattle.chart.specs.Operators.{same_bytes, place_of}
@@ -32,19 +30,19 @@ use Rattle.log_line.specs.Log.{open_word, event_word, clock_word, forget_word, c
 
 -- what has a tab is no number and no instant
 module _ (s : List ℕ) (tab : index_of 9 s ≡ length s → ⊥) where
-  number_tab : number_of s ≡ Number.Malformed
+  number_tab : number_of s ≡ None
   number_tab = go (number_of s) refl
     where
-      go : (r : Number) → number_of s ≡ r → r ≡ Number.Malformed
-      go (Number.Value n) e = absurd (tab (index_lacks 9 s (number_lacks 9 (omega arith) s n e)))
-      go Number.Malformed e = refl
+      go : (r : Option ℕ) → number_of s ≡ r → r ≡ None
+      go (Some n) e = absurd (tab (index_lacks 9 s (number_lacks 9 (omega arith) s n e)))
+      go None e = refl
 
-  instant_tab : instant_of s ≡ Instant.Malformed
+  instant_tab : instant_of s ≡ None
   instant_tab = go (instant_of s) refl
     where
-      go : (r : Instant) → instant_of s ≡ r → r ≡ Instant.Malformed
-      go (Instant.Value z) e = absurd (tab (index_lacks 9 s (instant_lacks 9 (omega arith) s z e)))
-      go Instant.Malformed e = refl
+      go : (r : Option ℤ) → instant_of s ≡ r → r ≡ None
+      go (Some z) e = absurd (tab (index_lacks 9 s (instant_lacks 9 (omega arith) s z e)))
+      go None e = refl
 
   word_tab : (w : ℕ) → word_call w s ≡ Call.Malformed
   unfolding word_call event_call instant_call
@@ -69,7 +67,7 @@ word_at Word.Open s = refl
 word_at Word.Clock s = refl
 word_at Word.Forget s = refl
 
-pub no_instant : (w : Word) (s : List ℕ) → instant_of s ≡ Instant.Malformed → Call.Malformed ≡ word_call (place_among_words w) s
+pub no_instant : (w : Word) (s : List ℕ) → instant_of s ≡ None → Call.Malformed ≡ word_call (place_among_words w) s
 unfolding instant_call
 no_instant w s e = sym (word_at w s ∙ ap (instant_call (call_at w)) e)
 
@@ -77,7 +75,7 @@ fits64 : (z : ℤ) → nat_abs z < 10 ^ 10 → SFits w64 z
 fits64 (pos n) h = record { sfits = omega arith }
 fits64 (negsuc n) h = record { sfits = omega arith }
 
-pub at_instant : (w v : Word) (s : List ℕ) (z : ℤ) → w ≡ v → instant_of s ≡ Instant.Value z → call_at v (to_z w64 (of_z w64 z)) ≡ word_call (place_among_words w) s
+pub at_instant : (w v : Word) (s : List ℕ) (z : ℤ) → w ≡ v → instant_of s ≡ Some z → call_at v (to_z w64 (of_z w64 z)) ≡ word_call (place_among_words w) s
 unfolding instant_call
 at_instant w v s z d e = rw (d, same64 z (fits64 z (instant_below s z e))) (sym (word_at v s ∙ ap (instant_call (call_at v)) e))
 
@@ -198,19 +196,19 @@ other_field s w h e = go (same_bytes (take (index_of 9 s) s) w) refl
     go false q = refl
 
 -- the enum's answer is that of the line
-code_answer_lem : (n : Number) → answer_of (event_call n) ≡ code_answer n
+code_answer_lem : (n : Option ℕ) → answer_of (event_call n) ≡ code_answer n
 unfolding event_call code_answer
-code_answer_lem Number.Malformed = refl
-code_answer_lem (Number.Value k) = go (leb k 255)
+code_answer_lem None = refl
+code_answer_lem (Some k) = go (leb k 255)
   where
     go : (b : Bool) → answer_of (cond b (Call.Event k) Call.Malformed) ≡ cond b (taken_line 1 (pos k)) refused_line
     go true = refl
     go false = refl
 
-instant_answer_lem : (w : ℕ) (make : ℤ → Call) → ((z : ℤ) → answer_of (make z) ≡ taken_line w z) → (i : Instant) → answer_of (instant_call make i) ≡ instant_answer w i
+instant_answer_lem : (w : ℕ) (make : ℤ → Call) → ((z : ℤ) → answer_of (make z) ≡ taken_line w z) → (i : Option ℤ) → answer_of (instant_call make i) ≡ instant_answer w i
 unfolding instant_call instant_answer
-instant_answer_lem w make h Instant.Malformed = refl
-instant_answer_lem w make h (Instant.Value z) = h z
+instant_answer_lem w make h None = refl
+instant_answer_lem w make h (Some z) = h z
 
 word_answer_lem : (w : ℕ) (x : List ℕ) → w ≤ 4 → answer_of (word_call w x) ≡ word_answer w x
 unfolding word_call word_answer call_words

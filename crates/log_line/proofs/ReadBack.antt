@@ -15,8 +15,6 @@ use Rattle.text.specs.Text.{Line, whole, is_record, line_size, fields}
 use Rattle.text.proofs.Laws.{lacks, index_lacks, lacks_append, first_part}
 use Rattle.text.proofs.FirstLine.{line_front, lines_first, Unformed, long_line, last_line}
 use Rattle.decimal.specs.Spelling.{number_of, instant_of, spelled_number, spelled_instant}
-use Rattle.decimal.specs.declared.Number.{Number}
-use Rattle.decimal.specs.declared.Instant.{Instant}
 use Rattle.decimal.proofs.Laws.{number_read_back, spelled_number_lacks, fits_below}
 use Rattle.decimal.proofs.Tenths.{instants_hold, written_instant_lacks}
 use Rattle.chart.specs.Operators.{place_of}
@@ -61,19 +59,19 @@ CodeFits (Call.Event k) = leb k 255 ≡ true
 CodeFits (Call.Clock x) = Unit {0}
 CodeFits (Call.Forget f) = Unit {0}
 
-event_fits : (n : Number) → CodeFits (event_call n)
+event_fits : (n : Option ℕ) → CodeFits (event_call n)
 unfolding CodeFits event_call
-event_fits (Number.Value m) = go (leb m 255) refl
+event_fits (Some m) = go (leb m 255) refl
   where
     go : (b : Bool) → leb m 255 ≡ b → CodeFits (cond b (Call.Event m) Call.Malformed)
     go true d = d
     go false d = tt
-event_fits Number.Malformed = tt
+event_fits None = tt
 
-instant_fits_too : (make : ℤ → Call) → ((z : ℤ) → CodeFits (make z)) → (i : Instant) → CodeFits (instant_call make i)
+instant_fits_too : (make : ℤ → Call) → ((z : ℤ) → CodeFits (make z)) → (i : Option ℤ) → CodeFits (instant_call make i)
 unfolding CodeFits instant_call
-instant_fits_too make f (Instant.Value z) = f z
-instant_fits_too make f Instant.Malformed = tt
+instant_fits_too make f (Some z) = f z
+instant_fits_too make f None = tt
 
 word_fits : (w : ℕ) (x : List ℕ) → CodeFits (word_call w x)
 unfolding CodeFits word_call
@@ -116,11 +114,11 @@ instant_first w i make at p few by t e rest =
     let fit = instant_fits t e in
     let line = line_instant w t e in
     let n = spelled_instant t in
-    let read : instant_of n ≡ Instant.Value t = instants_hold.read_back t (fits_below t fit) in
+    let read : instant_of n ≡ Some t = instants_hold.read_back t (fits_below t fit) in
     let size = instant_line_few w t few in
     ap (λ l. calls_of (l ++ rest)) line ∙ word_first w n rest p (written_instant_lacks 10 (omega arith) t) (omega (arith, ap length line, size)) ∙ ap (λ c. c ∷ calls_of rest) (word_call_lem at n ∙ by n ∙ ap (instant_call make) read)
 
-taken : (k : ℕ) → leb k 255 ≡ true → event_call (Number.Value k) ≡ Call.Event k
+taken : (k : ℕ) → leb k 255 ≡ true → event_call (Some k) ≡ Call.Event k
 unfolding event_call
 taken k e = rw e
 
@@ -133,5 +131,5 @@ lines_read_back (Call.Forget f) e rest = instant_first forget_word 3 Call.Forget
 lines_read_back (Call.Event k) e rest =
     let h = leb-true k 255 e in
     let n = spelled_number k in
-    let read : number_of n ≡ Number.Value k = number_read_back k (omega arith) in
+    let read : number_of n ≡ Some k = number_read_back k (omega arith) in
     word_first event_word n rest refl (spelled_number_lacks 10 (omega arith) k) (event_line_few k (omega arith)) ∙ ap (λ c. c ∷ calls_of rest) (word_call_lem event_word_lem n ∙ ap event_call read ∙ taken k e)

@@ -7,8 +7,6 @@ use Rattle.interval.specs.Instants.{is_instant}
 use Rattle.text.specs.Text.{Line, lines, is_record, fields}
 use Rattle.text.specs.Output.{length_where, output_where}
 use Rattle.decimal.specs.Spelling.{number_of, instant_of, spelled_number, spelled_instant}
-use Rattle.decimal.specs.declared.Number.{Number}
-use Rattle.decimal.specs.declared.Instant.{Instant}
 use Rattle.chart.specs.Operators.{place_of}
 use Rattle.log_line.specs.declared.Call.{Call}
 use Rattle.log_line.specs.declared.Word.{Word}
@@ -29,14 +27,14 @@ unfoldable pub call_words : List (List ℕ)
 call_words = open_word ∷ event_word ∷ clock_word ∷ forget_word ∷ []
 
 -- "7 a log line not of its form, a code above 255"
-unfoldable pub event_call : Number → Call
-event_call (Number.Value k) = cond (leb k 255) (Call.Event k) Call.Malformed
-event_call Number.Malformed = Call.Malformed
+unfoldable pub event_call : Option ℕ → Call
+event_call (Some k) = cond (leb k 255) (Call.Event k) Call.Malformed
+event_call None = Call.Malformed
 
 -- the call that an instant makes, in its range or not
-unfoldable pub instant_call : (ℤ → Call) → Instant → Call
-instant_call make (Instant.Value z) = make z
-instant_call make Instant.Malformed = Call.Malformed
+unfoldable pub instant_call : (ℤ → Call) → Option ℤ → Call
+instant_call make (Some z) = make z
+instant_call make None = Call.Malformed
 
 -- the call of the word at place w of the words, with the field x behind it
 unfoldable pub word_call : ℕ → List ℕ → Call
@@ -103,13 +101,13 @@ answer_of (Call.Forget f) = taken_line 3 f
 
 -- The answer from the line alone, with no enum of calls: 7 unless it is one of the words, a tab, and behind `event` a code to 255, behind each other
 -- word an instant, as they are spelled.
-unfoldable pub code_answer : Number → LineAnswer
-code_answer (Number.Value k) = cond (leb k 255) (taken_line 1 (pos k)) refused_line
-code_answer Number.Malformed = refused_line
+unfoldable pub code_answer : Option ℕ → LineAnswer
+code_answer (Some k) = cond (leb k 255) (taken_line 1 (pos k)) refused_line
+code_answer None = refused_line
 
-unfoldable pub instant_answer : ℕ → Instant → LineAnswer
-instant_answer w (Instant.Value z) = taken_line w z
-instant_answer w Instant.Malformed = refused_line
+unfoldable pub instant_answer : ℕ → Option ℤ → LineAnswer
+instant_answer w (Some z) = taken_line w z
+instant_answer w None = refused_line
 
 unfoldable pub word_answer : ℕ → List ℕ → LineAnswer
 word_answer w x = cond (eqb w (length call_words)) refused_line (cond (eqb w 1) (code_answer (number_of x)) (instant_answer w (instant_of x)))

@@ -9,7 +9,6 @@ use native.Mathlib.Numerals.{add-one}
 use native.Mathlib.Nat.{lt_of_lt_of_le, pow-le-pow_right}
 use lib.ListN.{length, get_or, drop, drop_of_length-le}
 use lib.Seq.{drop-cons}
-use Rattle.decimal.specs.declared.Number.{Number}
 use Rattle.decimal.specs.Spelling.{is_digit, all_digits, value_from}
 use Rattle.decimal.proofs.Digits.{digit_below, below_digits, above_digits, in_digits}
 use Rattle.decimal.proofs.read_digits.Goals.{In-loop-i}
@@ -19,7 +18,7 @@ use Rattle.decimal.proofs.read_digits.Goals as goal
 -- what digits after a value n give
 
 module _ (s : List ℕ) (i n : ℕ) where
-  stop : i < length s → is_digit (get_or s i 0) ≡ false → carried n (drop i s) ≡ Number.Malformed
+  stop : i < length s → is_digit (get_or s i 0) ≡ false → carried n (drop i s) ≡ None
   unfolding all_digits
   stop h e = rw (drop-cons s i 0 h, e)
 
@@ -27,7 +26,7 @@ module _ (s : List ℕ) (i n : ℕ) where
   unfolding all_digits value_from
   more h e = rw (add-one i, drop-cons s i 0 h, e)
 
-  done : length s ≤ i → carried n (drop i s) ≡ Number.Value n
+  done : length s ≤ i → carried n (drop i s) ≡ Some n
   unfolding all_digits value_from
   done h = rw (drop_of_length-le s h)
 

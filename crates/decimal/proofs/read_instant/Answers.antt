@@ -14,8 +14,6 @@ use borrow.Author.Tests.{eq-eqb, ne_eqb}
 use Rattle.interval.proofs.Machine.{same64}
 use Rattle.text.proofs.Laws.{part_from}
 use Rattle.text.proofs.Written.{part}
-use Rattle.decimal.specs.declared.Number.{Number}
-use Rattle.decimal.specs.declared.Instant.{Instant}
 use Rattle.decimal.specs.Spelling.{length_of, instant_of, sign_size, without_minus, with_minus}
 use Rattle.decimal.proofs.Tenths.{length_below, sign_read, sign_within}
 use Rattle.decimal.proofs.Signs.{opposite, opposite_fits}
@@ -23,7 +21,7 @@ use Rattle.decimal.proofs.read_instant.Goals.{After-sign_size-from}
 use Rattle.decimal.proofs.read_instant.Goals as goal
 
 -- the length behind the sign, and the instant that it makes
-module _ (s : List ℕ) (from : ℕ) {r : Number} (e : r ≡ length_of (part s from)) where
+module _ (s : List ℕ) (from : ℕ) {r : Option ℕ} (e : r ≡ length_of (part s from)) where
   read : r ≡ length_of (drop from s)
   read = e ∙ ap length_of (part_from from s)
 
@@ -34,14 +32,14 @@ module _ (s : List ℕ) (from : ℕ) {r : Number} (e : r ≡ length_of (part s f
       ∙ ap (λ r. cond (eqb from 0) (without_minus r) (with_minus r)) (sym read)
 
   -- the number there
-  below : (v : ℕ) → r ≡ Number.Value v → v < 10 ^ 10
+  below : (v : ℕ) → r ≡ Some v → v < 10 ^ 10
   below v is = length_below _ _ (sym read ∙ is)
 
 within : (c : After-sign_size-from) → c.sign_size-from.result ≤ length c.args.s.now
 within c = rw c.sign_size-from.ensures (sign_within c.args.s.now)
 
 -- both answers for what is no length are one
-neither : (b : Bool) (r : Number) → r ≡ Number.Malformed → Instant.Malformed ≡ cond b (without_minus r) (with_minus r)
+neither : (b : Bool) (r : Option ℕ) → r ≡ None → None ≡ cond b (without_minus r) (with_minus r)
 unfolding without_minus with_minus
 neither true r e = rw e
 neither false r e = rw e

@@ -6,7 +6,6 @@ use Prim.Native.Nat.{ℕ, ◌<◌, ◌≤◌, ◌^◌}
 use native.Mathlib.Omega.{arith}
 use lib.ListN.{length}
 use borrow.Author.Tests.{lt-leb}
-use Rattle.decimal.specs.declared.Number.{Number}
 use Rattle.decimal.specs.Spelling.{number_of, milliseconds_of, in_tenths}
 use Rattle.decimal.proofs.Digits.{below_digits, above_digits, in_digits}
 use Rattle.decimal.proofs.Laws.{number_below}
@@ -14,14 +13,14 @@ use Rattle.decimal.proofs.Tenths.{milliseconds_short}
 use Rattle.decimal.proofs.read_tenths.Goals as goal
 
 -- the whole milliseconds are the number that was read
-module _ (s : List ℕ) {r : Number} (e : r ≡ number_of s) where
+module _ (s : List ℕ) {r : Option ℕ} (e : r ≡ number_of s) where
   whole : length s ≤ 9 → milliseconds_of s ≡ r
   whole h = milliseconds_short s h ∙ sym e
 
-  value : length s ≤ 9 → (v : ℕ) → r ≡ Number.Value v → milliseconds_of s ≡ Number.Value v
+  value : length s ≤ 9 → (v : ℕ) → r ≡ Some v → milliseconds_of s ≡ Some v
   value h v is = whole h ∙ is
 
-  below : (v : ℕ) → r ≡ Number.Value v → v < 10 ^ 10
+  below : (v : ℕ) → r ≡ Some v → v < 10 ^ 10
   below v is = number_below s v (sym e ∙ is)
 
 pub returns-then-s-gt9 : goal.returns-then-s-gt9

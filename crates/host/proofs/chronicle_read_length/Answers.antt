@@ -5,14 +5,13 @@ use native.Mathlib.Omega.{arith}
 use mir.Syntax.{w64}
 use mir.ValLaws.{to_z_pos}
 use Rattle.decimal.specs.Spelling.{length_of}
-use Rattle.decimal.specs.declared.Number.{Number}
 use Rattle.decimal.proofs.Tenths.{length_below, length_instant, no_length_instant}
 use Rattle.host.specs.Tenths.{tenths_of}
 use Rattle.host.proofs.chronicle_read_length.Goals.{In-Value}
 use Rattle.host.proofs.chronicle_read_length.Goals as goal
 
 -- the length that was read
-value : (c : In-Value) → length_of c.args.bytes.now ≡ Number.Value c.in-Value.v
+value : (c : In-Value) → length_of c.args.bytes.now ≡ Some c.in-Value.v
 value c = sym c.read_length-n.ensures ∙ c.in-Value.is
 
 below : (c : In-Value) → c.in-Value.v < 10 ^ 10

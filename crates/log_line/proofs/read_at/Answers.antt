@@ -1,14 +1,13 @@
 -- `read_at` meets its contract: what `read_instant` ensures, under the definition.
 use mathlib.Core.Path.{◌≡◌, sym, ◌∙◌}
 use Rattle.decimal.specs.Spelling.{instant_of}
-use Rattle.decimal.specs.declared.Instant.{Instant}
 use Rattle.log_line.specs.declared.Word.{Word}
 use Rattle.log_line.proofs.Laws.{at_instant, no_instant}
 use Rattle.log_line.proofs.read_at.Goals.{In-Value}
 use Rattle.log_line.proofs.read_at.Goals as goal
 
 -- the instant that was read
-value : (c : In-Value) → instant_of c.args.s.now ≡ Instant.Value c.in-Value.t
+value : (c : In-Value) → instant_of c.args.s.now ≡ Some c.in-Value.t
 value c = sym c.read_instant-i.ensures ∙ c.in-Value.is
 
 pub returns-in_default : goal.returns-in_default

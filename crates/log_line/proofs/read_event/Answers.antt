@@ -2,13 +2,12 @@
 use mathlib.Core.Path.{◌≡◌, sym, ap, ◌∙◌}
 use borrow.Author.Tests.{le-leb, lt-leb}
 use Rattle.decimal.specs.Spelling.{number_of}
-use Rattle.decimal.specs.declared.Number.{Number}
 use Rattle.log_line.specs.Log.{event_call, word_call}
 use Rattle.log_line.proofs.read_event.Goals.{In-Value}
 use Rattle.log_line.proofs.read_event.Goals as goal
 
 -- the number that was read
-value : (c : In-Value) → number_of c.args.s.now ≡ Number.Value c.in-Value.code
+value : (c : In-Value) → number_of c.args.s.now ≡ Some c.in-Value.code
 value c = sym c.read_number-n.ensures ∙ c.in-Value.is
 
 pub returns-in_default : goal.returns-in_default

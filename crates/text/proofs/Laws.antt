@@ -292,9 +292,9 @@ module _ (s : List ℕ) {n : ℕ} {r : Option ℕ} (m : n ≡ min (length s) 64)
   windowed =
       e ∙ ap (found_at 10)
       (⊎_elim
-        (λ h. take_all n s (omega arith) ∙ sym (take_all 64 s (omega arith)))
-        (λ h. let k : n ≡ 64 = omega arith in ap (λ n. take n s) k)
-        (lt_or_le (length s) 64))
+      (λ h. take_all n s (omega arith) ∙ sym (take_all 64 s (omega arith)))
+      (λ h. let k : n ≡ 64 = omega arith in ap (λ n. take n s) k)
+      (lt_or_le (length s) 64))
 
   pub window_some : (i : ℕ) → r ≡ Some i → (i < 64) × (Some (i + 1) ≡ line_size s)
   window_some i d =

@@ -7,6 +7,7 @@ ghost use Rattle.std.specs.Prelude.{◌≡◌, ◌+◌, ◌-◌, ◌≤◌, ℕ,
 ghost use Rattle.std.proofs.lemmas.List.Edits.{sets};
 ghost use Rattle.decimal.specs.Spelling.{is_digit, all_digits, digits_value, number_of, milliseconds_of, in_tenths, length_of, instant_of, spelled_number, spelled_length, signed, spelled, spelled_instant, written, written_output};
 
+#[tactic(auto, unfolding(crate::specs::Spelling::number_of, crate::specs::Spelling::is_number, crate::specs::Spelling::has_leading_zero))]
 // The number that the whole slice spells. One pass over at most 10 bytes; a longer slice is refused unread.
 pub fn read_number(s: &[u8]) -> Option<u64>
     ensures { result ≡ number_of s.now }
@@ -18,6 +19,7 @@ pub fn read_number(s: &[u8]) -> Option<u64>
     }
 }
 
+#[tactic(auto, unfolding(crate::specs::Spelling::length_of, crate::specs::Spelling::has_point))]
 // The length that the whole slice spells, in tenths. One pass over at most 11 bytes.
 pub fn read_length(s: &[u8]) -> Option<u64>
     ensures { result ≡ length_of s.now }
@@ -28,6 +30,7 @@ pub fn read_length(s: &[u8]) -> Option<u64>
     }
 }
 
+#[tactic(auto, unfolding(crate::specs::Spelling::instant_of, crate::specs::Spelling::without_minus, crate::specs::Spelling::with_minus))]
 // The instant that the whole slice spells, in tenths. One pass over at most 12 bytes.
 pub fn read_instant(s: &[u8]) -> Option<i64>
     ensures { result ≡ instant_of s.now }
@@ -137,6 +140,7 @@ fn write_signed<T: Spelled>(z: i32, magnitude: T, out: &mut [u8]) -> Option<usiz
     Some(n + 1)
 }
 
+#[tactic(auto, unfolding(crate::specs::Spelling::milliseconds_of, crate::specs::Spelling::in_tenths))]
 // Whole milliseconds and the byte b behind their point, in tenths. More than 9 digits are refused unread.
 fn read_tenths(s: &[u8], b: u8) -> Option<u64>
     ensures { result ≡ in_tenths (milliseconds_of s.now) b }
@@ -160,6 +164,7 @@ fn read_digits(s: &[u8]) -> Option<u64>
 }
 
 // The digit that a byte is. Constant time.
+#[tactic(auto, unfolding(crate::specs::Spelling::is_digit))]
 fn digit_of(b: u8) -> Option<u64>
     ensures { result ≡ cond (is_digit b) (Some (b - 48)) None }
 {
@@ -173,5 +178,5 @@ fn digit_of(b: u8) -> Option<u64>
 fn digit_count(m: u64) -> usize
     ensures { result ≡ length (spelled_number m) }
 {
-    m.checked_ilog10().map_or(1, |k| k as usize + 1)
+    m.max(1).ilog10() as usize + 1
 }

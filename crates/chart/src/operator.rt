@@ -1,11 +1,11 @@
 // The operators of a chart: their words, their codes, and what each asks of its operands.
-ghost use Rattle.std.specs.Prelude.{◌≡◌, ◌<◌, get_or, []};
-ghost use Rattle.chart.specs.Operators.{words, padded_words, word_lengths, same_bytes, operator_of, edges_of, relation_of, length_test_of, later_kind_of, kind_of, shape_of, takes_length, in_range, are_lower};
+ghost use Rattle.std.specs.Prelude.{◌≡◌};
+ghost use Rattle.chart.specs.Operators.{operator_of, edges_of, relation_of, length_test_of, later_kind_of, kind_of, shape_of, takes_length, in_range, are_lower};
 
 use interval::{Edges, LengthTest, Nearest, Relation};
 
 // What an operator code stands for.
-#[derive(Clone, Copy)]
+#[derive(Clone, Copy, PartialEq, Eq)]
 pub enum Kind {
     Event,
     Or,
@@ -18,7 +18,7 @@ pub enum Kind {
 }
 
 // How a row of an operator refers to other rows.
-#[derive(Clone, Copy)]
+#[derive(Clone, Copy, PartialEq, Eq)]
 pub enum Shape {
     Leaf, // an event's: a serial, no reference
     Single, // one reference, on the left
@@ -27,45 +27,35 @@ pub enum Shape {
     Delayed, // one reference, on the left, to a row that ended a wait earlier
 }
 
-// The operator words in the order of their codes, each padded to 8 bytes, and their lengths.
-const WORDS: [u8; 160] =
-    *b"event   seq     or      and     -[]     -][     -[[     -]]     meets   overlapsstarts  during  finishesequals  lasts   atmost  atleast after   cut     change  ";
+// The operator words in the order of their codes.
+const WORDS: [&[u8]; 20] = [
+    b"event",
+    b"seq",
+    b"or",
+    b"and",
+    b"-[]",
+    b"-][",
+    b"-[[",
+    b"-]]",
+    b"meets",
+    b"overlaps",
+    b"starts",
+    b"during",
+    b"finishes",
+    b"equals",
+    b"lasts",
+    b"atmost",
+    b"atleast",
+    b"after",
+    b"cut",
+    b"change",
+];
 
-const LENGTHS: [usize; 20] = [5, 3, 2, 3, 3, 3, 3, 3, 5, 8, 6, 6, 8, 6, 5, 6, 7, 5, 3, 6];
-
-// The code of the operator with this word, or 20 where no operator has it. At most 20 comparisons of lengths, and the bytes of those that agree.
-pub fn operator_of(s: &[u8]) -> u8
+// The code of the operator with this word. At most 20 comparisons of lengths, and the bytes of those that agree.
+pub fn operator_of(s: &[u8]) -> Option<u8>
     ensures { result ≡ operator_of s.now }
 {
-    let letters = WORDS;
-    let sizes = LENGTHS;
-    let mut i: u8 = 0;
-    while i < 20 {
-        if is_word(s, i as usize, &letters, &sizes) {
-            return i;
-        }
-        i += 1;
-    }
-    i
-}
-
-// Whether s is the word of code i. The tables are lent, since a constant is laid out anew wherever it is indexed.
-fn is_word(s: &[u8], i: usize, letters: &[u8; 160], sizes: &[usize; 20]) -> bool
-    requires { (i < 20) × (letters.now ≡ padded_words) × (sizes.now ≡ word_lengths) }
-    ensures { result ≡ same_bytes s.now (get_or words i []) }
-{
-    let n = sizes[i];
-    if s.len() != n {
-        return false;
-    }
-    let mut k: usize = 0;
-    while k < n {
-        if s[k] != letters[i * 8 + k] {
-            return false;
-        }
-        k += 1;
-    }
-    true
+    WORDS.iter().position(|word| *word == s).map(|i| i as u8)
 }
 
 // What an operator code stands for, by one match with ranges.
@@ -151,16 +141,7 @@ pub fn shape_of(k: Kind) -> Shape
 pub fn takes_length(k: Kind) -> bool
     ensures { result ≡ takes_length k }
 {
-    match k {
-        Kind::Event => false,
-        Kind::Or => false,
-        Kind::Pair(_) => false,
-        Kind::Absence(_) => false,
-        Kind::Length(_) => true,
-        Kind::After => true,
-        Kind::Nearest(_) => false,
-        Kind::Unknown => false,
-    }
+    matches!(k, Kind::Length(_) | Kind::After)
 }
 
 // Whether an event's code or a length is in its range; an event has no second operand.
@@ -169,12 +150,8 @@ pub fn in_range(k: Kind, a: u64, b: u64) -> bool
 {
     match k {
         Kind::Event => (a <= 255) & (b == 0),
-        Kind::Or => true,
-        Kind::Pair(_) => true,
-        Kind::Absence(_) => true,
-        Kind::Length(_) => interval::is_length(b),
-        Kind::After => interval::is_length(b),
-        Kind::Nearest(_) => true,
+        Kind::Length(_) | Kind::After => interval::is_length(b),
+        Kind::Or | Kind::Pair(_) | Kind::Absence(_) | Kind::Nearest(_) => true,
         Kind::Unknown => false,
     }
 }
@@ -183,15 +160,10 @@ pub fn in_range(k: Kind, a: u64, b: u64) -> bool
 pub fn are_lower(k: Kind, n: u64, a: u64, b: u64) -> bool
     ensures { result ≡ are_lower k n a b }
 {
-    let both = (a < n) & (b < n);
     match k {
         Kind::Event => true,
-        Kind::Or => both,
-        Kind::Pair(_) => both,
-        Kind::Absence(_) => both,
-        Kind::Length(_) => a < n,
-        Kind::After => a < n,
-        Kind::Nearest(_) => both,
+        Kind::Length(_) | Kind::After => a < n,
+        Kind::Or | Kind::Pair(_) | Kind::Absence(_) | Kind::Nearest(_) => (a < n) & (b < n),
         Kind::Unknown => false,
     }
 }

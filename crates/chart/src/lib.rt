@@ -54,6 +54,7 @@ pub struct Verdict {
 impl From<Result<Chart, Fault>> for ChartAnswer {
     ghost from_gives = { λ r a. a ≡ read_answer r };
 
+    #[tactic(auto, unfolding(crate::specs::Charts::refused_chart))]
     fn from(r: Result<Chart, Fault>) -> ChartAnswer {
         match r {
             Ok(chart) => ChartAnswer {
@@ -73,6 +74,7 @@ impl From<Result<Chart, Fault>> for ChartAnswer {
 impl From<Result<Chart, Fault>> for Verdict {
     ghost from_gives = { λ r v. v ≡ verdict_of (read_answer r) };
 
+    #[tactic(auto, unfolding(crate::specs::Charts::refused_chart))]
     fn from(r: Result<Chart, Fault>) -> Verdict {
         match r {
             Ok(_) => Verdict {
@@ -89,6 +91,7 @@ impl From<Result<Chart, Fault>> for Verdict {
 
 impl Chart {
     // Puts an entry behind the last.
+    #[tactic(auto, unfolding(crate::specs::Charts::with_entry))]
     fn push(&mut self, e: Entry)
         requires { self.old.count < 32 }
         ensures { self.new ≡ with_entry self.old e }
@@ -98,6 +101,7 @@ impl Chart {
     }
 }
 
+#[tactic(auto, unfolding(crate::specs::Charts::no_entries))]
 pub fn no_entries() -> Chart
     ensures { result ≡ no_entries }
 {
@@ -160,6 +164,7 @@ pub fn add_line(chart: Chart, s: &[u8]) -> Result<Chart, Fault>
 }
 
 // Whether entry n of a chart is as the operator table has it.
+#[tactic(auto, unfolding(crate::specs::Charts::entry_fits))]
 pub fn entry_fits(e: Entry, n: usize) -> bool
     ensures { result ≡ entry_fits n e }
 {

@@ -55,10 +55,11 @@ const WORDS: [&[u8]; 20] = [
 pub fn operator_of(s: &[u8]) -> Option<u8>
     ensures { result ≡ operator_of s.now }
 {
-    WORDS.iter().position(|word| *word == s).map(|i| i as u8)
+    WORDS.iter().position(|word| s == *word).map(|i| i as u8)
 }
 
 // What an operator code stands for, by one match with ranges.
+#[tactic(auto, unfolding(crate::specs::Operators::kind_of))]
 pub fn kind_of(op: u8) -> Kind
     ensures { result ≡ kind_of op }
 {
@@ -87,6 +88,7 @@ fn later_kind_of(op: u8) -> Kind
     }
 }
 
+#[tactic(auto, unfolding(crate::specs::Operators::edges_of))]
 fn edges_of(op: u8) -> Edges
     ensures { result ≡ edges_of op }
 {
@@ -98,6 +100,7 @@ fn edges_of(op: u8) -> Edges
     }
 }
 
+#[tactic(auto, unfolding(crate::specs::Operators::relation_of))]
 fn relation_of(op: u8) -> Relation
     ensures { result ≡ relation_of op }
 {
@@ -111,6 +114,7 @@ fn relation_of(op: u8) -> Relation
     }
 }
 
+#[tactic(auto, unfolding(crate::specs::Operators::length_test_of))]
 fn length_test_of(op: u8) -> LengthTest
     ensures { result ≡ length_test_of op }
 {
@@ -145,6 +149,7 @@ pub fn takes_length(k: Kind) -> bool
 }
 
 // Whether an event's code or a length is in its range; an event has no second operand.
+#[tactic(auto, unfolding(crate::specs::Operators::in_range))]
 pub fn in_range(k: Kind, a: u64, b: u64) -> bool
     ensures { result ≡ in_range k a b }
 {
@@ -157,6 +162,7 @@ pub fn in_range(k: Kind, a: u64, b: u64) -> bool
 }
 
 // Whether the operands are lower entry numbers than n.
+#[tactic(auto, unfolding(crate::specs::Operators::are_lower))]
 pub fn are_lower(k: Kind, n: u64, a: u64, b: u64) -> bool
     ensures { result ≡ are_lower k n a b }
 {

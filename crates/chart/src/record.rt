@@ -36,6 +36,7 @@ fn read_fields(s: &[u8]) -> Option<Fields>
 }
 
 // A second operand: a length, or the number of an entry.
+#[tactic(auto, unfolding(crate::specs::Records::second_of))]
 fn read_second(k: Kind, s: &[u8]) -> Option<u64>
     ensures { result ≡ second_of k s.now }
 {
@@ -47,6 +48,7 @@ fn read_second(k: Kind, s: &[u8]) -> Option<u64>
 }
 
 // The entry that a line asks for, where n entries stand before it. Refusals 4, 6 and 5, in this order.
+#[tactic(auto, unfolding(crate::specs::Records::checked_entry))]
 fn check_entry(n: u64, line: Fields) -> Result<Entry, Refusal>
     requires { n ≤ 32 }
     ensures { result ≡ checked_entry n line }
@@ -69,6 +71,7 @@ fn check_entry(n: u64, line: Fields) -> Result<Entry, Refusal>
 }
 
 // The same from its bytes, without its byte 10.
+#[tactic(auto, unfolding(crate::specs::Records::checked_line))]
 fn read_entry(n: usize, s: &[u8]) -> Result<Entry, Refusal>
     requires { n ≤ 32 }
     ensures { result ≡ checked_line n (parsed_line (fields s.now)) }
@@ -78,6 +81,7 @@ fn read_entry(n: usize, s: &[u8]) -> Result<Entry, Refusal>
 }
 
 // The entry of the first line of s, where n entries stand before it, and the line's size.
+#[tactic(auto, unfolding(crate::specs::Records::first_answer, crate::specs::Records::sized_answer, crate::specs::Records::with_size))]
 pub(crate) fn read_first(n: usize, s: &[u8]) -> Result<(Entry, usize), Refusal>
     ensures { result ≡ first_answer n s.now }
 {
@@ -89,6 +93,7 @@ pub(crate) fn read_first(n: usize, s: &[u8]) -> Result<(Entry, usize), Refusal>
 }
 
 // A line that has its byte 10 and stands in s without it, where n entries stand before it. A line of 64 bytes or more is refused unread.
+#[tactic(auto, unfolding(crate::specs::Records::answer_to))]
 pub(crate) fn read_whole(n: usize, s: &[u8]) -> Result<Entry, Refusal>
     requires { n < 32 }
     ensures { result ≡ answer_to n (whole s.now) }

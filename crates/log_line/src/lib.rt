@@ -68,10 +68,11 @@ pub fn write_call(call: Call, out: &mut [u8]) -> Option<usize>
 }
 
 // The number as an instant, where it is one.
+#[tactic(auto, using(interval::proofs::Machine::instant_fits))]
 fn as_instant(t: i64) -> Option<Instant>
     ensures { result ≡ cond (is_instant t) (Some (record { 0 = t })) None }
 {
-    interval::is_instant(t).then(|| Instant(t as i32))
+    i32::try_from(t).ok().filter(|&t| interval::is_instant(t)).map(Instant)
 }
 
 // Writes a word with its tab, what is behind it, and byte 10.

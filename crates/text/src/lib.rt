@@ -21,7 +21,8 @@ const LINE_SIZE: usize = 64;
 pub fn line_size(s: &[u8]) -> Option<usize>
     ensures { result ≡ line_size s.now }
 {
-    find(&s[..s.len().min(LINE_SIZE)], b'\n').map(|end| end + 1)
+    let end = find(&s[..s.len().min(LINE_SIZE)], b'\n')?;
+    Some(end + 1)
 }
 
 // Writes the bytes of s at a place of the output, each once, and returns the place behind them.

@@ -120,6 +120,7 @@ pub fn read(s: &[u8]) -> Result<Chart, Fault>
 }
 
 // Reads lines whose entries go on from the chart's last. Linear in the bytes of the lines up to the 33rd entry's; what follows is not looked at.
+#[tactic(auto, using(crate::proofs::Added::step_refused))]
 pub fn read_added(chart: Chart, s: &[u8]) -> Result<Chart, Fault>
     ensures { added_answer chart result ≡ read_added chart s.now }
 {
@@ -146,6 +147,7 @@ pub fn read_added(chart: Chart, s: &[u8]) -> Result<Chart, Fault>
 
 // Adds the entry of one more line, s without its byte 10, to the chart. Each byte of a line of at most 63 is looked at twice at most;
 // a longer line is refused unread. The rest of the cost is constant.
+#[tactic(auto, using(crate::proofs::Charts::add_full, crate::proofs::Charts::add_refused, crate::proofs::Charts::add_taken))]
 pub fn add_line(chart: Chart, s: &[u8]) -> Result<Chart, Fault>
     ensures { read_answer result ≡ add_line chart s.now }
 {
@@ -175,14 +177,13 @@ pub fn entry_fits(e: Entry, n: usize) -> bool
 }
 
 // Whether a watch may use the chart; where not, calls on a watch refuse it with 14. One look at each entry.
+#[tactic(auto, using(crate::proofs::Charts::usable_none, crate::proofs::Charts::usable_over))]
 pub fn is_usable(chart: Chart) -> bool
     ensures { result ≡ is_usable chart }
 {
     let n = chart.count;
-    1 <= n
-        && n <= 32
-        && chart.entries[..n]
-            .iter()
-            .enumerate()
-            .all(|(i, e)| entry_fits(*e, i))
+    if n == 0 || n > 32 {
+        return false;
+    }
+    chart.entries[..n].iter().enumerate().all(|(i, e)| entry_fits(*e, i))
 }

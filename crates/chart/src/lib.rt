@@ -113,6 +113,7 @@ pub fn no_entries() -> Chart
 }
 
 // Reads a chart on paper. Linear in the bytes of the first 33 lines; what follows is not looked at.
+#[tactic(auto, using(crate::proofs::Parts::read_whole, crate::proofs::Parts::answer_whole))]
 pub fn read(s: &[u8]) -> Result<Chart, Fault>
     ensures { read_answer result ≡ read_chart s.now }
 {

@@ -51,26 +51,6 @@ pub struct Verdict {
     pub line: u32,
 }
 
-impl From<Result<Chart, Fault>> for ChartAnswer {
-    ghost from_gives = { λ r a. a ≡ read_answer r };
-
-    #[tactic(auto, unfolding(crate::specs::Charts::refused_chart))]
-    fn from(r: Result<Chart, Fault>) -> ChartAnswer {
-        match r {
-            Ok(chart) => ChartAnswer {
-                refusal: 0,
-                line: 0,
-                chart,
-            },
-            Err(f) => ChartAnswer {
-                refusal: f.refusal.number(),
-                line: f.line,
-                chart: no_entries(),
-            },
-        }
-    }
-}
-
 impl From<Result<Chart, Fault>> for Verdict {
     ghost from_gives = { λ r v. v ≡ verdict_of (read_answer r) };
 
@@ -85,6 +65,20 @@ impl From<Result<Chart, Fault>> for Verdict {
                 refusal: f.refusal.number(),
                 line: f.line,
             },
+        }
+    }
+}
+
+impl From<Result<Chart, Fault>> for ChartAnswer {
+    ghost from_gives = { λ r a. a ≡ read_answer r };
+
+    #[tactic(auto, unfolding(crate::specs::Charts::refused_chart))]
+    fn from(r: Result<Chart, Fault>) -> ChartAnswer {
+        let Verdict { refusal, line } = Verdict::from(r);
+        ChartAnswer {
+            refusal,
+            line,
+            chart: r.unwrap_or(no_entries()),
         }
     }
 }
@@ -149,7 +143,7 @@ pub fn read_added(chart: Chart, s: &[u8]) -> Result<Chart, Fault>
 // Adds the entry of one more line, s without its byte 10, to the chart. Each byte of a line of at most 63 is looked at twice at most;
 // a longer line is refused unread. The rest of the cost is constant.
 #[tactic(auto, using(crate::proofs::Charts::add_full, crate::proofs::Charts::add_refused, crate::proofs::Charts::add_taken))]
-pub fn add_line(chart: Chart, s: &[u8]) -> Result<Chart, Fault>
+pub fn add_line(mut chart: Chart, s: &[u8]) -> Result<Chart, Fault>
     ensures { read_answer result ≡ add_line chart s.now }
 {
     let n = chart.count;
@@ -161,9 +155,8 @@ pub fn add_line(chart: Chart, s: &[u8]) -> Result<Chart, Fault>
     }
     let line = n as u32 + 1;
     let entry = record::read_whole(n, s).map_err(|refusal| Fault { refusal, line })?;
-    let mut longer = chart;
-    longer.push(entry);
-    Ok(longer)
+    chart.push(entry);
+    Ok(chart)
 }
 
 // Whether entry n of a chart is as the operator table has it.
@@ -186,5 +179,8 @@ pub fn is_usable(chart: Chart) -> bool
     if n == 0 || n > 32 {
         return false;
     }
-    chart.entries[..n].iter().enumerate().all(|(i, e)| entry_fits(*e, i))
+    chart.entries[..n]
+        .iter()
+        .enumerate()
+        .all(|(i, e)| entry_fits(*e, i))
 }

@@ -9,7 +9,7 @@ use refusal::Refusal;
 
 // What stands in a line: entry number, operator code, operands. An event's second operand is 0.
 #[derive(Clone, Copy)]
-pub(crate) struct Fields {
+struct Fields {
     number: u64,
     op: u8,
     a: u64,

@@ -10,7 +10,7 @@ invariant-loop-rest l = record {
   size : length l.longer.entries ≡ 32;
   few : length l.rest < length l.fn.s → l.longer.count ≤ 32;
   line : l.line + l.fn.chart.count ≡ l.longer.count + 1;
-  goes : goes_on l.fn.chart l.longer l.line (lines l.rest) ≡ read_added l.fn.chart l.fn.s
+  goes : goes_on l.fn.chart l.longer l.line (lines l.rest) ≡ read_added l.fn.chart l.fn.s;
 }
 
 abbrev pub decreases-loop-rest : goal.decreases-loop-rest

@@ -4,15 +4,17 @@ use Prim.Native.Nat.{ℕ, zero, suc, ◌+◌, ◌-◌, ◌^◌, ◌≤◌, ◌<�
 use native.Mathlib.Omega.{arith}
 use native.Mathlib.Numerals.{add-one}
 use mathlib.Core.Path.{◌≡◌, refl, sym, ap, ◌∙◌}
-use mathlib.Core.Bool.{Bool, true, false, cond, ◌&&◌}
+use mathlib.Core.Bool.{Bool, true, false, cond, true≢false}
 use mathlib.Core.List.{List, [], ◌∷◌, ◌++◌, append_assoc}
 use mathlib.Core.Logic.{◌≢◌}
 use borrow.Author.Tests.{eqb-true, eqb-false}
 use lib.Dec.{eqb, leb}
 use lib.IntN.{ℤ, pos}
-use lib.ListN.{length, get_or, take, drop, drop_of_length-le}
-use lib.Seq.{drop-cons}
-use Rattle.std.specs.Prelude.{Option, Some, None}
+use lib.ListN.{length, get_or, take, drop, take-append-drop}
+use lib.Seq.{take-append_seam}
+use Rattle.std.specs.Str.{bytes_eq}
+use Rattle.std.proofs.lemmas.Slice.Eq.{bytes_eq-Decides}
+use Rattle.std.specs.Prelude.{Option, Some, None, MatchOption, IsSomeAnd}
 use Rattle.interval.proofs.Signed.{never}
 use Rattle.text.specs.Text.{index_of, fields}
 use Rattle.text.proofs.Laws.{index_le, lacks, index_lacks, index_cut, split_some, split_word, part_from}
@@ -151,14 +153,35 @@ fields_answer_lem (w ∷ []) = refl
 fields_answer_lem (w ∷ x ∷ []) = word_answer_lem (place_of w call_words) x (place_le w call_words)
 fields_answer_lem (w ∷ x ∷ y ∷ ys) = refl
 
-pub answered : (s : List ℕ) → answer_of (call_of s) ≡ line_answer s
+pub answered : (s : List ℕ) (r : Option Call) → call_of s ≡ r → (r ≡ call_of s) × (answer_of r ≡ line_answer s)
 unfolding call_of line_answer
-answered s = fields_answer_lem (fields s)
+answered s r e = (sym e, sym (ap answer_of e) ∙ fields_answer_lem (fields s))
 
 -- a word, its tab and a field behind them
 pub word_call_lem : {n : ℕ} {w : List ℕ} → WordAt n w → (t : List ℕ) → call_of (w ++ 9 ∷ t) ≡ word_call n t
 unfolding call_of
 word_call_lem {n} {w} p t = ap fields_call (split_word 9 w t (index_lacks 9 w p.untabbed)) ∙ behind_word w t ∙ ap (λ k. word_call k t) p.place
+
+-- a line that begins with a word and its tab, and what is behind them
+pub word_found : {n : ℕ} {w : List ℕ} → WordAt n w → (s rest : List ℕ) → bytes_eq (take (length (tabbed w)) s) (tabbed w) ≡ true → rest ≡ drop (length (tabbed w)) s → call_of s ≡ word_call n rest
+word_found {n} {w} p s rest e d =
+    let front = (bytes_eq-Decides (take (length (tabbed w)) s) (tabbed w)).0 e in
+    let cut : s ≡ w ++ 9 ∷ rest = sym (take-append-drop (length (tabbed w)) s) ∙ ap (λ l. l ++ drop (length (tabbed w)) s) front ∙ ap (λ l. tabbed w ++ l) (sym d) ∙ append_assoc w (9 ∷ []) rest in
+    ap call_of cut ∙ word_call_lem p rest
+
+-- and one that does not
+pub word_missed : (s w : List ℕ) → bytes_eq (take (length (tabbed w)) s) (tabbed w) ≡ false → (rest : List ℕ) → s ≢ tabbed w ++ rest
+word_missed s w e rest d = true≢false (sym ((bytes_eq-Decides (take (length (tabbed w)) s) (tabbed w)).1 (ap (take (length (tabbed w))) d ∙ take-append_seam (tabbed w) rest)) ∙ e)
+
+-- what `map` makes of an instant that was read
+pub instant_mapped : (make : ℤ → Call) (i : Option ℤ) {r : Option Call} → MatchOption i (r ≡ None) (λ z. IsSomeAnd r (λ c. c ≡ make z)) → instant_call make i ≡ r
+unfolding instant_call
+instant_mapped make None h = sym h
+instant_mapped make (Some z) {r} h = go r h
+  where
+    go : (r : Option Call) → IsSomeAnd r (λ c. c ≡ make z) → Some (make z) ≡ r
+    go (Some c) e = ap Some (sym e)
+    go None e = absurd e
 
 -- a line with no word and tab in front
 pub no_call : (s : List ℕ) → ((rest : List ℕ) → s ≢ tabbed open_word ++ rest) → ((rest : List ℕ) → s ≢ tabbed event_word ++ rest) → ((rest : List ℕ) → s ≢ tabbed clock_word ++ rest) → ((rest : List ℕ) → s ≢ tabbed forget_word ++ rest) → call_of s ≡ None

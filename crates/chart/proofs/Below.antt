@@ -5,16 +5,16 @@ use native.Mathlib.Numerals.{add-one}
 use native.Mathlib.Decide.{ℕ_discrete}
 use mathlib.Core.Path.{◌≡◌, refl, sym, ◌∙◌}
 use mathlib.Core.Bool.{Bool, true, false}
-use Rattle.interval.proofs.Signed.{never, and_first, and_second}
+use Rattle.std.proofs.lemmas.Bool.{and_parts, false_from_ne_true, both_ways}
 use Rattle.chart.specs.Charts.{all_below}
 
 pub at_place : (n : ℕ) (p : ℕ → Bool) → all_below n p ≡ true → (i : ℕ) → i < n → p i ≡ true
 unfolding all_below
 at_place zero p e i h = absurd (omega arith)
-at_place (suc n) p e i h = go (ℕ_discrete i n) (at_place n p (and_second (p n) (all_below n p) e) i)
+at_place (suc n) p e i h = go (ℕ_discrete i n) (at_place n p (and_parts _ _ e).1 i)
   where
     go : Dec (i ≡ n) → (i < n → p i ≡ true) → p i ≡ true
-    go (yes q) f = rw q (and_first (p n) (all_below n p) e)
+    go (yes q) f = rw q (and_parts _ _ e).0
     go (no q) f = f (omega arith)
 
 pub none_below : (p : ℕ → Bool) → all_below 0 p ≡ true
@@ -32,11 +32,7 @@ all_below_lem (suc n) p h = rw (h n (omega arith), all_below_lem n p (λ i g. h 
 
 -- one fails
 pub not_all : (n : ℕ) (p : ℕ → Bool) (i : ℕ) → i < n → p i ≡ false → all_below n p ≡ false
-not_all n p i h e = go (all_below n p) refl
-  where
-    go : (t : Bool) → all_below n p ≡ t → t ≡ false
-    go true q = never (sym e ∙ at_place n p q i h)
-    go false q = refl
+not_all n p i h e = false_from_ne_true _ (λ q. both_ways _ e (at_place n p q i h))
 
 -- the same test, said otherwise
 pub same_below : (n : ℕ) (p q : ℕ → Bool) → ((i : ℕ) → i < n → p i ≡ q i) → all_below n p ≡ all_below n q

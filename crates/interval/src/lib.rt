@@ -78,6 +78,7 @@ impl Tenths for i64 {
 }
 
 // Whether x is in the range of the instants.
+#[tactic(auto, unfolding(crate::specs::Instants::is_instant))]
 pub fn is_instant<T: Tenths>(x: T) -> bool
     ensures { result ≡ is_instant (T.tenths x) }
 {
@@ -86,6 +87,7 @@ pub fn is_instant<T: Tenths>(x: T) -> bool
 }
 
 // Whether d is in the range of the lengths; as wide as numbers are read.
+#[tactic(auto, unfolding(crate::specs::Instants::is_length))]
 pub fn is_length(d: u64) -> bool
     ensures { result ≡ is_length d }
 {
@@ -95,6 +97,7 @@ pub fn is_length(d: u64) -> bool
 // The floor of a watch before any forget: the least instant.
 const FIRST_FLOOR: i32 = -1000000000;
 
+#[tactic(auto, unfolding(crate::specs::Instants::first_floor))]
 pub fn first_floor() -> i32
     ensures { result ≡ first_floor }
 {
@@ -102,6 +105,7 @@ pub fn first_floor() -> i32
 }
 
 // Whether a clock mark at x is refused while `opened` is the open instant: it is out of range or not after it.
+#[tactic(auto, unfolding(crate::specs::Instants::is_mark_refused))]
 pub fn is_mark_refused<T: Tenths>(opened: T, x: T) -> bool
     ensures { result ≡ is_mark_refused (T.tenths opened) (T.tenths x) }
 {
@@ -109,6 +113,7 @@ pub fn is_mark_refused<T: Tenths>(opened: T, x: T) -> bool
 }
 
 // Whether a forget of what starts before f is refused: f is below the floor, above the open instant or out of range.
+#[tactic(auto, unfolding(crate::specs::Instants::is_forget_refused))]
 pub fn is_forget_refused(floor: i32, opened: i32, f: i32) -> bool
     ensures { result ≡ is_forget_refused floor opened f }
 {
@@ -152,6 +157,7 @@ pub fn least_delayed(end: i32, d: u32, limit: i32) -> i32
 }
 
 // Whether the interval r, from rs to re, and the interval s, from ss to se, meet the condition of the operator c.
+#[tactic(auto, unfolding(crate::specs::Conditions::is_related))]
 pub fn is_related(c: Relation, rs: i32, re: i32, ss: i32, se: i32) -> bool
     ensures { result ≡ is_related c rs re ss se }
 {
@@ -168,6 +174,7 @@ pub fn is_related(c: Relation, rs: i32, re: i32, ss: i32, se: i32) -> bool
 }
 
 // Where two intervals r and s that meet the condition of c end.
+#[tactic(auto, unfolding(crate::specs::Conditions::ending_of))]
 pub fn ending_of(c: Relation) -> Ending
     ensures { result ≡ ending_of c }
 {
@@ -184,6 +191,7 @@ pub fn ending_of(c: Relation) -> Ending
 }
 
 // Whether the interval s forbids the interval r under an absence with these edges.
+#[tactic(auto, unfolding(crate::specs::Conditions::is_forbidding))]
 pub fn is_forbidding(e: Edges, rs: i32, re: i32, ss: i32, se: i32) -> bool
     ensures { result ≡ is_forbidding e rs re ss se }
 {
@@ -196,6 +204,7 @@ pub fn is_forbidding(e: Edges, rs: i32, re: i32, ss: i32, se: i32) -> bool
 }
 
 // Whether the interval lasts d as the test asks.
+#[tactic(auto, unfolding(crate::specs::Conditions::has_length))]
 pub fn has_length(t: LengthTest, d: u32, start: i32, end: i32) -> bool
     ensures { result ≡ has_length t d start end }
 {

@@ -4,9 +4,12 @@ use native.Mathlib.Omega.{arith}
 use native.Mathlib.Nat.{add-zero, le_of_eq}
 use mathlib.Core.Path.{◌≡◌, refl, sym, ap, ◌∙◌}
 use mathlib.Core.Bool.{Bool, true, false}
-use mathlib.Core.List.{List, [], ◌∷◌, ◌++◌, append-nil}
+use mathlib.Core.List.{List, [], ◌∷◌, ◌++◌, append-nil, append_assoc}
 use lib.ListN.{length, set, take, drop, length-append, length-drop, drop_of_length-le}
 use lib.Seq.{sets, sets-eq, length-sets, take-append_seam}
+use borrow.Rule.Slice.PartMut.{put_mid}
+use Rattle.std.proofs.lemmas.Slice.{put_mid-paste}
+use Rattle.std.proofs.lemmas.List.Edits.{paste_all}
 use Rattle.text.specs.Output.{length_where, output_where}
 
 pub sets_append : (out : List ℕ) (at : ℕ) (l r : List ℕ) → sets out at (l ++ r) ≡ sets (sets out at l) (at + length l) r
@@ -14,6 +17,10 @@ sets_append out at [] r = rw (add-zero at)
 sets_append out at (b ∷ l) r =
     let e : suc at + length l ≡ at + suc (length l) = omega arith in
     sets_append (set out at b) (suc at) l r ∙ rw e
+
+-- the bytes put in the place of as many of the output
+pub put_sets : (out s : List ℕ) (at k : ℕ) → k ≡ length s → at + length s ≤ length out → put_mid at k out s ≡ sets out at s
+put_sets out s at k e h = put_mid-paste at k out s s (length s) refl (sym e) refl ∙ paste_all out at s (length s) refl ∙ sym (append_assoc (take at out) s (drop (at + length s) out)) ∙ sym (sets-eq s out at h)
 
 -- at the front of the output
 pub front_written : (out b : List ℕ) → length b ≤ length out → sets out 0 b ≡ b ++ drop (length b) out

@@ -61,10 +61,15 @@ unfoldable pub fault_in : ℕ → ℕ → List Line → Verdict
 fault_in n k [] = verdict 0 0
 fault_in n k (l ∷ ls) = by_answer (answer_to n l) (λ e. fault_in (n + 1) (k + 1) ls) (λ m. verdict m k)
 
--- the entries that lines ask for, blank for one that is refused: "numbered on from the last entry", so that the first is entry n
+-- the entry that a line asks for, blank where it is refused
+abbrev pub entry_of : Result Entry Refusal → Entry
+entry_of (Ok e) = e
+entry_of (Err r) = entry 0 0 0
+
+-- the entries that lines ask for: "numbered on from the last entry", so that the first is entry n
 unfoldable pub entries_of : ℕ → List Line → List Entry
 entries_of n [] = []
-entries_of n (l ∷ ls) = by_answer (answer_to n l) (λ e. e) (λ m. entry 0 0 0) ∷ entries_of (n + 1) ls
+entries_of n (l ∷ ls) = entry_of (answer_to n l) ∷ entries_of (n + 1) ls
 
 -- "bad lines, or none, give the chart reader's number and line, counted from the first added line": none are 1 at line 1
 unfoldable pub added_verdict : ℕ → List Line → Verdict

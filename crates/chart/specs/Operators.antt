@@ -1,5 +1,6 @@
 -- The operators of a chart. Document 01, "Operators of a chart"; `after` by request N1, `cut` and `change` by request N5.
 use Rattle.std.specs.Prelude.{ℕ, suc, Bool, true, false, cond, ◌&&◌, List, [], ◌∷◌, eqb, ltb, leb, length, Option, None, Some}
+use Rattle.std.specs.Str.{bytes_eq}
 use Rattle.interval.specs.Instants.{is_length}
 use Rattle.interval.specs.declared.Relation.{Relation}
 use Rattle.interval.specs.declared.Relation.TheVariants.{Seq, And, Meets, Overlaps, Starts, During, Finishes, Equals}
@@ -37,11 +38,8 @@ words =
     (99 ∷ 104 ∷ 97 ∷ 110 ∷ 103 ∷ 101 ∷ []) ∷  -- 19 change
     []
 
-unfoldable pub same_bytes : List ℕ → List ℕ → Bool
-same_bytes [] [] = true
-same_bytes [] (b ∷ t) = false
-same_bytes (a ∷ s) [] = false
-same_bytes (a ∷ s) (b ∷ t) = eqb a b && same_bytes s t
+abbrev pub same_bytes : List ℕ → List ℕ → Bool
+same_bytes s t = bytes_eq s t
 
 -- the place of a word in a list of words, or the list's length where it is not there
 unfoldable pub place_of : List ℕ → List (List ℕ) → ℕ

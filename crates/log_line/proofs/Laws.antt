@@ -14,7 +14,7 @@ use lib.ListN.{length, get_or, take, drop, take-append-drop}
 use lib.Seq.{take-append_seam}
 use Rattle.std.specs.Str.{bytes_eq}
 use Rattle.std.proofs.lemmas.Slice.Eq.{bytes_eq-Decides}
-use Rattle.std.specs.Prelude.{Option, Some, None}
+use Rattle.std.specs.Prelude.{Option, Some, None, MatchOption, IsSomeAnd}
 use Rattle.interval.proofs.Signed.{never}
 use Rattle.text.specs.Text.{index_of, fields}
 use Rattle.text.proofs.Laws.{index_le, lacks, index_lacks, index_cut, split_some, split_word, part_from}
@@ -172,6 +172,16 @@ word_found {n} {w} p s rest e d =
 -- and one that does not
 pub word_missed : (s w : List ℕ) → bytes_eq (take (length (tabbed w)) s) (tabbed w) ≡ false → (rest : List ℕ) → s ≢ tabbed w ++ rest
 word_missed s w e rest d = true≢false (sym ((bytes_eq-Decides (take (length (tabbed w)) s) (tabbed w)).1 (ap (take (length (tabbed w))) d ∙ take-append_seam (tabbed w) rest)) ∙ e)
+
+-- what `map` makes of an instant that was read
+pub instant_mapped : (make : ℤ → Call) (i : Option ℤ) {r : Option Call} → MatchOption i (r ≡ None) (λ z. IsSomeAnd r (λ c. c ≡ make z)) → instant_call make i ≡ r
+unfolding instant_call
+instant_mapped make None h = sym h
+instant_mapped make (Some z) {r} h = go r h
+  where
+    go : (r : Option Call) → IsSomeAnd r (λ c. c ≡ make z) → Some (make z) ≡ r
+    go (Some c) e = ap Some (sym e)
+    go None e = absurd e
 
 -- a line with no word and tab in front
 pub no_call : (s : List ℕ) → ((rest : List ℕ) → s ≢ tabbed open_word ++ rest) → ((rest : List ℕ) → s ≢ tabbed event_word ++ rest) → ((rest : List ℕ) → s ≢ tabbed clock_word ++ rest) → ((rest : List ℕ) → s ≢ tabbed forget_word ++ rest) → call_of s ≡ None

@@ -4,6 +4,7 @@
 ghost use Rattle.std.specs.Prelude.{◌≡◌, ◌∷◌, [], ◌++◌, ◌+◌, ◌≤◌, Some, None, cond, length};
 ghost use Rattle.std.proofs.lemmas.List.Edits.{sets};
 ghost use Rattle.interval.specs.Instants.{is_instant};
+ghost use Rattle.decimal.specs.Spelling.{spelled_instant};
 ghost use Rattle.log_line.specs.Log.{call_of, answer_of, line_answer, call_length, call_output};
 
 use decimal::{Instant, Spelled};
@@ -52,30 +53,34 @@ pub fn read_call(s: &[u8]) -> Option<Call>
 
 // Writes the line of a call, with its byte 10, at the front of the output and returns the number of bytes; None, and nothing is written, where the output has no
 // room for the longest line, and of a call whose number is no instant. Each byte is written once, with one division by 10 for each digit but the first.
+#[tactic(auto, using(crate::proofs::Writing::event_few))]
 pub fn write_call(call: Call, out: &mut [u8]) -> Option<usize>
     ensures { (result ≡ call_length call out.old) × (out.new ≡ call_output call out.old) }
 {
     if out.len() < LINE_SIZE {
         return None;
     }
-    let length = match call {
-        Call::Event(code) => write_line(EVENT, u64::from(code), out),
-        Call::Open(instant) => write_line(OPEN, as_instant(instant)?, out),
-        Call::Clock(instant) => write_line(CLOCK, as_instant(instant)?, out),
-        Call::Forget(instant) => write_line(FORGET, as_instant(instant)?, out),
-    };
-    Some(length)
+    match call {
+        Call::Event(code) => Some(write_line(EVENT, u64::from(code), out)),
+        Call::Open(t) => write_instant(OPEN, t, out),
+        Call::Clock(t) => write_instant(CLOCK, t, out),
+        Call::Forget(t) => write_instant(FORGET, t, out),
+    }
 }
 
-// The number as an instant, where it is one.
-#[tactic(auto, using(interval::proofs::Machine::instant_fits))]
-fn as_instant(t: i64) -> Option<Instant>
-    ensures { result ≡ cond (is_instant t) (Some (record { 0 = t })) None }
+// Writes the line of a word that an instant follows, where t is one.
+#[tactic(auto, using(interval::proofs::Machine::instant_fits, decimal::proofs::Tenths::written_instant_few))]
+fn write_instant(word: &[u8], t: i64, out: &mut [u8]) -> Option<usize>
+    requires { length word.now + 13 ≤ length out.old }
+    ensures { (result ≡ cond (is_instant t) (Some (length (word.now ++ (spelled_instant t ++ (10 ∷ []))))) None) × (out.new ≡ cond (is_instant t) (sets out.old 0 (word.now ++ (spelled_instant t ++ (10 ∷ [])))) out.old) }
 {
-    i32::try_from(t).ok().filter(|&t| interval::is_instant(t)).map(Instant)
+    if !interval::is_instant(t) {
+        return None;
+    }
+    Some(write_line(word, Instant(t as i32), out))
 }
 
-// Writes a word with its tab, what is behind it, and byte 10.
+// Writes a word with its tab, the number behind it, and byte 10.
 fn write_line<T: Spelled>(word: &[u8], x: T, out: &mut [u8]) -> usize
     requires { length word.now + length (T.spelling x) + 1 ≤ length out.old }
     ensures { (result ≡ length (word.now ++ (T.spelling x ++ (10 ∷ [])))) × (out.new ≡ sets out.old 0 (word.now ++ (T.spelling x ++ (10 ∷ [])))) }

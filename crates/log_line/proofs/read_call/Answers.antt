@@ -1,9 +1,10 @@
 -- `read_call` meets its contract: the word in front says what is read behind it, and no word in front is no call.
-use Rattle.std.proofs.Common.{◌≡◌, Some, None, sym, ap, ◌∙◌, arith}
+use Rattle.std.proofs.Common.{sym, ap, ◌∙◌, arith}
 use Rattle.std.proofs.lemmas.Grind.{common_steps}
 use borrow.Author.Tests.{le-leb, lt-leb}
+use Rattle.log_line.specs.declared.Call.{Call}
 use Rattle.log_line.specs.Log.{open_word, event_word, clock_word, forget_word, event_call, instant_call, word_call}
-use Rattle.log_line.proofs.Laws.{answered, word_found, word_missed, no_call, open_word_lem, event_word_lem, clock_word_lem, forget_word_lem}
+use Rattle.log_line.proofs.Laws.{answered, word_found, word_missed, instant_mapped, no_call, open_word_lem, event_word_lem, clock_word_lem, forget_word_lem}
 use Rattle.log_line.proofs.read_call.Goals as goal
 
 pub returns-in_err-code : goal.returns-in_err-code
@@ -19,22 +20,25 @@ returns-in-Some c =
     answered _ _ (word_found event_word_lem _ _ d.0 d.1 ∙ ap event_call (sym c.in_ok-code.ensures) ∙ grind (arith, common_steps, le-leb, lt-leb))
 
 pub returns-in-Some-strip_prefix : goal.returns-in-Some-strip_prefix
-unfolding instant_call word_call
+unfolding word_call
 returns-in-Some-strip_prefix c =
     let d = c.in-Some-strip_prefix.ensures.cases in
-    answered _ _ (word_found clock_word_lem _ _ d.0 d.1 ∙ grind (arith, common_steps))
+    let i = c.read_instant.ensures in
+    answered _ _ (word_found clock_word_lem _ _ d.0 d.1 ∙ ap (instant_call Call.Clock) (sym i) ∙ instant_mapped Call.Clock _ c.map-in-Some-strip_prefix.ensures.cases)
 
 pub returns-in-Some-strip_prefix-2 : goal.returns-in-Some-strip_prefix-2
-unfolding instant_call word_call
+unfolding word_call
 returns-in-Some-strip_prefix-2 c =
     let d = c.in-Some-strip_prefix-2.ensures.cases in
-    answered _ _ (word_found forget_word_lem _ _ d.0 d.1 ∙ grind (arith, common_steps))
+    let i = c.read_instant-in-Some-strip_prefix-2.ensures in
+    answered _ _ (word_found forget_word_lem _ _ d.0 d.1 ∙ ap (instant_call Call.Forget) (sym i) ∙ instant_mapped Call.Forget _ c.map-in-Some-strip_prefix-2.ensures.cases)
 
 pub returns-in-Some-strip_prefix-3 : goal.returns-in-Some-strip_prefix-3
-unfolding instant_call word_call
+unfolding word_call
 returns-in-Some-strip_prefix-3 c =
     let d = c.in-Some-strip_prefix-3.ensures.cases in
-    answered _ _ (word_found open_word_lem _ _ d.0 d.1 ∙ grind (arith, common_steps))
+    let i = c.read_instant-in-Some-strip_prefix-3.ensures in
+    answered _ _ (word_found open_word_lem _ _ d.0 d.1 ∙ ap (instant_call Call.Open) (sym i) ∙ instant_mapped Call.Open _ c.map-in-Some-strip_prefix-3.ensures.cases)
 
 pub returns : goal.returns
 returns c =

@@ -4,6 +4,7 @@ use mathlib.Core.Path.{◌≡◌, refl, sym, ap, ◌∙◌, subst}
 use mathlib.Core.Bool.{Bool, true, false, cond, ◌&&◌}
 use mathlib.Core.List.{List, [], ◌∷◌, ◌++◌}
 use mathlib.Core.Logic.{◌⊎◌, inl, inr, ⊎_elim}
+use Rattle.std.proofs.Common.{Option, Some, None}
 use Prim.Native.Nat.{ℕ, zero, suc, ◌+◌, ◌*◌, ◌-◌, ◌/◌, ◌%◌, ◌^◌, ◌<◌, ◌≤◌}
 use native.Mathlib.Omega.{arith}
 use native.Mathlib.Nat.{lt_of_lt_of_le, pow-le-pow_right}
@@ -16,8 +17,7 @@ use mir.Val.{SFits}
 use borrow.Author.Tests.{lt-ltb, le-leb, ne_eqb, ltb-true, leb-true, eqb-true}
 use Rattle.interval.proofs.Signed.{and_first, and_second}
 use Rattle.text.proofs.Laws.{lacks, lacks_append, lacks_front}
-use Rattle.decimal.specs.declared.Parts.{Parts}
-use Rattle.decimal.specs.Spelling.{is_digit, all_digits, number_of, milliseconds_of, in_tenths, has_point, parts_of, length_of, without_minus, with_minus, sign_size, instant_of, digit, spelled_number, spelled_length, signed, spelled_instant, spelled_in}
+use Rattle.decimal.specs.Spelling.{is_digit, all_digits, number_of, milliseconds_of, in_tenths, has_point, length_of, without_minus, with_minus, instant_of, digit, spelled_number, spelled_length, signed, spelled_instant}
 use Rattle.decimal.specs.Statements.{point_zero, LengthsHold, InstantsHold, WholesHold}
 use Rattle.decimal.proofs.Digits.{digit_is, digit_least, digit_most, digits_byte, digits_lack, spelled_nonempty, length_most}
 use Rattle.decimal.proofs.Laws.{number_read_back, number_one_spelling, number_below_length, number_some, number_digits, fits_below, signed_most, signed_lacks, spelled_number_lacks}
@@ -53,45 +53,6 @@ taken_apart s e =
     let end : drop (length s) s ≡ [] = drop_of_length-le s {i = length s} (omega arith) in
     let back : drop j s ≡ 46 ∷ get_or s (length s - 1) 0 ∷ [] = rw (drop-cons s j 0 (omega arith), p, e₁, drop-cons s (length s - 1) 0 (omega arith), e₂, end) in
     sym (take-append-drop j s) ∙ ap (λ t. take j s ++ t) back
-
--- A length is read from its parts, which are within it.
-pub parts_read : (s : List ℕ) → length_of s ≡ in_tenths (milliseconds_of (take (parts_of s).whole s)) (parts_of s).tenth
-unfolding length_of parts_of
-parts_read s = at (has_point s)
-  where
-    at : (t : Bool) →
-        let p = cond {A = Parts} t (record { whole = length s - 2; tenth = get_or s (length s - 1) 0 }) (record { whole = length s; tenth = 48 }) in
-        cond t (in_tenths (milliseconds_of (take (length s - 2) s)) (get_or s (length s - 1) 0)) (in_tenths (milliseconds_of s) 48) ≡ in_tenths (milliseconds_of (take p.whole s)) p.tenth
-    at true = refl
-    at false = ap (λ l. in_tenths (milliseconds_of l) 48) (sym (take_all (length s) s (omega arith)))
-
-pub parts_within : (s : List ℕ) → (parts_of s).whole ≤ length s
-unfolding parts_of
-parts_within s = at (has_point s)
-  where
-    at : (t : Bool) → (cond {A = Parts} t (record { whole = length s - 2; tenth = get_or s (length s - 1) 0 }) (record { whole = length s; tenth = 48 })).whole ≤ length s
-    at true = omega arith
-    at false = omega arith
-
--- An instant is read behind its minus, which is within it.
-pub sign_read : (s : List ℕ) → instant_of s ≡ cond (eqb (sign_size s) 0) (without_minus (length_of (drop (sign_size s) s))) (with_minus (length_of (drop (sign_size s) s)))
-unfolding instant_of sign_size
-sign_read s = at (eqb (get_or s 0 0) 45)
-  where
-    at : (t : Bool) →
-        let k = cond {A = ℕ} t 1 0 in
-        cond t (with_minus (length_of (drop 1 s))) (without_minus (length_of s)) ≡ cond (eqb k 0) (without_minus (length_of (drop k s))) (with_minus (length_of (drop k s)))
-    at true = refl
-    at false = refl
-
-pub sign_within : (s : List ℕ) → sign_size s ≤ length s
-unfolding sign_size
-sign_within [] = omega arith
-sign_within (b ∷ s) = at (eqb b 45)
-  where
-    at : (t : Bool) → cond {A = ℕ} t 1 0 ≤ suc (length s)
-    at true = omega arith
-    at false = omega arith
 
 -- Digits alone.
 digits_no_point : (s : List ℕ) → all_digits s ≡ true → has_point s ≡ false
@@ -248,22 +209,6 @@ length_lacks x h n =
     let d = digit (n % 10) in
     let end : lacks x (46 ∷ d ∷ []) ≡ true = rw (ne_eqb 46 x (λ e. omega arith)) (digits_lack x (d ∷ []) (omega arith) (rw (digit_is (n % 10) (omega arith)))) in
     lacks_append x (spelled_number (n / 10)) (46 ∷ d ∷ []) (spelled_number_lacks x (omega arith) (n / 10)) end
-
--- Either form, with a point or without.
-pub instant_in : (z : ℤ) → signed (spelled_in true) z ≡ spelled_instant z
-unfolding signed spelled_in
-instant_in (pos n) = refl
-instant_in (negsuc n) = refl
-
-pub integer_in : (z : ℤ) → signed (spelled_in false) z ≡ signed spelled_number z
-unfolding signed spelled_in
-integer_in (pos n) = refl
-integer_in (negsuc n) = refl
-
-pub in_nonempty : (point : Bool) (n : ℕ) → 1 ≤ length (spelled_in point n)
-unfolding spelled_in
-in_nonempty true n = omega (arith, length_least n)
-in_nonempty false n = spelled_nonempty n
 
 -- What an instant's spelling tells: it is a length's, or has a minus in front of that of a length other than 0.
 data Signed : List ℕ → ℤ → Type 0 where

@@ -2,9 +2,7 @@
 -- no leading zero, 1 to 10 digits; an instant may carry a minus, never before 0." Request N11: "Instants and lengths on paper may have a
 -- point and one digit, as `-0.5`; without a point they are whole milliseconds." Their values are tenths of a millisecond. A spelling is a
 -- list of bytes; the bytes 48 to 57 are the digits, 45 is the minus, 46 the point.
--- `parts_of`, `sign_size` and `spelled_in` alone serve the proofs.
-use Rattle.std.specs.Prelude.{ℕ, zero, suc, ◌+◌, ◌*◌, ◌-◌, ◌/◌, ◌%◌, Bool, true, not, cond, ◌&&◌, List, [], ◌∷◌, ◌++◌, eqb, leb, ltb, ℤ, pos, negsuc, neg_ℤ, length, get_or, take, drop}
-use Rattle.decimal.specs.declared.Parts.{Parts}
+use Rattle.std.specs.Prelude.{ℕ, zero, suc, ◌+◌, ◌*◌, ◌-◌, ◌/◌, ◌%◌, Bool, true, not, cond, ◌&&◌, List, [], ◌∷◌, ◌++◌, eqb, leb, ltb, ℤ, pos, negsuc, neg_ℤ, length, get_or, take, drop, Option, Some, None}
 
 -- whether a byte is a digit
 unfoldable pub is_digit : ℕ → Bool
@@ -69,13 +67,6 @@ with_minus None = None
 unfoldable pub instant_of : List ℕ → Option ℤ
 instant_of s = cond (eqb (get_or s 0 0) 45) (with_minus (length_of (drop 1 s))) (without_minus (length_of s))
 
--- As the code takes them apart: a length's whole milliseconds, how many bytes they are, and the byte of its tenth; and how many bytes an instant's minus takes
-unfoldable pub parts_of : List ℕ → Parts
-parts_of s = cond (has_point s) (record { whole = length s - 2; tenth = get_or s (length s - 1) 0 }) (record { whole = length s; tenth = 48 })
-
-unfoldable pub sign_size : List ℕ → ℕ
-sign_size s = cond (eqb (get_or s 0 0) 45) 1 0
-
 -- the byte of a digit
 abbrev pub digit : ℕ → ℕ
 digit d = 48 + d
@@ -108,11 +99,11 @@ spelled z = signed spelled_number z
 abbrev pub spelled_instant : ℤ → List ℕ
 spelled_instant z = signed spelled_length z
 
--- a number in either of these forms, with a point or without
-unfoldable pub spelled_in : Bool → ℕ → List ℕ
-spelled_in point n = cond point (spelled_length n) (spelled_number n)
+-- how many bytes of a spelling are written: all, where the output is not too short
+unfoldable pub written : List ℕ → List ℕ → Option ℕ
+written s out = cond (leb (length s) (length out)) (Some (length s)) None
 
--- how many bytes of a spelling are written: all, or none where the output is too short
+-- the same with 0 where it is too short, as C has it
 unfoldable pub written_length : List ℕ → List ℕ → ℕ
 written_length s out = cond (leb (length s) (length out)) (length s) 0
 

@@ -1,5 +1,5 @@
 -- What is claimed of lengths and instants on paper; no proof stands here. proofs/Tenths.antt proves it.
-use Rattle.std.specs.Prelude.{ℕ, ◌*◌, ◌<◌, ◌≤◌, ◌^◌, ◌≡◌, ◌⊎◌, List, [], ◌∷◌, ◌++◌, pos, neg_ℤ, nat_abs, length}
+use Rattle.std.specs.Prelude.{ℕ, ◌*◌, ◌<◌, ◌≤◌, ◌^◌, ◌≡◌, ◌⊎◌, List, [], ◌∷◌, ◌++◌, pos, neg_ℤ, nat_abs, length, Some}
 use Rattle.decimal.specs.Spelling.{number_of, length_of, instant_of, spelled_length, spelled_instant}
 
 -- `.0`

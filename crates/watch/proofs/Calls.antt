@@ -11,6 +11,9 @@ use lib.IntN.{ℤ, pos}
 use Rattle.interval.specs.Instants.{is_instant, is_mark_refused, is_forget_refused}
 use Rattle.chart.specs.Charts.{is_usable, read_added}
 use Rattle.chart.specs.declared.Chart.{Chart}
+use Rattle.model.proofs.Capacity.{capacity_fits}
+use Rattle.table.specs.Ends.{Ordered}
+use Rattle.table.specs.Ready.{Ready}
 use Rattle.table.specs.Table.{zeroed, room_in}
 use Rattle.consistency.proofs.Theorems as consistency
 use Rattle.state.specs.State.{empty_state, open_state, extended, marked, raised}
@@ -87,6 +90,13 @@ parts e = (sym (ap (λ (s : Step). s.answer) e), sym (ap (λ (s : Step). s.table
 -- what the check tells the calls that go on
 pub told : (chart : Chart) (w : WatchState) (t : List ℤ) → check_number chart w t ≡ 0 → consistency.Consistent chart w t
 told chart w t z = let j = check_told chart w t z in consistency.consistent_ready chart w t j.usable j.consistent
+
+pub ready : (chart : Chart) (w : WatchState) (t : List ℤ) → check_number chart w t ≡ 0 → Ready chart w.rows t
+ready chart w t z = (told chart w t z).ready
+
+-- the rows in use lie in the table, in the order of their ends
+pub readable : (chart : Chart) (w : WatchState) (t : List ℤ) → check_number chart w t ≡ 0 → (w.rows * 5 ≤ length t) × Ordered w.rows t
+readable chart w t z = let r = ready chart w t z in (omega (arith, r.fit, capacity_fits (length t)), r.ordered)
 
 -- a clock mark, by the tests that lead to its answer
 module _ (chart : Chart) (w : WatchState) (t : List ℤ) (x : ℤ) where

@@ -1,36 +1,95 @@
--- `read_fields` meets its contract: the first tab cuts off the entry number.
-use mathlib.Core.Path.{sym, ◌∙◌}
-use native.Mathlib.Omega.{arith}
-use lib.Seq.{length-take-le}
-use Rattle.text.proofs.Laws.{part_from}
-use Rattle.chart.specs.Records.{parsed_line}
-use Rattle.chart.proofs.Records.{parsed_one, Cut, tab_cut}
-use Rattle.chart.proofs.record.read_fields.Goals.{Else-t-s}
+-- `read_fields` meets its contract: at each exit the fields so far, and what each of them is read as, tell what the definition says.
+use Rattle.std.proofs.Common.{rules, tests, ◌≡◌, ◌<◌, ◌∙◌, sym, ap, List, ◌∷◌}
+use Rattle.std.specs.Prelude.{Option, Some, None}
+use Rattle.std.specs.Slice.Iter.{split_done, split_rest}
+use Rattle.text.specs.Text.{fields}
+use Rattle.chart.specs.Records.{parsed_line, numbered, operator_line, by_operator, event_line, with_code, operands_line, second_operand, with_operands}
+use Rattle.chart.proofs.Records.{left, some_left, none_left, ended, one_more, no_operand, no_first, event_read, event_more, no_second, second_bad, both_read, both_more}
+use Rattle.chart.proofs.record.read_fields.Goals.{In_ok-next, In_ok-next-2, In_ok-next-3, then-op-eq0, else-op-eq0+in_ok-next-4+in_ok-b}
 use Rattle.chart.proofs.record.read_fields.Goals as goal
 
-cut : (c : Else-t-s) → Cut c.args.s.now c.find-t.result
-cut c = tab_cut _ _ c.find-t.ensures c.if-t-s.false
+first : (c : In_ok-next) → fields c.args.s.now ≡ c.in_ok-next.field-0.now ∷ left c.next.new.self.done c.next.new.self.rest.now
+first c = (rw (← c.split-fields.ensures.rest, c.split-fields.ensures.done)) ∙ some_left _ _ _ _ c.next.ensures.steps _ c.in_ok-next.was (λ x b q k. search (rules, tests))
 
-pub returns-then-t-s : goal.returns-then-t-s
-unfolding parsed_line
-returns-then-t-s c = sym (parsed_one _ (sym c.find-t.ensures ∙ c.if-t-s.true))
+second : (c : In_ok-next-2) → left c.next.new.self.done c.next.new.self.rest.now ≡ c.in_ok-next-2.field-0.now ∷ left c.next-2.new.self.done c.next-2.new.self.rest.now
+second c = some_left _ _ _ _ c.next-2.ensures.steps _ c.in_ok-next-2.was (λ x b q k. search (rules, tests))
 
-pub slice_bounds-read_number-end : goal.slice_bounds-read_number-end
-unfolding parsed_line
-slice_bounds-read_number-end c = sym (length-take-le _ _ (omega (arith, (cut c).within)))
+third : (c : In_ok-next-3) → left c.next-2.new.self.done c.next-2.new.self.rest.now ≡ c.in_ok-next-3.field-0.now ∷ left c.next-3.new.self.done c.next-3.new.self.rest.now
+third c = some_left _ _ _ _ c.next-3.ensures.steps _ c.in_ok-next-3.was (λ x b q k. search (rules, tests))
 
-pub overflow_add-t : goal.overflow_add-t
-unfolding parsed_line
-overflow_add-t c = omega (arith, (cut (goal.at.overflow_add-t c).Else-t-s).within)
+pub returns-in_err-number : goal.returns-in_err-number
+unfolding parsed_line numbered
+returns-in_err-number c =
+    let p = first (goal.at.returns-in_err-number c).In_ok-next in
+    rw (c.from_residual-in_err-number.ensures, p, ← c.in_err-number.ensures)
 
-pub slice_bounds-read_numbered-count : goal.slice_bounds-read_numbered-count
-unfolding parsed_line
-slice_bounds-read_numbered-count c = omega (arith, (cut (goal.at.slice_bounds-read_numbered-count c).Else-t-s).within)
+pub returns-in_err-next-2 : goal.returns-in_err-next-2
+unfolding parsed_line numbered operator_line
+returns-in_err-next-2 c =
+    let p = first (goal.at.returns-in_err-next-2 c).In_ok-next in
+    rw (c.from_residual-in_err-next-2.ensures, p, none_left _ _ _ _ c.next-2.ensures.steps c.in_err-next-2.was, ← c.in_ok-number.ensures)
 
-pub slice_bounds-read_numbered-start : goal.slice_bounds-read_numbered-start
-unfolding parsed_line
-slice_bounds-read_numbered-start c = omega (arith, (cut (goal.at.slice_bounds-read_numbered-start c).Else-t-s).within)
+pub returns-in_err-op : goal.returns-in_err-op
+unfolding parsed_line numbered operator_line by_operator
+returns-in_err-op c =
+    let p = first (goal.at.returns-in_err-op c).In_ok-next in
+    let q = second (goal.at.returns-in_err-op c).In_ok-next-2 in
+    rw (c.from_residual-in_err-op.ensures, p, q, ← c.in_ok-number.ensures, ← c.in_err-op.ensures)
+
+pub returns-in_err-next-3 : goal.returns-in_err-next-3
+returns-in_err-next-3 c =
+    let p = first (goal.at.returns-in_err-next-3 c).In_ok-next in
+    let q = second (goal.at.returns-in_err-next-3 c).In_ok-next-2 in
+    rw (c.from_residual-in_err-next-3.ensures, p, q, none_left _ _ _ _ c.next-3.ensures.steps c.in_err-next-3.was) (sym (no_operand _ _ c.in_ok-number.ensures c.in_ok-op.ensures))
+
+pub returns-in_err-a : goal.returns-in_err-a
+returns-in_err-a c =
+    let p = first (goal.at.returns-in_err-a c).In_ok-next in
+    let q = second (goal.at.returns-in_err-a c).In_ok-next-2 in
+    let r = third (goal.at.returns-in_err-a c).In_ok-next-3 in
+    rw (c.from_residual-in_err-a.ensures, p, q, r) (sym (no_first _ _ c.in_ok-number.ensures c.in_ok-op.ensures _ _ c.in_err-a.ensures))
+
+pub returns-in_err-next-4 : goal.returns-in_err-next-4
+returns-in_err-next-4 c =
+    let p = first (goal.at.returns-in_err-next-4 c).In_ok-next in
+    let q = second (goal.at.returns-in_err-next-4 c).In_ok-next-2 in
+    let r = third (goal.at.returns-in_err-next-4 c).In_ok-next-3 in
+    rw (c.from_residual-in_err-next-4.ensures, p, q, r, none_left _ _ _ _ c.next-else-op-eq0.ensures.steps c.in_err-next-4.was) (sym (no_second _ _ c.in_ok-number.ensures c.in_ok-op.ensures _ c.in_ok-a.ensures c.if-op-eq0.false))
+
+pub returns-in_err-b : goal.returns-in_err-b
+returns-in_err-b c =
+    let p = first (goal.at.returns-in_err-b c).In_ok-next in
+    let q = second (goal.at.returns-in_err-b c).In_ok-next-2 in
+    let r = third (goal.at.returns-in_err-b c).In_ok-next-3 in
+    let t = some_left _ _ _ _ c.next-else-op-eq0.ensures.steps _ c.in_ok-next-4.was (λ x b q k. search (rules, tests)) in
+    let bad = rw c.kind_of.ensures at c.in_err-b.ensures in
+    rw (c.from_residual-in_err-b.ensures, p, q, r, t) (sym (second_bad _ _ c.in_ok-number.ensures c.in_ok-op.ensures _ c.in_ok-a.ensures c.if-op-eq0.false _ _ bad))
+
+pub returns-then-is_some : goal.returns-then-is_some
+returns-then-is_some c =
+    let p = first (goal.at.returns-then-is_some c).In_ok-next in
+    let q = second (goal.at.returns-then-is_some c).In_ok-next-2 in
+    let r = third (goal.at.returns-then-is_some c).In_ok-next-3 in
+    let more = one_more _ _ _ _ c.next-4.ensures.steps (sym c.if-is_some.ensures) (λ x b q k. search (rules, tests)) in
+    rw (p, q, r)
+    (elim c.if-op-eq0.branch [
+      | then-op-eq0 w ↦ rw (ap (λ z. left (split_done z) (split_rest z)) (sym w.fields-is) ∙ more.2) (sym (event_more _ _ c.in_ok-number.ensures c.in_ok-op.ensures _ c.in_ok-a.ensures _ _ w.if-op-eq0.true))
+      | else-op-eq0+in_ok-next-4+in_ok-b w ↦
+          let t = some_left _ _ _ _ w.next-else-op-eq0.ensures.steps _ w.in_ok-next-4.was (λ x b q k. search (rules, tests)) in
+          rw (t, ap (λ z. left (split_done z) (split_rest z)) (sym w.fields-is) ∙ more.2) (sym (both_more _ _ c.in_ok-number.ensures c.in_ok-op.ensures _ c.in_ok-a.ensures w.if-op-eq0.false _ _ _))
+    ])
 
 pub returns : goal.returns
-unfolding parsed_line
-returns c = rw ((cut (goal.at.returns c).Else-t-s).parts, ← c.read_number-n.ensures) (simp part_from at c.read_numbered.ensures)
+returns c =
+    let p = first (goal.at.returns c).In_ok-next in
+    let q = second (goal.at.returns c).In_ok-next-2 in
+    let r = third (goal.at.returns c).In_ok-next-3 in
+    let end = ended _ _ _ _ c.next-4.ensures.steps (sym c.if-is_some.ensures) in
+    rw (p, q, r)
+    (elim c.if-op-eq0.branch [
+      | then-op-eq0 w ↦ rw (ap (λ z. left (split_done z) (split_rest z)) (sym w.fields-is) ∙ end, w.b-is) (sym (event_read _ _ c.in_ok-number.ensures c.in_ok-op.ensures _ c.in_ok-a.ensures w.if-op-eq0.true))
+      | else-op-eq0+in_ok-next-4+in_ok-b w ↦
+          let t = some_left _ _ _ _ w.next-else-op-eq0.ensures.steps _ w.in_ok-next-4.was (λ x b q k. search (rules, tests)) in
+          let read = rw w.kind_of.ensures at w.in_ok-b.ensures in
+          rw (t, ap (λ z. left (split_done z) (split_rest z)) (sym w.fields-is) ∙ end, w.b-is) (sym (both_read _ _ c.in_ok-number.ensures c.in_ok-op.ensures _ c.in_ok-a.ensures w.if-op-eq0.false _ read))
+    ])

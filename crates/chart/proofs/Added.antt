@@ -169,15 +169,15 @@ module _ (c d : Chart) (k : ℕ) where
     on_refused r z = rw (fault_here d.count k l ls r z, ne_eqb _ _ (number_some r))
 
 -- the same of a text, by its first line as the code finds it
-module _ (c d : Chart) (k : ℕ) (s : List ℕ) (g : 0 < length s) where
+module _ (c d : Chart) (k : ℕ) (s : List ℕ) where
   pub record Step (e : Entry) (j : ℕ) : Type 0 where
     pub room : d.count < 32
     pub some : 0 < j
     pub inside : j ≤ length s
     pub goes : d.count < length d.entries → goes_on c d k (lines s) ≡ goes_on c (with_entry d e) (k + 1) (lines (drop j s))
 
-  pub step_taken : (e : Entry) (j : ℕ) → first_answer d.count s ≡ Ok (e, j) → Step e j
-  step_taken e j z =
+  pub step_taken : 0 < length s → (e : Entry) (j : ℕ) → first_answer d.count s ≡ Ok (e, j) → Step e j
+  step_taken g e j z =
       let f = first_line d.count s g in
       let a = sized_ok f.size (answer_to d.count f.line) e j (sym f.answer ∙ z) in
       record {
@@ -187,8 +187,8 @@ module _ (c d : Chart) (k : ℕ) (s : List ℕ) (g : 0 < length s) where
         goes = λ h. ap (goes_on c d k) f.cut ∙ on_taken c d k f.line f.rest e a.0 h ∙ ap (goes_on c (with_entry d e) (k + 1)) (f.next e a.0 ∙ ap (λ i. lines (drop i s)) a.1);
       }
 
-  pub step_refused : (r : Refusal) → first_answer d.count s ≡ Err r → goes_on c d k (lines s) ≡ record { refusal = number_of r; line = k; chart = c }
-  step_refused r z =
+  pub step_refused : 0 < length s → (r : Refusal) → first_answer d.count s ≡ Err r → goes_on c d k (lines s) ≡ record { refusal = number_of r; line = k; chart = c }
+  step_refused g r z =
       let f = first_line d.count s g in
       ap (goes_on c d k) f.cut ∙ on_refused c d k f.line f.rest r (sized_err f.size (answer_to d.count f.line) r (sym f.answer ∙ z))
 

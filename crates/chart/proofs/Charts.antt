@@ -1,19 +1,20 @@
 -- The first line of a text as the code finds it, the reader line by line, and the check behind refusal 14.
-use Rattle.std.proofs.Common.{ℕ, suc, ◌+◌, ◌-◌, ◌≤◌, ◌<◌, ◌≡◌, refl, sym, ap, subst, ◌∙◌, Bool, true, false, cond, ◌&&◌, eqb, ltb, leb, List, [], ◌∷◌, length, take, drop, length-take, length-take-le, arith, add-one}
+use Rattle.std.proofs.Common.{ℕ, suc, ◌+◌, ◌-◌, ◌≤◌, ◌<◌, ◌≡◌, refl, sym, ap, subst, ◌∙◌, Bool, true, false, cond, ◌&&◌, eqb, ltb, leb, List, [], ◌∷◌, length, get_or, take, drop, get_or-take, length-take, length-take-le, arith, add-one}
 use borrow.Author.Tests.{lt-ltb, le-leb, lt-leb}
 use Rattle.std.specs.Prelude.{Option, None, Some, Result, Ok, Err}
+use Rattle.std.specs.List.{list_all, enumerate_from}
 use Rattle.std.proofs.lemmas.Bool.{and_right}
 use Rattle.refusal.specs.Numbers.{number_of}
 use Rattle.refusal.specs.declared.Refusal.{Refusal}
 use Rattle.refusal.specs.declared.Refusal.TheVariants.{NoLine, ChartTooLong, MalformedEntry, EntryNotNext, OperandNotLower, OperandOutOfRange, MalformedCall, InstantRefused, TooManyPending, TooManyEvents, ForgetRefused, TableFull, Inconsistent, UnusableChart, NoSuchRow, TreeTooLong, ForgetMerged, OpeningsDiffer}
 use Rattle.text.specs.Text.{Line, lines, index_of, whole, line_size, fields}
 use Rattle.text.proofs.Laws.{first_whole, first_broken, no_line, size_told, size_le}
-use Rattle.chart.specs.Records.{parsed_line, checked_line, answer_to, with_size, sized_answer, first_answer}
+use Rattle.chart.specs.Records.{entry, parsed_line, checked_line, answer_to, with_size, sized_answer, first_answer}
 use Rattle.chart.specs.Charts.{read_lines, add_line, taken_chart, with_entry, by_answer, refused_chart, is_usable, all_below, entry_fits, entry_at}
 use Rattle.chart.specs.declared.Entry.{Entry}
 use Rattle.chart.specs.declared.Chart.{Chart}
 use Rattle.chart.specs.declared.ChartAnswer.{ChartAnswer}
-use Rattle.chart.proofs.Below.{not_all}
+use Rattle.chart.proofs.Below.{test, each_below, same_below}
 
 -- a refusal's number is not 0
 pub number_some : (r : Refusal) → number_of r ≡ 0 → ⊥
@@ -169,3 +170,11 @@ module _ (c : Chart) where
   pub usable : 1 ≤ c.count → c.count ≤ 32 → all_below c.count (λ n. entry_fits n (entry_at c n)) ≡ true → is_usable c ≡ true
   unfolding is_usable
   usable h g e = simp (le-leb _ _ h, le-leb _ _ g, e)
+
+  -- each entry up to the count, with its number
+  pub usable_listed : (es : List Entry) → es ≡ take c.count c.entries → 1 ≤ c.count → c.count ≤ 32 → c.count ≤ length c.entries → list_all (test entry_fits es (entry 0 0 0)) (enumerate_from 0 es) ≡ is_usable c
+  unfolding is_usable
+  usable_listed es is h g room =
+      let size : length es ≡ c.count = ap length is ∙ length-take-le c.count c.entries room in
+      let here : (i : ℕ) → i < c.count → entry_fits i (get_or es i (entry 0 0 0)) ≡ entry_fits i (entry_at c i) = λ i k. rw is (ap (entry_fits i) (get_or-take c.count c.entries i (entry 0 0 0) k)) in
+      rw (le-leb _ _ h, le-leb _ _ g) (each_below entry_fits es (entry 0 0 0) ∙ ap (λ n. all_below n (λ i. entry_fits i (get_or es i (entry 0 0 0)))) size ∙ same_below c.count (λ i. entry_fits i (get_or es i (entry 0 0 0))) (λ i. entry_fits i (entry_at c i)) here)

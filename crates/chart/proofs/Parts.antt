@@ -11,10 +11,11 @@ use Rattle.refusal.specs.declared.Refusal.{Refusal}
 use Rattle.text.specs.Text.{Line, lines}
 use Rattle.text.proofs.Laws.{lines_append}
 use Rattle.chart.specs.Records.{answer_to}
-use Rattle.chart.specs.Charts.{no_entries, with_entry, by_answer, refused_chart, taken_chart, verdict, fault_in, entry_of, entries_of, added_verdict, with_entries, read_lines, or_no_line, read_chart, read_added}
+use Rattle.chart.specs.Charts.{no_entries, with_entry, by_answer, refused_chart, taken_chart, verdict, fault_in, entry_of, entries_of, added_verdict, with_entries, read_lines, or_no_line, read_chart, read_added, read_answer, added_answer}
 use Rattle.chart.specs.Statements.{ReadWhole, in_parts, ReadInParts}
 use Rattle.chart.specs.declared.Entry.{Entry}
 use Rattle.chart.specs.declared.Chart.{Chart}
+use Rattle.chart.specs.declared.Fault.{Fault}
 use Rattle.chart.specs.declared.ChartAnswer.{ChartAnswer}
 use Rattle.chart.specs.declared.Verdict.{Verdict}
 use Rattle.chart.proofs.Charts.{number_some}
@@ -41,6 +42,12 @@ read_whole s = go (lines s)
     go : (ls : List Line) → or_no_line ls ≡ answer_by (added_verdict 0 ls) (with_entries no_entries (entries_of 0 ls)) no_entries
     go [] = refl
     go (l ∷ ls) = lines_on no_entries (l ∷ ls) good_none
+
+-- and so are the answers
+pub answer_whole : (r : Result Chart Fault) → added_answer no_entries r ≡ read_answer r
+unfolding refused_chart
+answer_whole (Ok c) = refl
+answer_whole (Err f) = refl
 
 -- the lines behind a first part: their entries, their verdict where the first part has no fault and where it has one
 entries_append : (n : ℕ) (ls ms : List Line) → entries_of n (ls ++ ms) ≡ entries_of n ls ++ entries_of (n + length ls) ms

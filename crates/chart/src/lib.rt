@@ -51,26 +51,6 @@ pub struct Verdict {
     pub line: u32,
 }
 
-impl From<Result<Chart, Fault>> for ChartAnswer {
-    ghost from_gives = { λ r a. a ≡ read_answer r };
-
-    #[tactic(auto, unfolding(crate::specs::Charts::refused_chart))]
-    fn from(r: Result<Chart, Fault>) -> ChartAnswer {
-        match r {
-            Ok(chart) => ChartAnswer {
-                refusal: 0,
-                line: 0,
-                chart,
-            },
-            Err(f) => ChartAnswer {
-                refusal: f.refusal.number(),
-                line: f.line,
-                chart: no_entries(),
-            },
-        }
-    }
-}
-
 impl From<Result<Chart, Fault>> for Verdict {
     ghost from_gives = { λ r v. v ≡ verdict_of (read_answer r) };
 
@@ -85,6 +65,20 @@ impl From<Result<Chart, Fault>> for Verdict {
                 refusal: f.refusal.number(),
                 line: f.line,
             },
+        }
+    }
+}
+
+impl From<Result<Chart, Fault>> for ChartAnswer {
+    ghost from_gives = { λ r a. a ≡ read_answer r };
+
+    #[tactic(auto, unfolding(crate::specs::Charts::refused_chart))]
+    fn from(r: Result<Chart, Fault>) -> ChartAnswer {
+        let Verdict { refusal, line } = Verdict::from(r);
+        ChartAnswer {
+            refusal,
+            line,
+            chart: r.unwrap_or(no_entries()),
         }
     }
 }
@@ -113,6 +107,7 @@ pub fn no_entries() -> Chart
 }
 
 // Reads a chart on paper. Linear in the bytes of the first 33 lines; what follows is not looked at.
+#[tactic(auto, using(crate::proofs::Parts::read_whole, crate::proofs::Parts::answer_whole))]
 pub fn read(s: &[u8]) -> Result<Chart, Fault>
     ensures { read_answer result ≡ read_chart s.now }
 {
@@ -120,6 +115,7 @@ pub fn read(s: &[u8]) -> Result<Chart, Fault>
 }
 
 // Reads lines whose entries go on from the chart's last. Linear in the bytes of the lines up to the 33rd entry's; what follows is not looked at.
+#[tactic(auto, using(crate::proofs::Added::step_refused))]
 pub fn read_added(chart: Chart, s: &[u8]) -> Result<Chart, Fault>
     ensures { added_answer chart result ≡ read_added chart s.now }
 {
@@ -146,7 +142,8 @@ pub fn read_added(chart: Chart, s: &[u8]) -> Result<Chart, Fault>
 
 // Adds the entry of one more line, s without its byte 10, to the chart. Each byte of a line of at most 63 is looked at twice at most;
 // a longer line is refused unread. The rest of the cost is constant.
-pub fn add_line(chart: Chart, s: &[u8]) -> Result<Chart, Fault>
+#[tactic(auto, using(crate::proofs::Charts::add_full, crate::proofs::Charts::add_refused, crate::proofs::Charts::add_taken))]
+pub fn add_line(mut chart: Chart, s: &[u8]) -> Result<Chart, Fault>
     ensures { read_answer result ≡ add_line chart s.now }
 {
     let n = chart.count;
@@ -158,9 +155,8 @@ pub fn add_line(chart: Chart, s: &[u8]) -> Result<Chart, Fault>
     }
     let line = n as u32 + 1;
     let entry = record::read_whole(n, s).map_err(|refusal| Fault { refusal, line })?;
-    let mut longer = chart;
-    longer.push(entry);
-    Ok(longer)
+    chart.push(entry);
+    Ok(chart)
 }
 
 // Whether entry n of a chart is as the operator table has it.
@@ -175,14 +171,16 @@ pub fn entry_fits(e: Entry, n: usize) -> bool
 }
 
 // Whether a watch may use the chart; where not, calls on a watch refuse it with 14. One look at each entry.
+#[tactic(auto, using(crate::proofs::Charts::usable_none, crate::proofs::Charts::usable_over))]
 pub fn is_usable(chart: Chart) -> bool
     ensures { result ≡ is_usable chart }
 {
     let n = chart.count;
-    1 <= n
-        && n <= 32
-        && chart.entries[..n]
-            .iter()
-            .enumerate()
-            .all(|(i, e)| entry_fits(*e, i))
+    if n == 0 || n > 32 {
+        return false;
+    }
+    chart.entries[..n]
+        .iter()
+        .enumerate()
+        .all(|(i, e)| entry_fits(*e, i))
 }

@@ -29,26 +29,26 @@ pub enum Shape {
 
 // The operator words in the order of their codes.
 const WORDS: [&[u8]; 20] = [
-    b"event",
-    b"seq",
-    b"or",
-    b"and",
-    b"-[]",
-    b"-][",
-    b"-[[",
-    b"-]]",
-    b"meets",
-    b"overlaps",
-    b"starts",
-    b"during",
-    b"finishes",
-    b"equals",
-    b"lasts",
-    b"atmost",
-    b"atleast",
-    b"after",
-    b"cut",
-    b"change",
+    b"event", // 0
+    b"seq", // 1
+    b"or", // 2
+    b"and", // 3
+    b"-[]", // 4
+    b"-][", // 5
+    b"-[[", // 6
+    b"-]]", // 7
+    b"meets", // 8
+    b"overlaps", // 9
+    b"starts", // 10
+    b"during", // 11
+    b"finishes", // 12
+    b"equals", // 13
+    b"lasts", // 14
+    b"atmost", // 15
+    b"atleast", // 16
+    b"after", // 17
+    b"cut", // 18
+    b"change", // 19
 ];
 
 // The code of the operator with this word. At most 20 comparisons of lengths, and the bytes of those that agree.
@@ -132,12 +132,9 @@ pub fn shape_of(k: Kind) -> Shape
     match k {
         Kind::Event => Shape::Leaf,
         Kind::Or => Shape::Arms,
-        Kind::Pair(_) => Shape::Double,
-        Kind::Absence(_) => Shape::Single,
-        Kind::Length(_) => Shape::Single,
-        Kind::After => Shape::Delayed,
-        Kind::Nearest(_) => Shape::Double,
-        Kind::Unknown => Shape::Delayed,
+        Kind::Pair(_) | Kind::Nearest(_) => Shape::Double,
+        Kind::Absence(_) | Kind::Length(_) => Shape::Single,
+        Kind::After | Kind::Unknown => Shape::Delayed,
     }
 }
 

@@ -9,7 +9,7 @@ use refusal::Refusal;
 
 // What stands in a line: entry number, operator code, operands. An event's second operand is 0.
 #[derive(Clone, Copy)]
-pub(crate) struct Fields {
+struct Fields {
     number: u64,
     op: u8,
     a: u64,
@@ -48,7 +48,7 @@ fn read_second(k: Kind, s: &[u8]) -> Option<u64>
 }
 
 // The entry that a line asks for, where n entries stand before it. Refusals 4, 6 and 5, in this order.
-#[tactic(auto, unfolding(crate::specs::Records::checked_entry))]
+#[tactic(auto, using(crate::proofs::Records::small), unfolding(crate::specs::Records::checked_entry))]
 fn check_entry(n: u64, line: Fields) -> Result<Entry, Refusal>
     requires { n ≤ 32 }
     ensures { result ≡ checked_entry n line }
@@ -81,7 +81,7 @@ fn read_entry(n: usize, s: &[u8]) -> Result<Entry, Refusal>
 }
 
 // The entry of the first line of s, where n entries stand before it, and the line's size.
-#[tactic(auto, unfolding(crate::specs::Records::first_answer, crate::specs::Records::sized_answer, crate::specs::Records::with_size))]
+#[tactic(auto, using(text::proofs::Laws::first_part), unfolding(crate::specs::Records::first_answer, crate::specs::Records::sized_answer, crate::specs::Records::with_size))]
 pub(crate) fn read_first(n: usize, s: &[u8]) -> Result<(Entry, usize), Refusal>
     ensures { result ≡ first_answer n s.now }
 {

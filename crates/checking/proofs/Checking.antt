@@ -1,13 +1,13 @@
 -- The turns of `feed`: what is to do from where it has come is what was to do.
 use Prim.Native.Nat.{ℕ, suc, ◌+◌, ◌-◌, ◌≤◌, ◌<◌}
 use native.Mathlib.Omega.{arith}
-use mathlib.Core.Path.{◌≡◌, refl, sym, ap, ◌∙◌}
+use mathlib.Core.Path.{◌≡◌, sym, ap, ◌∙◌}
 use mathlib.Core.List.{List}
 use borrow.Author.Tests.{le-leb, lt-leb}
 use lib.ListN.{length, take, drop, length-drop}
 use Rattle.std.specs.Prelude.{Option, Some, None, Ok, Err}
 use Rattle.text.specs.Text.{line_size}
-use Rattle.text.proofs.Laws.{size_le, first_part}
+use Rattle.text.proofs.Laws.{first_part}
 use Rattle.log_line.specs.Log.{call_of}
 use Rattle.log_line.specs.declared.Call.{Call}
 use Rattle.checking.specs.Checks.{State, call_checked, check_call, fed_to, fed_rest, fed_from, fed_check}
@@ -30,17 +30,6 @@ module _ (m : ℕ) (c : Check) (used : ℕ) (s : List ℕ) where
   unfolding fed_from
   fed_none e = rw e
 
--- a whole line that is there
-pub record Line (s : List ℕ) (n : ℕ) : Type 0 where
-  pub size : line_size s ≡ Some n
-  pub some : 0 < n
-  pub inside : n ≤ length s
-
-pub line_there : (s : List ℕ) (n : ℕ) {r : Option ℕ} → r ≡ line_size s → r ≡ Some n → Line s n
-line_there s n e d =
-    let size : line_size s ≡ Some n = sym e ∙ d in
-    record { size = size; some = (first_part s n size).some; inside = size_le s n size }
-
 pub record Feeding (first : Check) (s : List ℕ) (c : Check) (rest : List ℕ) : Type 0 where
   pub inside : length rest ≤ length s
   pub lines : c.line + length rest ≤ first.line + length s
@@ -55,20 +44,18 @@ feeding_start c s =
     record { inside = omega arith; lines = omega arith; fuel = length s; enough = omega arith; same = ap (λ n. fed_from (suc (length s)) c n s) none }
 
 module _ (first : Check) (s : List ℕ) (c : Check) (rest : List ℕ) (h : Feeding first s c rest) where
-  pub feeding_next : (n : ℕ) → Line rest n → Feeding first s (check_call c (call_of (take (n - 1) rest))) (drop n rest)
-  feeding_next n l =
+  pub feeding_next : (n : ℕ) → line_size rest ≡ Some n → Feeding first s (check_call c (call_of (take (n - 1) rest))) (drop n rest)
+  feeding_next n e =
       let d = call_of (take (n - 1) rest) in
-      let e = l.size in
-      let some = l.some in
-      let few = l.inside in
-      let one : h.fuel ≡ suc (h.fuel - 1) = omega (arith, some, few, h.enough) in
+      let line = first_part rest n e in
+      let one : h.fuel ≡ suc (h.fuel - 1) = omega (arith, line.some, line.inside, h.enough) in
       let size : length (drop n rest) ≡ length rest - n = length-drop n rest in
-      let used : length s - length (drop n rest) ≡ length s - length rest + n = omega (arith, size, few, h.inside) in
+      let used : length s - length (drop n rest) ≡ length s - length rest + n = omega (arith, size, line.inside, h.inside) in
       record {
         inside = omega (arith, size, h.inside);
-        lines = omega (arith, size, some, few, h.lines, line_counted c d);
+        lines = omega (arith, size, line.some, line.inside, h.lines, line_counted c d);
         fuel = h.fuel - 1;
-        enough = omega (arith, size, some, h.enough);
+        enough = omega (arith, size, line.some, h.enough);
         same = ap (λ k. fed_from k (check_call c d) (length s - length (drop n rest)) (drop n rest)) (sym one) ∙ ap (λ k. fed_from h.fuel (check_call c d) k (drop n rest)) used ∙ sym (fed_line h.fuel c (length s - length rest) rest n e) ∙ h.same;
       }
 

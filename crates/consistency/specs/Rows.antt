@@ -74,17 +74,17 @@ spans_parts r p q = eq_z r.start (least p.start q.start) && eq_z r.end (greatest
 abbrev pub has_one : (Row → Bool) → ℕ → List ℤ → Row → Bool
 has_one f a lower r = eq_z r.right none && option_map_or f (part_at lower r.left a) false
 
-unfoldable pub spans_one : ℕ → List ℤ → Row → Bool
-spans_one a lower r = has_one (spans_part r) a lower r
+unfoldable pub is_left_row : ℕ → List ℤ → Row → Bool
+is_left_row a lower r = has_one (spans_part r) a lower r
 
 unfoldable pub is_single_row : Kind → ℕ → ℕ → List ℤ → Row → Bool
-is_single_row k a b lower r = meets_condition k b r r && spans_one a lower r
+is_single_row k a b lower r = meets_condition k b r r && is_left_row a lower r
 
 unfoldable pub is_delayed_row : ℕ → ℕ → List ℤ → Row → Bool
 is_delayed_row a d lower r = has_one (waits_for d r) a lower r
 
 unfoldable pub is_arm_row : ℕ → ℕ → List ℤ → Row → Bool
-is_arm_row a b lower r = spans_one a lower r || spans_one b lower (exchanged r)
+is_arm_row a b lower r = is_left_row a lower r || is_left_row b lower (exchanged r)
 
 unfoldable pub is_pair_row : Kind → ℕ → ℕ → List ℤ → Row → Bool
 is_pair_row k a b lower r =

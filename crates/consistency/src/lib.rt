@@ -3,12 +3,13 @@
 // watch and no chart, whose arrays would be copied for each row.
 #![tactic(auto)]
 
-ghost use Rattle.std.specs.Prelude.{◌≡◌, true, ◌≤◌, length};
+ghost use Rattle.std.specs.Prelude.{◌≡◌, true, ◌<◌, ◌≤◌, IfSome, length};
 ghost use Rattle.chart.specs.Charts.{all_below, is_usable};
 ghost use Rattle.chart.specs.Operators.{kind_of, shape_of};
 ghost use Rattle.model.specs.Capacity.{capacity};
+ghost use Rattle.model.specs.Consistency.{is_rising};
 ghost use Rattle.consistency.specs.Consistency.{are_instants_in_range, are_counts_in_range, are_entries_in_range, is_watch_in_range, is_table_row_consistent, are_consistent};
-ghost use Rattle.consistency.specs.Rows.{exchanged, entry_of, part_at, is_within, is_event_row, meets_condition, spans_part, waits_for, spans_parts, spans_one, is_single_row, is_delayed_row, is_arm_row, is_pair_row, agrees_by, is_row_of};
+ghost use Rattle.consistency.specs.Rows.{exchanged, entry_of, part_at, is_within, is_event_row, meets_condition, spans_part, waits_for, spans_parts, is_left_row, is_single_row, is_delayed_row, is_arm_row, is_pair_row, agrees_by, is_row_of};
 
 use chart::operator::{Kind, Shape};
 use chart::{Chart, Entry};
@@ -73,22 +74,34 @@ fn are_entries_in_range(state: WatchState, count: usize) -> bool
     requires { count ≤ 32 }
     ensures { result ≡ are_entries_in_range count state }
 {
-    if state.entries != count {
-        return false;
-    }
-    let mut last = interval::first_floor();
-    for x in &state.since[..count] {
+    state.entries == count
+        && is_rising(
+            interval::first_floor(),
+            state.instant,
+            &state.since[..count],
+        )
+}
+
+// Whether instants do not fall, from one to another. One look at each.
+fn is_rising(first: i32, end: i32, instants: &[i32]) -> bool
+    ensures { result ≡ is_rising first end instants.now }
+{
+    let mut last = first;
+    for x in instants {
         if *x < last {
             return false;
         }
         last = *x;
     }
-    last <= state.instant
+    last <= end
 }
 
 // Whether every row in use is consistent: rows from the first, each read once, its entry and that entry's instant looked up once.
 fn are_rows_consistent(chart: Chart, state: WatchState, t: &[i32]) -> bool
-    requires { (is_usable chart ≡ true) × (state.rows ≤ capacity (length t.now)) × (state.entries ≡ chart.count) }
+    requires usable { is_usable chart ≡ true }
+    requires few { chart.count ≤ 32 }
+    requires same { state.entries ≡ chart.count }
+    requires fit { state.rows ≤ capacity (length t.now) }
     ensures { result ≡ all_below state.rows (is_table_row_consistent chart state t.now) }
 {
     let mut last = i32::MIN;
@@ -112,12 +125,16 @@ fn are_rows_consistent(chart: Chart, state: WatchState, t: &[i32]) -> bool
     true
 }
 
-// The entry of a row, where there are more than it in the chart.
+// The entry of a row, where it is one of so many. A test and a cast here and in `part_at`: with `usize::try_from` the check of rows takes a fifth longer.
 #[tactic(auto, unfolding(crate::specs::Rows::entry_of))]
 fn entry_of(row: Row, count: usize) -> Option<usize>
-    ensures { result ≡ entry_of row count }
+    ensures value { result ≡ entry_of row count }
+    ensures below { IfSome result (λ n. n < count) }
 {
-    let n = usize::try_from(row.entry).ok()?;
+    if row.entry < 0 {
+        return None;
+    }
+    let n = row.entry as usize;
     if n < count { Some(n) } else { None }
 }
 
@@ -135,7 +152,10 @@ fn is_row_of(e: Entry, limits: Limits, lower: &[i32], row: Row) -> bool
 fn is_within(limits: Limits, row: Row) -> bool
     ensures { result ≡ is_within limits row }
 {
-    (limits.floor <= row.start) & (limits.since <= row.start) & (row.end < limits.instant) & (limits.last <= row.end)
+    (limits.floor <= row.start)
+        & (limits.since <= row.start)
+        & (row.end < limits.instant)
+        & (limits.last <= row.end)
 }
 
 // Whether a row's references, start, end and condition are as its entry's operator has them. By the shape, so that an operator of a
@@ -168,7 +188,7 @@ fn is_event_row(events: usize, row: Row) -> bool
 fn is_single_row(kind: Kind, a: u32, b: u32, lower: &[i32], row: Row) -> bool
     ensures { result ≡ is_single_row kind a b lower.now row }
 {
-    meets_condition(kind, b, row, row) && spans_one(a, lower, row)
+    meets_condition(kind, b, row, row) && is_left_row(a, lower, row)
 }
 
 // A row of one operand, which is the right one where the row has no left.
@@ -176,19 +196,19 @@ fn is_single_row(kind: Kind, a: u32, b: u32, lower: &[i32], row: Row) -> bool
 fn is_arm_row(a: u32, b: u32, lower: &[i32], row: Row) -> bool
     ensures { result ≡ is_arm_row a b lower.now row }
 {
-    spans_one(a, lower, row) || spans_one(b, lower, exchanged(row))
+    is_left_row(a, lower, row) || is_left_row(b, lower, exchanged(row))
 }
 
 // Whether a row refers to one row, on the left and of entry a, and starts and ends as that does.
-#[tactic(auto, unfolding(crate::specs::Rows::spans_one))]
-fn spans_one(a: u32, lower: &[i32], row: Row) -> bool
-    ensures { result ≡ spans_one a lower.now row }
+#[tactic(auto, unfolding(crate::specs::Rows::is_left_row))]
+fn is_left_row(a: u32, lower: &[i32], row: Row) -> bool
+    ensures { result ≡ is_left_row a lower.now row }
 {
     row.right == NONE && part_at(lower, row.left, a).is_some_and(|p| spans_part(row, p))
 }
 
-// A row of `after`: its operand on the left and of entry a, which ended d before it. A function of its own: a case in the one above makes the check of all
-// rows a quarter slower.
+// A row of `after`: its operand on the left and of entry a, which ended d before it. A function of its own: as a case of `is_single_row` it makes the
+// check of all rows a quarter slower.
 #[tactic(auto, unfolding(crate::specs::Rows::is_delayed_row))]
 fn is_delayed_row(a: u32, d: u32, lower: &[i32], row: Row) -> bool
     ensures { result ≡ is_delayed_row a d lower.now row }
@@ -250,12 +270,19 @@ fn meets_condition(kind: Kind, b: u32, p: Row, q: Row) -> bool
 fn part_at(lower: &[i32], z: i32, a: u32) -> Option<Row>
     ensures { result ≡ part_at lower.now z a }
 {
-    let j = usize::try_from(z).ok()?;
+    if z < 0 {
+        return None;
+    }
+    let j = z as usize;
     if lower.len() < j * 5 + 5 {
         return None;
     }
     let part = table::row_at(lower, j);
-    if i64::from(part.entry) == i64::from(a) { Some(part) } else { None }
+    if i64::from(part.entry) == i64::from(a) {
+        Some(part)
+    } else {
+        None
+    }
 }
 
 // The row with left and right exchanged.

@@ -73,10 +73,10 @@ returns-then-is_some c =
     let more = one_more _ _ _ _ c.next-4.ensures.steps (sym c.if-is_some.ensures) (λ x b q k. search (rules, tests)) in
     rw (p, q, r)
     (elim c.if-op-eq0.branch [
-      then-op-eq0 w ↦ rw (ap (λ z. left (split_done z) (split_rest z)) (sym w.fields-is) ∙ more.2) (sym (event_more _ _ c.in_ok-number.ensures c.in_ok-op.ensures _ c.in_ok-a.ensures _ _ w.if-op-eq0.true))
+      | then-op-eq0 w ↦ rw (ap (λ z. left (split_done z) (split_rest z)) (sym w.fields-is) ∙ more.2) (sym (event_more _ _ c.in_ok-number.ensures c.in_ok-op.ensures _ c.in_ok-a.ensures _ _ w.if-op-eq0.true))
       | else-op-eq0+in_ok-next-4+in_ok-b w ↦
-        let t = some_left _ _ _ _ w.next-else-op-eq0.ensures.steps _ w.in_ok-next-4.was (λ x b q k. search (rules, tests)) in
-        rw (t, ap (λ z. left (split_done z) (split_rest z)) (sym w.fields-is) ∙ more.2) (sym (both_more _ _ c.in_ok-number.ensures c.in_ok-op.ensures _ c.in_ok-a.ensures w.if-op-eq0.false _ _ _))
+          let t = some_left _ _ _ _ w.next-else-op-eq0.ensures.steps _ w.in_ok-next-4.was (λ x b q k. search (rules, tests)) in
+          rw (t, ap (λ z. left (split_done z) (split_rest z)) (sym w.fields-is) ∙ more.2) (sym (both_more _ _ c.in_ok-number.ensures c.in_ok-op.ensures _ c.in_ok-a.ensures w.if-op-eq0.false _ _ _))
     ])
 
 pub returns : goal.returns
@@ -87,9 +87,9 @@ returns c =
     let end = ended _ _ _ _ c.next-4.ensures.steps (sym c.if-is_some.ensures) in
     rw (p, q, r)
     (elim c.if-op-eq0.branch [
-      then-op-eq0 w ↦ rw (ap (λ z. left (split_done z) (split_rest z)) (sym w.fields-is) ∙ end, w.b-is) (sym (event_read _ _ c.in_ok-number.ensures c.in_ok-op.ensures _ c.in_ok-a.ensures w.if-op-eq0.true))
+      | then-op-eq0 w ↦ rw (ap (λ z. left (split_done z) (split_rest z)) (sym w.fields-is) ∙ end, w.b-is) (sym (event_read _ _ c.in_ok-number.ensures c.in_ok-op.ensures _ c.in_ok-a.ensures w.if-op-eq0.true))
       | else-op-eq0+in_ok-next-4+in_ok-b w ↦
-        let t = some_left _ _ _ _ w.next-else-op-eq0.ensures.steps _ w.in_ok-next-4.was (λ x b q k. search (rules, tests)) in
-        let read = rw w.kind_of.ensures at w.in_ok-b.ensures in
-        rw (t, ap (λ z. left (split_done z) (split_rest z)) (sym w.fields-is) ∙ end, w.b-is) (sym (both_read _ _ c.in_ok-number.ensures c.in_ok-op.ensures _ c.in_ok-a.ensures w.if-op-eq0.false _ read))
+          let t = some_left _ _ _ _ w.next-else-op-eq0.ensures.steps _ w.in_ok-next-4.was (λ x b q k. search (rules, tests)) in
+          let read = rw w.kind_of.ensures at w.in_ok-b.ensures in
+          rw (t, ap (λ z. left (split_done z) (split_rest z)) (sym w.fields-is) ∙ end, w.b-is) (sym (both_read _ _ c.in_ok-number.ensures c.in_ok-op.ensures _ c.in_ok-a.ensures w.if-op-eq0.false _ read))
     ])

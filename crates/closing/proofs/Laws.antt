@@ -26,7 +26,8 @@ use Rattle.table.specs.Table.{cell, stored_row}
 use Rattle.table.specs.declared.Row as stored
 use Rattle.table.proofs.EndParts.{ends_low, ends_few}
 use Rattle.closing.specs.declared.Sought.{Sought}
-use Rattle.closing.specs.declared.Taken.{Taken}
+use Rattle.std.specs.Prelude.{Option}
+use Rattle.closing.specs.declared.Lasting.{Lasting}
 use Rattle.closing.specs.declared.Wanted.{Wanted}
 use Rattle.closing.specs.Added.{span, part_row, taken_row, taken_rows, forbids, is_within, is_forbidden, absence_row, top_of, SameTop, is_wanted, pair_row, right_from, pairs_of, pairs_with, next_row, least_start, left_by, left_from, latest_start, near_from, near_to, rival_from, limit_by, nearest_row, nearest_pairs, wanted_by, nearest_of, nearest_with, sought_by, nearest_rows}
 use Rattle.closing.proofs.Spans.{span_same}
@@ -39,11 +40,11 @@ within_at start t (suc j) h = let e : suc j - 1 ≡ j = omega arith in rw e
 
 -- tables whose first n rows agree: each of them makes the same
 module _ (n : ℕ) (t u : List ℤ) (k : Kept n t u) (entry : ℕ) where
-  pub taken_same : (o : ℤ) (side : Arm) (a : ℤ) (c : Taken) (i : ℕ) → i < n → taken_row side entry o a c t i ≡ taken_row side entry o a c u i
+  pub taken_same : (o : ℤ) (side : Arm) (a : ℤ) (c : Option Lasting) (i : ℕ) → i < n → taken_row side entry o a c t i ≡ taken_row side entry o a c u i
   unfolding taken_row part_row
   taken_same o side a c i h = rw (k i 0 h (omega arith), k i 3 h (omega arith), k i 4 h (omega arith))
 
-  pub takens_same : (o : ℤ) (side : Arm) (a : ℤ) (c : Taken) (m e : ℕ) → e ≤ n → taken_rows side entry o a c m e t ≡ taken_rows side entry o a c m e u
+  pub takens_same : (o : ℤ) (side : Arm) (a : ℤ) (c : Option Lasting) (m e : ℕ) → e ≤ n → taken_rows side entry o a c m e t ≡ taken_rows side entry o a c m e u
   unfolding taken_rows
   takens_same o side a c m e h = span_same (taken_row side entry o a c t) (taken_row side entry o a c u) m e (λ i p q. taken_same o side a c i (omega arith))
 

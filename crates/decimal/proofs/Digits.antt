@@ -157,6 +157,12 @@ length_between (suc k) n h l =
     let more : 10 ^ suc k ≤ n = omega (arith, pow-suc 10 k, one-le-pow k 10 (omega arith)) in
     omega (arith, length_least (suc k) n more, length_most (suc k) n (omega (arith, pow-suc 10 (suc k))))
 
+pub one_digit_below : (n : ℕ) → length (spelled_number n) ≤ 1 → n < 10
+one_digit_below n h = grind (arith, length_least 1 n)
+
+pub more_digits_least : (n : ℕ) → 1 < length (spelled_number n) → 10 ≤ n
+more_digits_least n h = grind (arith, length_most 0 n)
+
 -- Digits keep a value below the power of ten of their number.
 pub digit_below : (i m d : ℕ) → m < 10 ^ i → d < 10 → m * 10 + d < 10 ^ suc i
 digit_below i m d h k = omega (arith, pow-suc 10 i)

@@ -54,6 +54,7 @@ pub trait Spelled: Copy {
         ensures { (result ≡ written (spelling self) out.old) × (out.new ≡ written_output (spelling self) out.old) };
 }
 
+#[tactic(auto, unfolding(crate::specs::Spelling::written, crate::specs::Spelling::written_output))]
 // Writes x at a place of the output that has the room, for callers that know it, and returns the place behind it.
 pub fn write_at<T: Spelled>(x: T, out: &mut [u8], at: usize) -> usize
     requires { at + length (T.spelling x) ≤ length out.old }
@@ -74,6 +75,7 @@ impl Spelled for u64 {
     ghost spelling = { spelled_number };
 
     // From the last digit to the first.
+    #[tactic(auto, unfolding(crate::specs::Spelling::written, crate::specs::Spelling::written_output))]
     fn write(self, out: &mut [u8]) -> Option<usize> {
         let n = digit_count(self);
         if out.len() < n {
@@ -93,6 +95,7 @@ impl Spelled for Length {
     ghost spelling = { λ d. spelled_length d.0 };
 
     // The whole milliseconds go into the output without its last two bytes, so that there is room for the point and the digit.
+    #[tactic(auto, unfolding(crate::specs::Spelling::written, crate::specs::Spelling::written_output, crate::specs::Spelling::spelled_length))]
     fn write(self, out: &mut [u8]) -> Option<usize> {
         let room = out.len().checked_sub(2)?;
         let n = (self.0 / 10).write(&mut out[..room])?;
@@ -105,6 +108,7 @@ impl Spelled for Length {
 impl Spelled for i32 {
     ghost spelling = { spelled };
 
+    #[tactic(auto, using(std::proofs::lemmas::Int::ints), unfolding(crate::specs::Spelling::signed))]
     fn write(self, out: &mut [u8]) -> Option<usize> {
         write_signed(self, u64::from(self.unsigned_abs()), out)
     }
@@ -113,11 +117,13 @@ impl Spelled for i32 {
 impl Spelled for Instant {
     ghost spelling = { λ x. spelled_instant x.0 };
 
+    #[tactic(auto, using(std::proofs::lemmas::Int::ints), unfolding(crate::specs::Spelling::signed))]
     fn write(self, out: &mut [u8]) -> Option<usize> {
         write_signed(self.0, Length(u64::from(self.0.unsigned_abs())), out)
     }
 }
 
+#[tactic(auto, using(std::proofs::lemmas::Int::ints, crate::proofs::Laws::wide_digits_most), unfolding(crate::specs::Spelling::signed))]
 // The number of bytes of x in decimal, minus included. Constant time.
 pub fn integer_length(x: i32) -> usize
     ensures { result ≡ length (spelled x) }
@@ -125,6 +131,7 @@ pub fn integer_length(x: i32) -> usize
     usize::from(x < 0) + digit_count(u64::from(x.unsigned_abs()))
 }
 
+#[tactic(auto, unfolding(crate::specs::Spelling::written, crate::specs::Spelling::written_output, crate::specs::Spelling::signed))]
 // Writes the absolute value of z, with a minus before it where z is below 0. Where the output is too short it writes nothing.
 fn write_signed<T: Spelled>(z: i32, magnitude: T, out: &mut [u8]) -> Option<usize>
     ensures { let s = signed (λ _. T.spelling magnitude) z in (result ≡ written s out.old) × (out.new ≡ written_output s out.old) }

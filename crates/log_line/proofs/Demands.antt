@@ -9,6 +9,7 @@ use borrow.Author.Tests.{eqb-false}
 use lib.Dec.{eqb, leb}
 use lib.IntN.{ℤ, pos}
 use lib.ListN.{length}
+use Rattle.std.specs.Prelude.{Option, Some, None}
 use Rattle.text.specs.Text.{fields}
 use Rattle.text.proofs.Laws.{sizes, split_sizes}
 use Rattle.decimal.specs.Spelling.{number_of, instant_of}

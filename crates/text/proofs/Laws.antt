@@ -9,10 +9,10 @@ use mathlib.Core.List.{List, [], ◌∷◌, ◌++◌, append-nil, append_assoc}
 use borrow.Author.Tests.{eq-eqb, eqb-true, lt-ltb, le-ltb, ltb-true, ltb-false}
 use lib.Dec.{eqb, ltb}
 use lib.ListN.{length, take, drop, length-take, length-drop}
-use lib.Seq.{take_all, length-take-le}
+use lib.Seq.{take_all, length-take-le, drop-drop}
 use Rattle.std.specs.Prelude.{Option, Some, None}
 use Rattle.std.proofs.lemmas.Option.{cond_some, none-some}
-use Rattle.std.specs.List.{position_or_len}
+use Rattle.std.specs.List.{position, position_or_len}
 use Rattle.std.proofs.lemmas.List.Recursion.{is_position_or_len}
 use Rattle.text.specs.Text.{index_of, found_at, split, in_front, Line, whole, broken, ended, lines, is_record, line_size}
 
@@ -55,6 +55,17 @@ module _ (x : ℕ) where
       go : (t : Bool) → (index_of x (take n s) ≡ length (take n s) → length (take n s) ≤ index_of x s) → cond t 0 (suc (index_of x (take n s))) ≡ suc (length (take n s)) → suc (length (take n s)) ≤ cond t 0 (suc (index_of x s))
       go true f g = absurd (omega arith)
       go false f g = let p : length (take n s) ≤ index_of x s = f (omega arith) in omega arith
+
+  -- a front part without x is passed over
+  index_skip : (n : ℕ) (s : List ℕ) → n ≤ length s → index_of x (take n s) ≡ length (take n s) → index_of x s ≡ n + index_of x (drop n s)
+  unfolding index_of
+  index_skip zero s h e = omega arith
+  index_skip (suc n) [] h e = absurd (omega arith)
+  index_skip (suc n) (b ∷ s) h e = go (eqb b x) (index_skip n s (omega arith)) e
+    where
+      go : (t : Bool) → (index_of x (take n s) ≡ length (take n s) → index_of x s ≡ n + index_of x (drop n s)) → cond t 0 (suc (index_of x (take n s))) ≡ suc (length (take n s)) → cond t 0 (suc (index_of x s)) ≡ suc n + index_of x (drop n s)
+      go true f g = absurd (omega arith)
+      go false f g = omega (arith, f (omega arith))
 
 -- the first x ends the first part
 module _ (x : ℕ) where
@@ -272,6 +283,30 @@ module _ (x : ℕ) (s : List ℕ) where
 
   pub none_split : found_at x s ≡ None → split x s ≡ s ∷ []
   none_split e = split_none x s (none_told e)
+
+-- a search piece by piece: p, from place `at` on, is looked at by std's `position`
+module _ (x : ℕ) (s : List ℕ) (at n : ℕ) (passed : at + index_of x (drop at s) ≡ index_of x s) (h : at + n ≤ length s) {p : List ℕ} (e : p ≡ take n (drop at s)) {r : Option ℕ} (d : r ≡ position (λ b. eqb b x) p) where
+  searched : r ≡ found_at x (take n (drop at s))
+  unfolding found_at
+  searched = rw (index_position, ← e) d
+
+  size : length (take n (drop at s)) ≡ n
+  size = length-take-le n (drop at s) (omega (arith, length-drop at s))
+
+  pub piece_some : (k : ℕ) → r ≡ Some k → Some (at + k) ≡ found_at x s
+  piece_some k f =
+      let t = found_told x (take n (drop at s)) k (sym searched ∙ f) in
+      let g : index_of x (drop at s) ≡ k = index_front x n (drop at s) (omega (arith, t.0, t.1)) ∙ t.0 in
+      let i : index_of x s ≡ at + k = omega (arith, g, passed) in
+      ap Some (sym i) ∙ sym (found_some x s (omega (arith, i, t.1, size)))
+
+  pub piece_none : r ≡ None → at + n + index_of x (drop (at + n) s) ≡ index_of x s
+  piece_none f =
+      let g : index_of x (drop at s) ≡ n + index_of x (drop n (drop at s)) = index_skip x n (drop at s) (omega (arith, length-drop at s)) (none_told x (take n (drop at s)) (sym searched ∙ f)) in
+      rw (← passed, g, drop-drop n at s) (omega arith)
+
+  pub piece_last : at + n ≡ length s → r ≡ None → None ≡ found_at x s
+  piece_last all f = sym (found_none x s (omega (arith, piece_none f)))
 
 -- the first line's size, where its byte 10 is among the first 64 bytes and where not
 pub size_found : (s : List ℕ) → index_of 10 (take 64 s) < length (take 64 s) → line_size s ≡ Some (index_of 10 (take 64 s) + 1)

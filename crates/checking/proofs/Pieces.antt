@@ -6,7 +6,7 @@ use mathlib.Core.Bool.{Bool, true, false, cond}
 use mathlib.Core.List.{List, [], ◌∷◌, ◌++◌, append_assoc, append-nil, map}
 use borrow.Author.Tests.{ne_eqb, leb-true, leb-false}
 use lib.Dec.{eqb, leb}
-use lib.IntN.{ℤ, pos}
+use lib.IntN.{ℤ}
 use lib.ListN.{length, take, drop, length-drop}
 use lib.Seq.{drop-drop, drop-length}
 use Rattle.std.specs.Prelude.{Option, Some, None, Ok, Err, is_ok}
@@ -24,7 +24,6 @@ use Rattle.checking.specs.Checks.{State, check_of, start_check, call_checked, ch
 use Rattle.checking.specs.Statements.{ChecksHold}
 use Rattle.checking.specs.declared.Check.{Check}
 use Rattle.checking.specs.declared.Fed.{Fed}
-use Rattle.checking.specs.declared.Instants.{Instants}
 use Rattle.log_line.proofs.ReadBack.{calls_first, calls_long, calls_last}
 use Rattle.checking.proofs.Checking.{fed_line, fed_none}
 
@@ -156,9 +155,6 @@ pieces_well c kept (p ∷ ps) z =
     pieces_well (fed_check c s).check (drop (fed_check c s).used s) ps w.none ∙ ap end_check (sym (w.calls (joined ps))) ∙ ap (λ x. end_check (check_calls c (calls_of x))) (append_assoc kept p (joined ps))
 
 -- The lines checked one by one are refused as the definition says.
-refused_at : ℕ → Refusal → Check
-refused_at line r = check_of line (Err r)
-
 abbrev going : ℕ → ℤ → ℤ → Check
 going line o t = check_of line (Ok (Some (record { opened = o; reached = t })))
 

@@ -2,18 +2,15 @@
 use Prim.Native.Nat.{ℕ, suc, ◌+◌, ◌-◌, ◌≤◌, ◌<◌}
 use native.Mathlib.Omega.{arith}
 use mathlib.Core.Path.{◌≡◌, refl, sym, ap, ap₂, ◌∙◌, subst}
-use mathlib.Core.Bool.{true}
 use mathlib.Core.List.{List, [], ◌++◌, append_assoc}
 use borrow.Author.Tests.{le-leb, lt-leb}
-use lib.Dec.{leb}
 use lib.IntN.{ℤ}
 use lib.ListN.{length, take, drop, length-append, length-drop}
 use lib.Seq.{sets, sets-eq, take-append_seam, drop-append-add, drop-drop}
-use Rattle.std.specs.Prelude.{Option, Some, None, Result, Ok, Err}
+use Rattle.std.specs.Prelude.{Result, Ok, Err}
 use Rattle.text.proofs.Laws.{part_from}
 use Rattle.text.proofs.Written.{part, with_part, with_part_lem, front_written}
 use Rattle.log_line.specs.Log.{line_most}
-use Rattle.log_line.specs.declared.Call.{Call}
 use Rattle.merging.specs.Turns.{step_of, call_text, after_step, steps_to, steps_from, steps_of, turn_of, output_of}
 use Rattle.merging.specs.declared.Ended.{Ended}
 use Rattle.merging.specs.declared.Step.{Step}

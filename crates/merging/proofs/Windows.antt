@@ -9,13 +9,13 @@ use lib.Dec.{leb}
 use lib.IntN.{ℤ}
 use lib.ListN.{length, take, drop}
 use lib.Signed.{lt_z}
-use Rattle.std.specs.Prelude.{Option, Some, None, Result, Ok, Err}
+use Rattle.std.specs.Prelude.{Option, Some, None, Result, Err}
 use Rattle.std.specs.Option.{option_map}
 use Rattle.interval.specs.Instants.{is_mark_refused}
 use Rattle.interval.proofs.Signed.{signed, not_lt}
 use Rattle.text.specs.Text.{line_size}
 use Rattle.text.proofs.Laws.{lines_none, first_part}
-use Rattle.log_line.specs.Log.{call_of, call_in, calls_of, line_of}
+use Rattle.log_line.specs.Log.{call_of, call_in, calls_of}
 use Rattle.log_line.specs.declared.Call.{Call}
 use Rattle.log_line.specs.declared.Call.TheVariants as log
 use Rattle.log_line.proofs.ReadBack.{calls_first, calls_long, calls_last}

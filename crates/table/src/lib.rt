@@ -4,6 +4,7 @@
 
 ghost use Rattle.std.specs.Prelude.{◌≡◌, true, [], ◌∷◌, ◌*◌, ◌+◌, ◌≤◌, pos, length};
 ghost use Rattle.std.specs.Int.Signed.{le_z};
+ghost use Rattle.std.specs.Simd.{first_chunks};
 ghost use Rattle.chart.specs.Charts.{is_usable};
 ghost use Rattle.model.specs.Capacity.{capacity};
 ghost use Rattle.table.specs.Table.{stored_row, model_row, put_row, fill, count_in, are_zeros, zeroed};
@@ -27,7 +28,7 @@ pub fn rows_that_fit(len: usize) -> usize
     }
     let mut left = len;
     let mut rows = 0;
-    for k in (0..16).rev() {
+    for k in (0..16usize).rev() {
         let numbers = 5 << k;
         if numbers <= left {
             left -= numbers;
@@ -72,6 +73,7 @@ pub fn put_row(t: &mut [i32], i: usize, row: Row)
 }
 
 // Appends a row to the n there are, where there is room for it: how many there are then. Without room nothing is written.
+#[tactic(auto, unfolding(crate::specs::Table::fill))]
 pub fn push_row(t: &mut [i32], n: usize, room: usize, row: Row) -> Option<usize>
     requires { (n ≤ room) × (room * 5 ≤ length t.old) × (le_z (pos 0) row.entry ≡ true) }
     ensures { (count_in room result ≡ (fill room n (model_row row ∷ []) t.old).count) × (t.new ≡ (fill room n (model_row row ∷ []) t.old).table) }
@@ -100,7 +102,7 @@ pub fn are_zeros(t: &[i32], a: usize, e: usize) -> bool
     t[a..e].iter().fold(true, |zeros, z| zeros & (*z == 0))
 }
 
-// How many of the rows end before e; they stand by end. Binary search: at most 16 of 65,535 rows are looked at. e may be wider than an end: the
+// How many of the rows end before e; they stand by end. Binary search: at most 17 of 65,535 rows are looked at. e may be wider than an end: the
 // beginning of a wait may be earlier than all instants.
 pub fn ending_before<T: Tenths>(table: &[i32], rows: usize, e: T) -> usize
     requires { (rows * 5 ≤ length table.now) × Ordered rows table.now }
@@ -122,11 +124,13 @@ pub fn ending_by<T: Tenths>(table: &[i32], rows: usize, e: T) -> usize
 // The first rows, five numbers each.
 fn stored_rows(table: &[i32], rows: usize) -> &[[i32; 5]]
     requires { rows * 5 ≤ length table.now }
+    ensures { result.now ≡ first_chunks 5 rows table.now }
 {
     table[..rows * 5].as_chunks().0
 }
 
 // How many references the rows of each entry are written with; an event's row has none. One look at each entry in use.
+#[tactic(auto, using(chart::proofs::Usable::usable_few))]
 pub fn arities_of(chart: Chart) -> [u8; 32]
     requires { is_usable chart ≡ true }
     ensures { result ≡ arities_of chart }
@@ -139,6 +143,7 @@ pub fn arities_of(chart: Chart) -> [u8; 32]
 }
 
 // How many references the rows of an entry are written with.
+#[tactic(auto, using(crate::proofs::Operators::shape_arity))]
 fn arity_of(e: Entry) -> u8
     ensures { result ≡ arity_of (entry_operator e) }
 {

@@ -18,8 +18,8 @@ sets_append out at (b ∷ l) r =
     let e : suc at + length l ≡ at + suc (length l) = omega arith in
     sets_append (set out at b) (suc at) l r ∙ rw e
 
--- the bytes put in the place of as many of the output
-pub put_sets : (out s : List ℕ) (at k : ℕ) → k ≡ length s → at + length s ≤ length out → put_mid at k out s ≡ sets out at s
+-- a part put in the place of as many
+pub put_sets : {X : Type 0} (out s : List X) (at k : ℕ) → k ≡ length s → at + length s ≤ length out → put_mid at k out s ≡ sets out at s
 put_sets out s at k e h = put_mid-paste at k out s s (length s) refl (sym e) refl ∙ paste_all out at s (length s) refl ∙ sym (append_assoc (take at out) s (drop (at + length s) out)) ∙ sym (sets-eq s out at h)
 
 -- at the front of the output

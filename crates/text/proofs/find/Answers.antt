@@ -16,7 +16,7 @@ use Rattle.text.proofs.find.Goals as goal
 module _ (c : After-position) where
   four : c.iter.result.rest.now ≡ take 4 (drop (c.loop-i.i * 4) c.args.s.now)
   four =
-      c.iter.ensures.rest ∙ ap (λ l. get_or l c.loop-i.i []) c.as_chunks.ensures.front ∙ chunk_at 4 (length c.args.s.now / 4) c.args.s.now c.loop-i.i (omega (arith, c.as_chunks.ensures.front_len, c.loop-i-test.true))
+      c.iter.ensures.rest ∙ ap (λ l. get_or l c.loop-i.i []) c.as_chunks.ensures.front ∙ chunk_at 4 (length c.args.s.now / 4) c.args.s.now c.loop-i.i [] (omega (arith, c.as_chunks.ensures.front_len, c.loop-i-test.true))
 
   inside : c.loop-i.i * 4 + 4 ≤ length c.args.s.now
   inside = omega (arith, c.as_chunks.ensures.front_len, c.loop-i-test.true)

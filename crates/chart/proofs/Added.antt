@@ -1,6 +1,6 @@
 -- Lines added to a chart: what the answer is, that the entries fit and so that a chart which a watch may use stays one, and what is left to answer
 -- behind a line.
-use Rattle.std.proofs.Common.{ℕ, zero, suc, ◌+◌, ◌-◌, ◌≤◌, ◌<◌, ◌≡◌, refl, sym, ap, ◌∙◌, Bool, true, cond, eqb, List, [], ◌∷◌, length, get_or, drop, arith}
+use Rattle.std.proofs.Common.{ℕ, zero, suc, ◌+◌, ◌-◌, ◌≤◌, ◌<◌, ◌≡◌, refl, sym, ap, ◌∙◌, true, cond, eqb, List, [], ◌∷◌, length, get_or, drop, arith}
 use mathlib.Core.Path.{ap₂}
 use mathlib.Core.Logic.{⊎_elim}
 use borrow.Author.Tests.{ne_eqb}

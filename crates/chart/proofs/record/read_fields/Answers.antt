@@ -1,9 +1,8 @@
 -- `read_fields` meets its contract: at each exit the fields so far, and what each of them is read as, tell what the definition says.
-use Rattle.std.proofs.Common.{rules, tests, ◌≡◌, ◌<◌, ◌∙◌, sym, ap, List, ◌∷◌}
-use Rattle.std.specs.Prelude.{Option, Some, None}
+use Rattle.std.proofs.Common.{rules, tests, ◌≡◌, ◌∙◌, sym, ap, ◌∷◌}
 use Rattle.std.specs.Slice.Iter.{split_done, split_rest}
 use Rattle.text.specs.Text.{fields}
-use Rattle.chart.specs.Records.{parsed_line, numbered, operator_line, by_operator, event_line, with_code, operands_line, second_operand, with_operands}
+use Rattle.chart.specs.Records.{parsed_line, numbered, operator_line, by_operator}
 use Rattle.chart.proofs.Records.{left, some_left, none_left, ended, one_more, no_operand, no_first, event_read, event_more, no_second, second_bad, both_read, both_more}
 use Rattle.chart.proofs.record.read_fields.Goals.{In_ok-next, In_ok-next-2, In_ok-next-3, then-op-eq0, else-op-eq0+in_ok-next-4+in_ok-b}
 use Rattle.chart.proofs.record.read_fields.Goals as goal

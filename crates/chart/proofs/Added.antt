@@ -1,6 +1,6 @@
 -- Lines added to a chart: what the answer is, that the entries fit and so that a chart which a watch may use stays one, and what is left to answer
 -- behind a line.
-use Rattle.std.proofs.Common.{ℕ, zero, suc, ◌+◌, ◌-◌, ◌≤◌, ◌<◌, ◌≡◌, refl, sym, ap, ◌∙◌, Bool, true, cond, eqb, List, [], ◌∷◌, length, get_or, drop, arith}
+use Rattle.std.proofs.Common.{ℕ, zero, suc, ◌+◌, ◌-◌, ◌≤◌, ◌<◌, ◌≡◌, refl, sym, ap, ◌∙◌, true, cond, eqb, List, [], ◌∷◌, length, get_or, drop, arith}
 use mathlib.Core.Path.{ap₂}
 use mathlib.Core.Logic.{⊎_elim}
 use borrow.Author.Tests.{ne_eqb}
@@ -99,15 +99,6 @@ module _ (c : Chart) (s : List ℕ) where
   pub added_number : (read_added c s).refusal ≡ (added_verdict c.count (lines s)).refusal
   unfolding read_added
   added_number = refl
-
-  pub added_line : (read_added c s).line ≡ (added_verdict c.count (lines s)).line
-  unfolding read_added
-  added_line = refl
-
-  -- refused: "the old chart" stays
-  pub added_refused : ((read_added c s).refusal ≡ 0 → ⊥) → (read_added c s).chart ≡ c
-  unfolding read_added
-  added_refused d = rw (ne_eqb _ _ d)
 
   pub added_taken : (read_added c s).refusal ≡ 0 → read_added c s ≡ taken_chart (with_entries c (entries_of c.count (lines s)))
   unfolding read_added

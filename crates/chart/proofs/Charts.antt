@@ -1,5 +1,5 @@
 -- The first line of a text as the code finds it, the reader line by line, and the check behind refusal 14.
-use Rattle.std.proofs.Common.{ℕ, suc, ◌+◌, ◌-◌, ◌≤◌, ◌<◌, ◌≡◌, refl, sym, ap, subst, ◌∙◌, Bool, true, false, cond, ◌&&◌, eqb, ltb, leb, List, [], ◌∷◌, length, get_or, take, drop, get_or-take, length-take, length-take-le, arith, add-one}
+use Rattle.std.proofs.Common.{ℕ, suc, ◌+◌, ◌-◌, ◌≤◌, ◌<◌, ◌≡◌, refl, ap, subst, ◌∙◌, Bool, true, false, cond, ltb, leb, List, [], ◌∷◌, length, get_or, take, drop, get_or-take, length-take, length-take-le, arith}
 use borrow.Author.Tests.{lt-ltb, le-leb, lt-leb}
 use Rattle.std.specs.Prelude.{Option, None, Some, Result, Ok, Err}
 use Rattle.std.specs.List.{list_all, enumerate_from}

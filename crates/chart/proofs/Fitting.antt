@@ -12,7 +12,6 @@ use Rattle.chart.specs.Operators.{words, operator_of, kind_of, takes_length}
 use Rattle.chart.specs.Records.{parsed_line, numbered, operator_line, by_operator, event_line, with_code, operands_line, second_of, second_operand, with_operands}
 use Rattle.chart.specs.Statements.{LinesFit}
 use Rattle.chart.specs.declared.operator.Kind.{Kind}
-use Rattle.chart.specs.declared.record.Fields.{Fields}
 use Rattle.chart.proofs.Places.{place_short}
 
 -- a number that is read has at most 10 bytes, a second operand at most 11

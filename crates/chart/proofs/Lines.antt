@@ -1,8 +1,6 @@
 -- Laws of the reader of a chart's lines that other crates go by.
 use Rattle.std.proofs.Common.{ℕ, ◌+◌, ◌≤◌, ◌≡◌, refl, ap, Bool, true, false, cond, leb, List, [], ◌∷◌, ◌++◌, arith}
 use borrow.Author.Tests.{leb-true}
-use Rattle.std.specs.Prelude.{Result, Ok, Err}
-use Rattle.refusal.specs.declared.Refusal.TheVariants.{ChartTooLong}
 use Rattle.text.specs.Text.{Line, whole, is_record}
 use Rattle.chart.specs.Records.{answer_to}
 use Rattle.chart.specs.Charts.{no_entries, with_entry, by_answer, refused_chart, taken_chart, read_lines, add_line, or_no_line}

@@ -1,5 +1,5 @@
 -- The fields of a line as `split` hands them out, and the size of the operands that pass.
-use Rattle.std.proofs.Common.{ℕ, ◌+◌, ◌≤◌, ◌<◌, ◌^◌, ◌≡◌, refl, sym, ap, subst, ◌∙◌, Bool, true, false, ◌&&◌, cond, eqb, leb, ltb, List, [], ◌∷◌, ◌++◌, length, get_or, take, drop, arith, add-one}
+use Rattle.std.proofs.Common.{ℕ, ◌+◌, ◌≤◌, ◌<◌, ◌^◌, ◌≡◌, refl, sym, ap, subst, ◌∙◌, Bool, true, false, ◌&&◌, cond, eqb, ltb, List, [], ◌∷◌, ◌++◌, length, get_or, take, drop, arith, add-one}
 use borrow.Author.Tests.{leb-true, ltb-true, eqb-true, ne_eqb}
 use denote.Param.Members.{Mut}
 use denote.Ref.{Bor}
@@ -15,7 +15,7 @@ use Rattle.std.proofs.lemmas.Grind.{common_steps}
 use Rattle.std.proofs.lemmas.List.Splits.{slice_split_none, slice_split_at}
 use Rattle.interval.specs.Instants.{is_length}
 use Rattle.interval.proofs.Laws.{length_told}
-use Rattle.text.specs.Text.{fields, split, in_front, index_of}
+use Rattle.text.specs.Text.{fields, split, index_of}
 use Rattle.text.proofs.Laws.{split_cut, split_none, split_some, index_le}
 use Rattle.decimal.specs.Spelling.{number_of}
 use Rattle.chart.specs.Operators.{operator_of, kind_of, in_range, are_lower}

@@ -1,10 +1,9 @@
 -- A chart that was read is one a watch may use: `read_usable`, and line by line `good_none`, `good_line`, `good_usable`.
 use Rattle.std.proofs.Common.{ℕ, ◌≤◌, ◌<◌, ◌≡◌, refl, ap, subst, ◌∙◌, Bool, true, false, cond, ◌&&◌, eqb, leb, ltb, List, [], ◌∷◌, length, get_or, set, length-set, get_or-set_same, get_or-set_other, arith}
 use borrow.Author.Tests.{leb-true, leb-false, ltb-true}
-use Rattle.std.specs.Prelude.{Option, None, Some, Result, Ok, Err}
+use Rattle.std.specs.Prelude.{Option, None, Some, Ok, Err}
 use Rattle.std.proofs.lemmas.Bool.{and_parts}
 use Rattle.std.proofs.lemmas.List.{length-replicate}
-use Rattle.refusal.specs.declared.Refusal.{Refusal}
 use Rattle.refusal.specs.declared.Refusal.TheVariants.{ChartTooLong, MalformedEntry, EntryNotNext, OperandNotLower, OperandOutOfRange}
 use Rattle.text.specs.Text.{Line, lines, is_record, fields}
 use Rattle.chart.specs.Operators.{kind_of, in_range, are_lower}

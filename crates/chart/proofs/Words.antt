@@ -1,6 +1,6 @@
 -- Laws of the operator words: equal lists of bytes, and how a search of a word goes on.
-use Rattle.std.proofs.Common.{ℕ, suc, ◌+◌, ◌≤◌, ◌<◌, ◌≡◌, refl, sym, ap, ◌∙◌, Bool, true, false, cond, ltb, List, [], ◌∷◌, map, length, get_or, drop, drop_of_length-le, drop-cons, add-one, arith}
-use Rattle.std.specs.Prelude.{Option, None, Some}
+use Rattle.std.proofs.Common.{ℕ, suc, ◌+◌, ◌≤◌, ◌<◌, ◌≡◌, refl, sym, ap, ◌∙◌, true, false, cond, ltb, List, [], map, length, get_or, drop, drop_of_length-le, drop-cons, add-one, arith}
+use Rattle.std.specs.Prelude.{None, Some}
 use Rattle.std.specs.List.{position_or_len}
 use Rattle.std.proofs.lemmas.List.{length-map}
 use Rattle.std.proofs.lemmas.List.Recursion.{is_position_or_len}

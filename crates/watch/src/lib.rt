@@ -149,12 +149,12 @@ impl Watch {
         ensures { number_in result ≡ check_number chart self.state table.now }
     {
         if !chart::is_usable(chart) {
-            return Err(Refusal::UnusableChart);
+            Err(Refusal::UnusableChart)
+        } else if !consistency::is_consistent(chart, self.state, table) {
+            Err(Refusal::Inconsistent)
+        } else {
+            Ok(())
         }
-        if !consistency::is_consistent(chart, self.state, table) {
-            return Err(Refusal::Inconsistent);
-        }
-        Ok(())
     }
 
     // An event of code k at the open instant: 14, 13, 10, 9. A check, then constant time.
@@ -193,7 +193,7 @@ impl Watch {
     }
 
     // A clock mark on a watch that is known to be consistent. With nothing pending and no delay in the chart it looks at each entry; otherwise see closing::close.
-    #[tactic(auto, unfolding(crate::specs::Steps::clock_own))]
+    #[tactic(auto, using(crate::proofs::Calls::clock_8))]
     pub fn clock_unchecked(
         self,
         chart: Chart,
@@ -304,7 +304,7 @@ impl Watch {
 
     // Writes the tree of row i at the front of the output and returns how many bytes it has: 14, 13, 15, 16. A check; then the tree's bytes are counted, so that a
     // refusal leaves the output as it was, with at most one reference followed for each byte of the output and one more; then each byte is written once.
-    #[tactic(auto, using(crate::proofs::Calls::ready), unfolding(crate::specs::Steps::tree_step, crate::specs::Steps::tree_own))]
+    #[tactic(auto, using(crate::proofs::Calls::ready), unfolding(crate::specs::Steps::tree_step, crate::specs::Steps::tree_own, tree::specs::Tree::length_within))]
     pub fn tree(
         self,
         chart: Chart,
@@ -319,7 +319,9 @@ impl Watch {
         if rows <= i {
             return Err(Refusal::NoSuchRow);
         }
-        tree::tree_length(chart, table, rows, i, out.len()).ok_or(Refusal::TreeTooLong)?;
+        if tree::tree_length(chart, table, rows, i, out.len()).is_none() {
+            return Err(Refusal::TreeTooLong);
+        }
         Ok(tree::write_tree(chart, table, rows, i, out))
     }
 }

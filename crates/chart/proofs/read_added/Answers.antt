@@ -1,12 +1,12 @@
 -- `read_added` meets its contract: each turn reads one line, and what is left to read gives the whole answer.
-use Rattle.std.proofs.Common.{rules, ◌+◌, ◌≤◌, ◌<◌, ◌≡◌, ◌∙◌, sym, ap, length, drop, length-drop, length-set, arith}
-use Rattle.std.specs.Prelude.{Ok, Err}
+use Rattle.std.proofs.Common.{rules, ◌<◌, ◌≡◌, ◌∙◌, sym, ap, length, length-drop, length-set, arith}
+use Rattle.std.specs.Prelude.{Ok}
 use Rattle.std.proofs.lemmas.List.{nil_from_length}
 use Rattle.text.specs.Text.{lines}
 use Rattle.text.proofs.Laws.{part_from}
 use Rattle.chart.specs.Records.{first_answer}
 use Rattle.chart.specs.Charts.{with_entry}
-use Rattle.chart.proofs.Added.{goes_on, Step, step_taken, step_refused, on_start, on_end, added_empty}
+use Rattle.chart.proofs.Added.{goes_on, Step, step_taken, on_start, on_end, added_empty}
 use Rattle.chart.proofs.read_added.Goals.{In_ok-entry}
 use Rattle.chart.proofs.read_added.Goals as goal
 

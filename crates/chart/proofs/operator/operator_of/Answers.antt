@@ -1,8 +1,8 @@
 -- `operator_of` meets its contract: the place of the word among the table's, which are those of the definition.
-use Rattle.std.proofs.Common.{rules, ◌≡◌, ℕ, length, Bool, cond, ltb, List, map, refl, sym}
+use Rattle.std.proofs.Common.{rules, ◌≡◌, ℕ, length, Bool, cond, ltb, List, map, refl}
 use borrow.Author.Tests.{tests}
 use denote.Ref.{Bor}
-use Rattle.std.specs.Prelude.{Option, Some, None}
+use Rattle.std.specs.Prelude.{Some, None}
 use Rattle.std.specs.List.{position_or_len}
 use Rattle.std.proofs.lemmas.Iterator.{YieldsList-from_slice}
 use Rattle.std.proofs.lemmas.Iterator.Search.{position_from_yields_List}

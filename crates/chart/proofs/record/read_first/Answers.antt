@@ -1,5 +1,5 @@
 -- `read_first` slices the first line off within the text.
-use Rattle.std.proofs.Common.{◌≡◌, ◌∙◌, sym, arith, length-take-le}
+use Rattle.std.proofs.Common.{◌≡◌, sym, arith, length-take-le}
 use Rattle.std.specs.Prelude.{Some}
 use Rattle.text.specs.Text.{line_size}
 use Rattle.text.proofs.Laws.{FirstPart, first_part}

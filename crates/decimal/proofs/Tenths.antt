@@ -11,7 +11,7 @@ use native.Mathlib.Nat.{lt_of_lt_of_le, pow-le-pow_right}
 use lib.Dec.{eqb, leb, ltb, eqb-suc-zero}
 use lib.IntN.{ℤ, pos, negsuc, neg_ℤ, nat_abs}
 use lib.ListN.{length, get_or, take, drop, length-append, take-append-drop, drop_of_length-le, get_or-append}
-use lib.Seq.{take_all, take-append_seam, drop-append_seam, drop-cons, get_or_at, take_at, drop_at, get_or-append-add}
+use lib.Seq.{take-append_seam, drop-append_seam, drop-cons, get_or_at, take_at, drop_at, get_or-append-add}
 use mir.Syntax.{w32}
 use mir.Val.{SFits}
 use borrow.Author.Tests.{lt-ltb, le-leb, ne_eqb, ltb-true, leb-true, eqb-true}

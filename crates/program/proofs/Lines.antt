@@ -1,4 +1,7 @@
 -- Numbers of the log as the code hands them to the calls, and a line of the log in an input.
+use Prim.Native.Nat.{ℕ, ◌≤◌}
+use Rattle.std.proofs.Common.{Err}
+use borrow.Author.Tests.{ne_eqb}
 use mathlib.Core.Path.{◌≡◌, refl, sym, ap₂, ◌∙◌}
 use mathlib.Core.Logic.{inl}
 use mathlib.Core.Bool.{true, false, cond, Bool}
@@ -6,8 +9,12 @@ use mathlib.Core.List.{List, [], ◌∷◌, map}
 use lib.IntN.{ℤ, pos}
 use Rattle.interval.specs.Instants.{is_instant}
 use Rattle.interval.proofs.Laws.{refuses_mark, refuses_forget, out_of_range}
-use Rattle.text.specs.Text.{Line}
-use Rattle.chart.specs.Charts.{is_usable}
+use Rattle.text.specs.Text.{Line, whole}
+use Rattle.chart.specs.Charts.{is_usable, read_answer, add_line, read_lines}
+use Rattle.chart.specs.declared.Fault.{Fault}
+use Rattle.chart.proofs.Lines.{line_added, refused_number, refused_line}
+use Rattle.chart.proofs.Charts.{number_some}
+use Rattle.refusal.specs.Numbers.{number_of}
 use Rattle.chart.specs.declared.Chart.{Chart}
 use Rattle.state.specs.State.{empty_state}
 use Rattle.state.specs.declared.WatchState.{WatchState}
@@ -15,7 +22,13 @@ use Rattle.log_line.specs.Log as whole_log
 use Rattle.watch.specs.Steps.{refused_step, opening_step, clock_own, forget_own}
 use Rattle.watch.proofs.Calls.{clock_8, forget_11, opening_8, opening_14}
 use Rattle.program.specs.Outcomes.{call_in}
-use Rattle.program.specs.Runs.{narrowed}
+use Rattle.program.specs.Runs.{narrowed, entry_run, refused_run}
+use Rattle.program.specs.declared.Run.{Run}
+
+-- a line of the chart that is refused
+pub entry_refused : (r : Run) (s : List ℕ) (f : Fault) → r.chart.count ≤ 32 → read_answer (Err f) ≡ add_line r.chart s → entry_run r (read_lines r.chart (whole s ∷ [])) ≡ refused_run r (number_of f.refusal) f.line
+unfolding entry_run
+entry_refused r s f few e = rw (← line_added r.chart s few, ← e, refused_number, refused_line, ne_eqb (number_of f.refusal) 0 (number_some f.refusal))
 
 no_instant : is_instant (pos 2000000000) ≡ false
 unfolding is_instant

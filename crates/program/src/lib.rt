@@ -54,6 +54,7 @@ pub struct Fed {
 }
 
 // The run before the first byte.
+#[tactic(auto, unfolding(crate::specs::Runs::start_run))]
 pub fn start() -> Run
     ensures { result ≡ start_run }
 {
@@ -67,6 +68,7 @@ pub fn start() -> Run
 
 // How many bytes an output needs for what is printed in a format, with a table of so many numbers: those of a refusal, and of each row that it can hold or of
 // each of 32 entries. Constant time, and that of finding how many rows fit.
+#[tactic(auto, using(model::proofs::Capacity::capacity_most))]
 pub fn bytes_for(format: Format, numbers: usize) -> usize
     ensures { result ≡ bytes_for format (capacity numbers) }
 {
@@ -95,6 +97,7 @@ pub fn print_whole(
 }
 
 // Whether a run was refused, so that no further byte matters.
+#[tactic(auto, unfolding(crate::specs::Runs::is_refused))]
 pub fn is_refused(run: Run) -> bool
     ensures { result ≡ is_refused run.stage }
 {
@@ -121,6 +124,7 @@ impl Run {
     }
 
     // The end of the input, with so many bytes kept. Constant time.
+    #[tactic(auto, unfolding(crate::specs::Runs::finished_run))]
     pub fn finish(self, kept: usize) -> Run
         requires { HasLines self 1 × HasFew self }
         ensures { result ≡ finished_run self kept }
@@ -133,6 +137,7 @@ impl Run {
 
     // Writes what a finished run prints at the front of the output and returns the number of bytes; None where the output is too short. Each byte
     // is written once; for a report the rows are walked before.
+    #[tactic(auto, using(watch::proofs::Reading::report_few, watch::proofs::Reading::report_shown), unfolding(crate::specs::Runs::table_length, crate::specs::Runs::table_output, crate::specs::Runs::length_at, crate::specs::Runs::output_at, crate::specs::Runs::is_refused))]
     pub fn print(self, format: Format, table: &[i32], out: &mut [u8]) -> Option<usize>
         requires { Printable format self table.now }
         ensures { (result ≡ printed_length format self table.now out.old) × (out.new ≡ printed_output format self table.now out.old) }
@@ -151,6 +156,7 @@ impl Run {
     }
 
     // Plays a line without its byte 10, by the stage.
+    #[tactic(auto, using(crate::proofs::Reaching::read_good), unfolding(crate::specs::Runs::line_step, crate::specs::Runs::is_refused, crate::specs::Runs::Holds, crate::specs::Runs::HasLines, crate::specs::Outcomes::call_in))]
     fn play_line(&mut self, table: &mut [i32], s: &[u8])
         requires { Reached (record { run = self.old; table = table.old }) × HasLines self.old 1 × (length s.now < 64) }
         ensures { record { run = self.new; table = table.new } ≡ after_line (record { run = self.old; table = table.old }) (whole s.now) }
@@ -170,6 +176,7 @@ impl Run {
     }
 
     // A line of the chart, or the empty line that ends it. Each byte is looked at twice at most.
+    #[tactic(auto, using(chart::proofs::Lines::line_added, crate::proofs::Lines::entry_refused), unfolding(crate::specs::Runs::chart_end, crate::specs::Runs::entry_run, crate::specs::Runs::next_run))]
     fn entries_line(&mut self, s: &[u8])
         requires { (self.old.line + 1 < 2 ^ 64) × (self.old.chart.count ≤ 32) × (self.old.stage ≡ Stage.Entries) }
         ensures { self.new ≡ cond (is_empty (whole s.now)) (chart_end self.old) (entry_run self.old (read_lines self.old.chart (whole s.now ∷ []))) }
@@ -193,6 +200,7 @@ impl Run {
     }
 
     // Goes on to the log's next line with the watch that the line's call gives, or is refused at the line.
+    #[tactic(auto, unfolding(crate::specs::Runs::answered_run, crate::specs::Runs::next_run))]
     fn step(&mut self, outcome: Result<Watch, Refusal>)
         requires { self.old.line + 1 < 2 ^ 64 }
         ensures { self.new ≡ answered_run self.old (answer_of self.old.watch.state outcome) }
@@ -208,6 +216,7 @@ impl Run {
     }
 
     // Refused at a line.
+    #[tactic(auto, unfolding(crate::specs::Runs::refused_run))]
     fn refuse(&mut self, refusal: Refusal, line: u64)
         ensures { self.new ≡ refused_run self.old (number_of refusal) line }
     {
@@ -217,6 +226,7 @@ impl Run {
 }
 
 // A line that lacks its byte 10 or has over 64 bytes. Constant time.
+#[tactic(auto, unfolding(crate::specs::Runs::unformed_run, crate::specs::Runs::HasLines, crate::specs::Runs::HasFew, crate::specs::Runs::is_refused))]
 fn unformed_line(run: Run) -> Run
     requires { HasLines run 1 × HasFew run }
     ensures { result ≡ unformed_run run.stage run }
@@ -239,6 +249,7 @@ fn unformed_line(run: Run) -> Run
 }
 
 // No further line comes. Constant time.
+#[tactic(auto, unfolding(crate::specs::Runs::end_run, crate::specs::Runs::HasLines, crate::specs::Runs::is_refused))]
 fn end_of_input(run: Run) -> Run
     requires { HasLines run 1 }
     ensures { result ≡ end_run run.stage run }
@@ -253,6 +264,7 @@ fn end_of_input(run: Run) -> Run
 }
 
 // What is left behind the last whole line: kept, or refused where it has 64 bytes; of a run that was refused no byte is kept. Constant time.
+#[tactic(auto, unfolding(crate::specs::Runs::settled_run))]
 fn settled(run: Run, used: usize, n: usize) -> Fed
     requires { (used ≤ n) × HasLines run 1 × HasFew run }
     ensures { result ≡ settled_run run used n }
@@ -267,6 +279,7 @@ fn settled(run: Run, used: usize, n: usize) -> Fed
 }
 
 // The first line of the log, without its byte 10: the watch that it opens. One pass over the table.
+#[tactic(auto, using(crate::proofs::Lines::narrowed_open), unfolding(crate::specs::Runs::open_step))]
 fn open_line(chart: Chart, table: &mut [i32], s: &[u8]) -> Result<Watch, Refusal>
     ensures { record { answer = answer_of (empty_state (pos 0)) result; table = table.new } ≡ open_step chart table.old (call_of s.now) }
 {
@@ -277,6 +290,7 @@ fn open_line(chart: Chart, table: &mut [i32], s: &[u8]) -> Result<Watch, Refusal
 }
 
 // A line of the log after its opening, without its byte 10, on a watch and table that are consistent: the watch after its call.
+#[tactic(auto, using(crate::proofs::Lines::narrowed_clock, crate::proofs::Lines::narrowed_forget, watch::proofs::Steps::event_passed, watch::proofs::Steps::clock_passed, watch::proofs::Steps::forget_passed), unfolding(crate::specs::Runs::call_step))]
 fn call_line(chart: Chart, watch: Watch, table: &mut [i32], s: &[u8]) -> Result<Watch, Refusal>
     requires { check_number chart watch.state table.old ≡ 0 }
     ensures { record { answer = answer_of watch.state result; table = table.new } ≡ call_step (record { watch = watch.state; table = table.old; chart = chart }) (call_of s.now) }
@@ -290,6 +304,7 @@ fn call_line(chart: Chart, watch: Watch, table: &mut [i32], s: &[u8]) -> Result<
 }
 
 // A number of the log as an instant; where it is none, another that is none, so that the call refuses it.
+#[tactic(auto, unfolding(crate::specs::Runs::narrowed, interval::specs::Instants::is_instant))]
 fn narrowed(x: i64) -> i32
     ensures { result ≡ narrowed x }
 {

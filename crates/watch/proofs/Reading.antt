@@ -17,7 +17,8 @@ use Rattle.table.specs.Operators.{operators_of}
 use Rattle.table.specs.Ends.{ending_before, ending_by}
 use Rattle.tree.specs.Tree.{tree_bytes}
 use Rattle.tally.specs.Tally.{report_of, refused_report}
-use Rattle.tally.proofs.Laws.{report_taken, report_entries, report_long, refused_number, refused_entries}
+use Rattle.tally.proofs.Laws.{report_taken, report_entries, report_tallies, length_tallies, refused_number}
+use Rattle.model.specs.Order.{Row}
 use Rattle.watch.specs.Steps.{check_number, end_part, end_rows, row_part, taken_tree, tree_own, tree_step, report_step}
 use Rattle.state.specs.declared.WatchState.{WatchState}
 use Rattle.watch.specs.declared.Part.{Part}
@@ -112,12 +113,9 @@ module _ (chart : Chart) (w : WatchState) (t : List ℤ) where
       go false p = ap (λ r. r.refusal) (report_refused (eqb-false (check_number chart w t) 0 p)) ∙ refused_number (check_number chart w t)
 
   -- it has no more entries than tallies
-  pub report_within : (report_step chart w t).entries ≤ length (report_step chart w t).tallies
-  report_within = go (eqb (check_number chart w t) 0) refl
-    where
-      go : (b : Bool) → eqb (check_number chart w t) 0 ≡ b → (report_step chart w t).entries ≤ length (report_step chart w t).tallies
-      go true p =
-          let z = eqb-true (check_number chart w t) 0 p in
-          let few = usable_few chart (told chart w t z).ready.usable in
-          rw (report_passed z, report_entries chart.count (rows_in w.rows t), report_long chart.count (rows_in w.rows t) few) few
-      go false p = rw (report_refused (eqb-false (check_number chart w t) 0 p), refused_entries (check_number chart w t)) (omega arith)
+  pub report_few : check_number chart w t ≡ 0 → (report_of chart.count (rows_in w.rows t)).entries ≤ 32
+  report_few z = rw (report_entries chart.count (rows_in w.rows t)) (usable_few chart (told chart w t z).ready.usable)
+
+-- and as many are shown
+pub report_shown : (n : ℕ) (rs : List Row) → (report_of n rs).entries ≡ length (take (report_of n rs).entries (report_of n rs).tallies)
+report_shown n rs = rw (report_tallies n rs, length_tallies n rs, report_entries n rs)

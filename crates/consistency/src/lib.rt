@@ -249,7 +249,8 @@ fn waits_for(d: u32, row: Row, p: Row) -> bool
 fn spans_parts(row: Row, p: Row, q: Row) -> bool
     ensures { result ≡ spans_parts row p q }
 {
-    (row.start == p.start.min(q.start)) & (row.end == p.end.max(q.end))
+    (row.start == interval::least_start(p.start, q.start))
+        & (row.end == interval::greatest_end(p.end, q.end))
 }
 
 // The condition of an operator on its parts, b being the length of a length test. An absence's is not asked; of cut and change only that of seq is, no

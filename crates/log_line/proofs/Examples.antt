@@ -8,7 +8,7 @@ use Rattle.std.specs.Prelude.{Option, Some, None}
 use Rattle.text.specs.Text.{split}
 use Rattle.text.specs.Quoted.{bytes, tabbed, unended}
 use Rattle.decimal.specs.Spelling.{is_digit, all_digits, value_from, has_leading_zero, is_number, number_of, milliseconds_of, in_tenths, has_point, length_of, without_minus, with_minus, instant_of}
-use Rattle.chart.specs.Operators.{same_bytes, place_of}
+use Rattle.chart.specs.Operators.{place_of}
 use Rattle.log_line.specs.declared.Call.{Call}
 use Rattle.log_line.specs.declared.Call.TheVariants.{Open, Event, Clock, Forget}
 use Rattle.log_line.specs.Log.{call_words, event_call, instant_call, word_call, fields_call, call_of}
@@ -72,5 +72,5 @@ cases : List Case
 cases = taken ++ malformed
 
 examples : map (λ (c : Case). call_of c.line) cases ≡ map (λ (c : Case). c.call) cases
-unfolding cases bytes tabbed unended split is_digit all_digits value_from has_leading_zero is_number number_of milliseconds_of in_tenths has_point length_of without_minus with_minus instant_of same_bytes place_of call_words event_call instant_call word_call fields_call call_of
+unfolding cases bytes tabbed unended split is_digit all_digits value_from has_leading_zero is_number number_of milliseconds_of in_tenths has_point length_of without_minus with_minus instant_of place_of call_words event_call instant_call word_call fields_call call_of
 examples = refl

@@ -1,8 +1,7 @@
 -- Laws of a line of the log: what has a tab is no number, a text that starts with a word and its tab is that word's call, and any
 -- other is malformed.
-use Prim.Native.Nat.{ℕ, zero, suc, ◌+◌, ◌-◌, ◌^◌, ◌≤◌, ◌<◌}
+use Prim.Native.Nat.{ℕ, zero, suc, ◌+◌, ◌≤◌, ◌<◌}
 use native.Mathlib.Omega.{arith}
-use native.Mathlib.Numerals.{add-one}
 use mathlib.Core.Path.{◌≡◌, refl, sym, ap, ◌∙◌}
 use mathlib.Core.Bool.{Bool, true, false, cond, true≢false}
 use mathlib.Core.List.{List, [], ◌∷◌, ◌++◌, append_assoc}
@@ -10,21 +9,20 @@ use mathlib.Core.Logic.{◌≢◌}
 use borrow.Author.Tests.{eqb-true, eqb-false}
 use lib.Dec.{eqb, leb}
 use lib.IntN.{ℤ, pos}
-use lib.ListN.{length, get_or, take, drop, take-append-drop}
+use lib.ListN.{length, take, drop, take-append-drop}
 use lib.Seq.{take-append_seam}
 use Rattle.std.specs.Str.{bytes_eq}
 use Rattle.std.proofs.lemmas.Slice.Eq.{bytes_eq-Decides}
 use Rattle.std.specs.Prelude.{Option, Some, None, MatchOption, IsSomeAnd}
-use Rattle.interval.proofs.Signed.{never}
 use Rattle.text.specs.Text.{index_of, fields}
-use Rattle.text.proofs.Laws.{index_le, lacks, index_lacks, index_cut, split_some, split_word, part_from}
+use Rattle.text.proofs.Laws.{index_le, lacks, index_lacks, index_cut, split_some, split_word}
 use Rattle.decimal.specs.Spelling.{number_of, instant_of}
 use Rattle.decimal.proofs.Laws.{number_lacks}
-use Rattle.decimal.proofs.Tenths.{instant_below, instant_lacks}
+use Rattle.decimal.proofs.Tenths.{instant_lacks}
 use Rattle.chart.specs.Operators.{same_bytes, place_of}
 use Rattle.chart.proofs.Records.{one_field, cut_field}
-use Rattle.chart.proofs.Words.{same_eq, place_hit, place_on, place_none}
-use Rattle.chart.proofs.Places.{same_self, place_le}
+use Rattle.chart.proofs.Words.{same_eq}
+use Rattle.chart.proofs.Places.{place_le}
 use Rattle.log_line.specs.declared.Call.{Call}
 use Rattle.log_line.specs.Log.{open_word, event_word, clock_word, forget_word, call_words, event_call, instant_call, word_call, fields_call, call_of, answer_of, taken_line, refused_line, code_answer, instant_answer, word_answer, fields_answer, line_answer}
 
@@ -71,46 +69,26 @@ behind_word w t = go (eqb (index_of 9 t) (length t)) refl
 abbrev pub tabbed : List ℕ → List ℕ
 tabbed w = w ++ (9 ∷ [])
 
--- a word behind words that begin with other bytes, which a test finds that computes
-abbrev begin_other : ℕ → List (List ℕ) → Bool
-begin_other a [] = true
-begin_other a (v ∷ vs) = cond (eqb a (get_or v 0 0)) false (begin_other a vs)
-
-other_word : (w v : List ℕ) → eqb (get_or w 0 0) (get_or v 0 0) ≡ false → (b : Bool) → same_bytes w v ≡ b → b ≡ false
-other_word w v d true e = absurd (eqb-false _ _ d (ap (λ (l : List ℕ). get_or l 0 0) (same_eq w v e)))
-other_word w v d false e = refl
-
-place_behind : (w : List ℕ) (vs us : List (List ℕ)) → begin_other (get_or w 0 0) vs ≡ true → place_of w (vs ++ w ∷ us) ≡ length vs
-place_behind w [] us e = place_hit w (w ∷ us) 0 (omega arith) (same_self w)
-place_behind w (v ∷ vs) us e = go (eqb (get_or w 0 0) (get_or v 0 0)) refl e (place_behind w vs us)
-  where
-    rest : List (List ℕ)
-    rest = v ∷ vs ++ w ∷ us
-
-    go : (t : Bool) → eqb (get_or w 0 0) (get_or v 0 0) ≡ t → cond t false (begin_other (get_or w 0 0) vs) ≡ true → (begin_other (get_or w 0 0) vs ≡ true → place_of w (vs ++ w ∷ us) ≡ length vs) → place_of w rest ≡ suc (length vs)
-    go true d q f = never q
-    go false d q f = place_on w rest 0 (omega arith) (other_word w v d (same_bytes w v) refl) ∙ ap suc (f q)
-
 -- the words of the log: no tab, and a place
 pub record WordAt (n : ℕ) (w : List ℕ) : Type 0 where
   untabbed : lacks 9 w ≡ true
   place : place_of w call_words ≡ n
 
 pub open_word_lem : WordAt 0 open_word
-unfolding call_words
-open_word_lem = record { untabbed = refl; place = place_behind open_word [] _ refl }
+unfolding call_words place_of
+open_word_lem = record { untabbed = refl; place = refl }
 
 pub event_word_lem : WordAt 1 event_word
-unfolding call_words
-event_word_lem = record { untabbed = refl; place = place_behind event_word (open_word ∷ []) _ refl }
+unfolding call_words place_of
+event_word_lem = record { untabbed = refl; place = refl }
 
 pub clock_word_lem : WordAt 2 clock_word
-unfolding call_words
-clock_word_lem = record { untabbed = refl; place = place_behind clock_word (open_word ∷ event_word ∷ []) _ refl }
+unfolding call_words place_of
+clock_word_lem = record { untabbed = refl; place = refl }
 
 pub forget_word_lem : WordAt 3 forget_word
-unfolding call_words
-forget_word_lem = record { untabbed = refl; place = place_behind forget_word (open_word ∷ event_word ∷ clock_word ∷ []) _ refl }
+unfolding call_words place_of
+forget_word_lem = record { untabbed = refl; place = refl }
 
 -- a text that does not begin with w and a tab has another first field
 other_field : (s w : List ℕ) → index_of 9 s < length s → ((rest : List ℕ) → s ≢ tabbed w ++ rest) → same_bytes (take (index_of 9 s) s) w ≡ false
@@ -185,7 +163,7 @@ instant_mapped make (Some z) {r} h = go r h
 
 -- a line with no word and tab in front
 pub no_call : (s : List ℕ) → ((rest : List ℕ) → s ≢ tabbed open_word ++ rest) → ((rest : List ℕ) → s ≢ tabbed event_word ++ rest) → ((rest : List ℕ) → s ≢ tabbed clock_word ++ rest) → ((rest : List ℕ) → s ≢ tabbed forget_word ++ rest) → call_of s ≡ None
-unfolding call_of fields_call call_words word_call
+unfolding call_of fields_call call_words word_call place_of
 no_call s o e c f = go (eqb (index_of 9 s) (length s)) refl
   where
     go : (b : Bool) → eqb (index_of 9 s) (length s) ≡ b → fields_call (fields s) ≡ None
@@ -194,10 +172,5 @@ no_call s o e c f = go (eqb (index_of 9 s) (length s)) refl
         let d = eqb-false (index_of 9 s) (length s) q in
         let h : index_of 9 s < length s = omega (arith, index_le 9 s) in
         let w = take (index_of 9 s) s in
-        let place : place_of w call_words ≡ 4 =
-        place_on w call_words 0 (omega arith) (other_field s open_word h o)
-        ∙ ap suc (place_on w call_words 1 (omega arith) (other_field s event_word h e)
-        ∙ ap suc (place_on w call_words 2 (omega arith) (other_field s clock_word h c)
-        ∙ ap suc (place_on w call_words 3 (omega arith) (other_field s forget_word h f)
-        ∙ ap suc (place_none w call_words 4 (omega arith))))) in
+        let place : place_of w call_words ≡ 4 = rw (other_field s open_word h o, other_field s event_word h e, other_field s clock_word h c, other_field s forget_word h f) in
         rw (cut_field s d) (behind_word w (drop (index_of 9 s + 1) s) ∙ ap (λ k. word_call k (drop (index_of 9 s + 1) s)) place)

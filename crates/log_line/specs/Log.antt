@@ -1,7 +1,7 @@
 -- A line of the log. Document 01, "Chart and log on paper": "Log lines: `open` instant (first line only), `event` code, `clock`
 -- instant, `forget` instant"; "fields parted by one tab". A line of this form has at most 20 bytes with its byte 10, so that the
 -- limit of 64 asks nothing more (`LinesFit`).
-use Rattle.std.specs.Prelude.{ℕ, ◌+◌, Bool, true, false, cond, ◌&&◌, List, [], ◌∷◌, ◌++◌, map, eqb, leb, ℤ, pos, length, Option, Some, None}
+use Rattle.std.specs.Prelude.{ℕ, ◌+◌, Bool, cond, ◌&&◌, List, [], ◌∷◌, ◌++◌, map, eqb, leb, ℤ, pos, length, Option, Some, None}
 use Rattle.interval.specs.Instants.{is_instant}
 use Rattle.text.specs.Text.{Line, lines, is_record, fields}
 use Rattle.text.specs.Output.{output_where}

@@ -1,21 +1,9 @@
 -- What a writer has of a text that is handed over in parts.
-use Rattle.std.proofs.Common.{ℕ, ◌≡◌, Bool, true, List, ◌++◌, ◌-◌, length, take, drop, Option, Some, None, sym, ap, ◌∙◌, subst, arith, append_assoc, length-append, length-drop, take-append-drop}
+use Rattle.std.proofs.Common.{ℕ, ◌≡◌, Bool, true, List, ◌++◌, ◌-◌, length, take, drop, Option, sym, ap, ◌∙◌, subst, arith, append_assoc, length-append, length-drop, take-append-drop}
+use Rattle.std.proofs.lemmas.Grind.{common_steps}
 use lib.Seq.{take-append_seam, take_all}
 use Rattle.std.specs.Io.KnownBytes.{Keeps, Appends}
 use Rattle.reading.specs.Readings.{Hands}
-
--- handed over in two parts
-appends_more : (a b c : Option (List ℕ)) (x y : List ℕ) → Appends a b x → Appends b c y → Appends a c (x ++ y)
-appends_more None b c x y h k = tt
-appends_more (Some p) None c x y h k = absurd h
-appends_more (Some p) (Some q) None x y h k = absurd k
-appends_more (Some p) (Some q) (Some r) x y h k = k ∙ ap (λ s. s ++ y) h ∙ append_assoc p x y
-
-appends_none : (a b c : Option (List ℕ)) (x : List ℕ) → Appends a b x → Keeps b c → Appends a c x
-appends_none None b c x h k = tt
-appends_none (Some p) None c x h k = absurd h
-appends_none (Some p) (Some q) None x h k = absurd k
-appends_none (Some p) (Some q) (Some r) x h k = k ∙ h
 
 -- What a writer has of a text: the front of it, and what is left.
 pub record Written (a b : Option (List ℕ)) (text rest : List ℕ) : Type 0 where
@@ -28,11 +16,11 @@ module _ {a b : Option (List ℕ)} {text rest : List ℕ} (w : Written a b text 
   written_more n h = record {
     front = w.front ++ take n rest;
     cut = w.cut ∙ ap (λ s. w.front ++ s) (sym (take-append-drop n rest)) ∙ sym (append_assoc w.front (take n rest) (drop n rest));
-    has = appends_more a b c w.front (take n rest) w.has h;
+    has = let k = w.has in grind (arith, common_steps);
   }
 
   pub written_kept : Keeps b c → Written a c text rest
-  written_kept h = record { front = w.front; cut = w.cut; has = appends_none a b c w.front w.has h }
+  written_kept h = record { front = w.front; cut = w.cut; has = let k = w.has in grind (arith, common_steps) }
 
 -- no more is written
 pub written_hands : {a b : Option (List ℕ)} {text rest : List ℕ} → Written a b text rest → (whole : Bool) → (whole ≡ true → length rest ≡ 0) → Hands a b text whole

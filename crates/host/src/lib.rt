@@ -66,16 +66,20 @@ pub extern "C" fn chronicle_read_instant(bytes: &[u8]) -> TenthsAnswer
 
 // The length that all the bytes spell, in its range or not. Constant time.
 #[unsafe(no_mangle)]
+#[tactic(auto, using(decimal::proofs::Tenths::length_below), unfolding(decimal::specs::Spelling::without_minus))]
 pub extern "C" fn chronicle_read_length(bytes: &[u8]) -> TenthsAnswer
     ensures { result ≡ tenths_of (without_minus (length_of bytes.now)) }
 {
-    let length = decimal::read_length(bytes);
-    TenthsAnswer::from(length.and_then(|d| i64::try_from(d).ok()))
+    let Some(length) = decimal::read_length(bytes) else {
+        return TenthsAnswer::from(None);
+    };
+    TenthsAnswer::from(Some(length as i64))
 }
 
 // Writes an instant as listings have it at the front of the output: the number of bytes, or 0 and nothing written where the output is too short. One division for
 // each digit but one.
 #[unsafe(no_mangle)]
+#[tactic(auto, using(decimal::proofs::Laws::written_or_none))]
 pub extern "C" fn chronicle_write_instant(tenths: i32, out: &mut [u8]) -> usize
     ensures { (result ≡ written_length (spelled_instant tenths) out.old) × (out.new ≡ written_output (spelled_instant tenths) out.old) }
 {
@@ -188,6 +192,7 @@ pub extern "C" fn chronicle_report(watch: Watch, chart: Chart, table: &[i32]) ->
 // Plays a whole input of the listing program, chart, empty line and log, and writes what the program prints for it: the number of bytes, or 0 and
 // nothing done where the output is too short. Costs what the lines' calls cost.
 #[unsafe(no_mangle)]
+#[tactic(auto, using(program::proofs::Whole::whole_number))]
 pub extern "C" fn chronicle_list(input: &[u8], table: &mut [i32], out: &mut [u8]) -> usize
     ensures { (result ≡ whole_length Format.Listing input.now table.old out.old) × (table.new ≡ whole_table Format.Listing input.now table.old out.old) × (out.new ≡ whole_output Format.Listing input.now table.old out.old) }
 {
@@ -196,6 +201,7 @@ pub extern "C" fn chronicle_list(input: &[u8], table: &mut [i32], out: &mut [u8]
 
 // The same of the report program.
 #[unsafe(no_mangle)]
+#[tactic(auto, using(program::proofs::Whole::whole_number))]
 pub extern "C" fn chronicle_print_report(input: &[u8], table: &mut [i32], out: &mut [u8]) -> usize
     ensures { (result ≡ whole_length Format.Report input.now table.old out.old) × (table.new ≡ whole_table Format.Report input.now table.old out.old) × (out.new ≡ whole_output Format.Report input.now table.old out.old) }
 {

@@ -80,4 +80,3 @@ call_in_log l = refl
 pub calls_in_log : (ls : List Line) → map call_in ls ≡ map whole_log.call_in ls
 calls_in_log [] = refl
 calls_in_log (l ∷ ls) = ap₂ (λ c cs. c ∷ cs) (call_in_log l) (calls_in_log ls)
-

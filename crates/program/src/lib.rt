@@ -80,12 +80,7 @@ pub fn bytes_for(format: Format, numbers: usize) -> usize
 
 // Plays a whole input on a lent table and writes what the program of this format prints for it at the front of the output: the number of bytes, or None and nothing
 // done where the output has less than `bytes_for` says. The cost is that of `feed` and `print`.
-pub fn print_whole(
-    format: Format,
-    input: &[u8],
-    table: &mut [i32],
-    out: &mut [u8],
-) -> Option<usize>
+pub fn print_whole(format: Format, input: &[u8], table: &mut [i32], out: &mut [u8]) -> Option<usize>
     ensures { (result ≡ whole_count format input.now table.old out.old) × (table.new ≡ whole_table format input.now table.old out.old) × (out.new ≡ whole_output format input.now table.old out.old) }
 {
     if out.len() < bytes_for(format, table.len()) {

@@ -60,6 +60,6 @@ returns c =
   where
     none : is_refused c.loop-size.run.stage ≡ false → line_size (drop c.loop-size.at c.args.s.now) ≡ None
     none z = elim c.match-line_size.branch [
-        in-Some+then-is_refused w ↦ never (sym z ∙ sym w.is_refused.ensures ∙ w.if-is_refused.true)
+      | in-Some+then-is_refused w ↦ never (sym z ∙ sym w.is_refused.ensures ∙ w.if-is_refused.true)
       | in_default w ↦ sym (simp part_from at w.in_default.ensures)
-      ]
+    ]

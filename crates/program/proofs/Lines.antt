@@ -1,6 +1,6 @@
 -- Numbers of the log as the code hands them to the calls, and a line of the log in an input.
 use Prim.Native.Nat.{ℕ, ◌≤◌}
-use Rattle.std.proofs.Common.{Err}
+use Rattle.std.proofs.Common.{Result, Ok, Err}
 use borrow.Author.Tests.{ne_eqb}
 use mathlib.Core.Path.{◌≡◌, refl, sym, ap₂, ◌∙◌}
 use mathlib.Core.Logic.{inl}
@@ -19,16 +19,30 @@ use Rattle.chart.specs.declared.Chart.{Chart}
 use Rattle.state.specs.State.{empty_state}
 use Rattle.state.specs.declared.WatchState.{WatchState}
 use Rattle.log_line.specs.Log as whole_log
-use Rattle.watch.specs.Steps.{refused_step, opening_step, clock_own, forget_own}
+use Rattle.watch.specs.declared.Answer.{Answer}
+use Rattle.watch.specs.Steps.{Step, refused_step, opening_step, clock_own, forget_own}
 use Rattle.watch.proofs.Calls.{clock_8, forget_11, opening_8, opening_14}
 use Rattle.program.specs.Outcomes.{call_in}
-use Rattle.program.specs.Runs.{narrowed, entry_run, refused_run}
+use Rattle.watch.specs.Answers.{answer_of}
+use Rattle.watch.specs.declared.Watch.{Watch}
+use Rattle.refusal.specs.declared.Refusal.{Refusal}
+use Rattle.program.specs.Runs.{answered_run, narrowed, entry_run, refused_run}
 use Rattle.program.specs.declared.Run.{Run}
 
 -- a line of the chart that is refused
 pub entry_refused : (r : Run) (s : List ℕ) (f : Fault) → r.chart.count ≤ 32 → read_answer (Err f) ≡ add_line r.chart s → entry_run r (read_lines r.chart (whole s ∷ [])) ≡ refused_run r (number_of f.refusal) f.line
 unfolding entry_run
 entry_refused r s f few e = rw (← line_added r.chart s few, ← e, refused_number, refused_line, ne_eqb (number_of f.refusal) 0 (number_some f.refusal))
+
+-- a step by its answer and its table
+pub step_is : (a : Answer) (t : List ℤ) (s u : Step) → (a ≡ s.answer) × (t ≡ s.table) → s ≡ u → record { answer = a; table = t } ≡ u
+step_is a t s u h e = ap₂ (λ x y. record { answer = x; table = y }) h.0 h.1 ∙ e
+
+-- what the outcome of a call makes of a run, whatever watch the call had
+pub answered_by : (r : Run) (w : WatchState) (o : Result Watch Refusal) → answered_run r (answer_of w o) ≡ answered_run r (answer_of (empty_state (pos 0)) o)
+unfolding answered_run
+answered_by r w (Ok x) = refl
+answered_by r w (Err e) = rw (ne_eqb (number_of e) 0 (number_some e))
 
 no_instant : is_instant (pos 2000000000) ≡ false
 unfolding is_instant

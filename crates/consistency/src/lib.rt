@@ -32,7 +32,7 @@ struct Limits {
 
 // Whether watch and table are consistent with a chart that a watch may use. One look at each entry's instant; then one walk of the table,
 // with constant work for each row in use and one look at each number behind them. A watch that is out of range itself is refused before the walk.
-#[tactic(auto, unfolding(crate::specs::Consistency::are_consistent))]
+#[tactic(auto, using(model::proofs::Capacity::capacity_fits, chart::proofs::Usable::usable_few, crate::proofs::Theorems::entries_told), unfolding(crate::specs::Consistency::are_consistent))]
 pub fn is_consistent(chart: Chart, state: WatchState, table: &[i32]) -> bool
     requires { is_usable chart ≡ true }
     ensures { result ≡ are_consistent chart state table.now }
@@ -97,6 +97,7 @@ fn is_rising(first: i32, end: i32, instants: &[i32]) -> bool
 }
 
 // Whether every row in use is consistent: rows from the first, each read once, its entry and that entry's instant looked up once.
+#[tactic(auto, using(model::proofs::Capacity::capacity_fits))]
 fn are_rows_consistent(chart: Chart, state: WatchState, t: &[i32]) -> bool
     requires usable { is_usable chart ≡ true }
     requires few { chart.count ≤ 32 }
@@ -248,7 +249,8 @@ fn waits_for(d: u32, row: Row, p: Row) -> bool
 fn spans_parts(row: Row, p: Row, q: Row) -> bool
     ensures { result ≡ spans_parts row p q }
 {
-    (row.start == p.start.min(q.start)) & (row.end == p.end.max(q.end))
+    (row.start == interval::least_start(p.start, q.start))
+        & (row.end == interval::greatest_end(p.end, q.end))
 }
 
 // The condition of an operator on its parts, b being the length of a length test. An absence's is not asked; of cut and change only that of seq is, no

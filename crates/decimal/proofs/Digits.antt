@@ -10,7 +10,7 @@ use lib.ListN.{length, get_or, drop, length-append, get_or-append, drop_of_lengt
 use lib.Seq.{drop-cons}
 use native.Mathlib.Numerals.{add-one}
 use Rattle.std.proofs.Common.{Option, Some, None}
-use borrow.Author.Tests.{lt-ltb, le-ltb, le-leb, lt-leb, ne_eqb, ltb-true, ltb-false, leb-true}
+use borrow.Author.Tests.{lt-ltb, le-ltb, le-leb, ne_eqb, ltb-true, ltb-false, leb-true}
 use Rattle.interval.proofs.Signed.{and_first, and_second}
 use Rattle.text.proofs.Laws.{lacks}
 use Rattle.decimal.specs.Spelling.{is_digit, all_digits, value_from, digits_value, digit, digits_within, spelled_number}

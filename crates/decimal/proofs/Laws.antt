@@ -3,22 +3,21 @@
 use mathlib.Core.Path.{◌≡◌, refl, sym, ap, ◌∙◌}
 use mathlib.Core.Bool.{Bool, true, false, not, cond, ◌&&◌, and-false}
 use mathlib.Core.List.{List, [], ◌∷◌, ◌++◌, append-nil}
-use mathlib.Core.Logic.{⊎_elim}
-use Rattle.std.proofs.Common.{Option, Some, None}
+use Rattle.std.proofs.Common.{Some, None}
 use Rattle.std.specs.Option.{unwrap_or}
 use Prim.Native.Nat.{ℕ, zero, suc, ◌+◌, ◌*◌, ◌-◌, ◌/◌, ◌%◌, ◌^◌, ◌<◌, ◌≤◌}
 use native.Mathlib.Omega.{arith}
 use native.Mathlib.Nat.{zero-add, lt_of_lt_of_le, pow-le-pow_right}
 use lib.Dec.{eqb, leb, ltb}
-use lib.Signed.{le_z, nat_abs-le}
+use lib.Signed.{nat_abs-le}
 use lib.IntN.{ℤ, pos, negsuc, nat_abs}
-use lib.ListN.{length, get_or, drop}
+use lib.ListN.{length, get_or}
 use lib.Seq.{append_snoc}
 use mir.Syntax.{w32}
 use mir.Val.{SFits}
-use borrow.Author.Tests.{lt-ltb, le-leb, lt-leb, ne_eqb, ltb-true, leb-true, leb-false, eqb-false, not-true}
-use Rattle.interval.proofs.Signed.{never, and_first, and_second}
-use Rattle.text.proofs.Laws.{lt_or_le, lacks}
+use borrow.Author.Tests.{lt-ltb, le-leb, ne_eqb, ltb-true, leb-true, eqb-false, not-true}
+use Rattle.interval.proofs.Signed.{and_first, and_second}
+use Rattle.text.proofs.Laws.{lacks}
 use Rattle.decimal.specs.Spelling.{is_digit, all_digits, value_from, digits_value, has_leading_zero, is_number, number_of, digit, spelled_number, signed, spelled, written, written_length}
 use Rattle.decimal.proofs.Digits.{digit_least, digit_most, digits_lack, spelled_small, spelled_large, spelled_value, spelled_digits, spelled_nonempty, spelled_first, length_most, value_below}
 
@@ -46,7 +45,7 @@ numeral s n e = at (is_number s) refl e
           digits = and_second (not (has_leading_zero s)) (all_digits s) p₂;
           value = cc;
         }
-    at false p q = let z : ◌≡◌ {A = ℕ} 0 1 = cc in absurd (omega arith)
+    at false p q = cc
 
 -- The number of a spelling is below the power of ten of its length, and so below the tenth.
 pub number_below_length : (s : List ℕ) (n : ℕ) → number_of s ≡ Some n → n < 10 ^ length s
@@ -123,16 +122,6 @@ number_one_spelling s n e =
 
 -- The sign apart: a number below 0 has a minus and then its absolute value, however that is spelled.
 module _ (f : ℕ → List ℕ) where
-  pub signed_plain : (z : ℤ) → le_z (pos 0) z ≡ true → signed f z ≡ f (nat_abs z)
-  unfolding signed
-  signed_plain (pos n) e = refl
-  signed_plain (negsuc n) e = never e
-
-  pub signed_minus : (z : ℤ) → le_z (pos 0) z ≡ false → signed f z ≡ 45 ∷ f (nat_abs z)
-  unfolding signed
-  signed_minus (pos n) e = absurd (omega (arith, leb-false 0 n e))
-  signed_minus (negsuc n) e = refl
-
   pub signed_least : (k : ℕ) → ((n : ℕ) → k ≤ length (f n)) → (z : ℤ) → k ≤ length (signed f z)
   unfolding signed
   signed_least k h (pos n) = h n

@@ -11,7 +11,7 @@ use native.Mathlib.Nat.{lt_of_lt_of_le, pow-le-pow_right}
 use lib.Dec.{eqb, leb, ltb, eqb-suc-zero}
 use lib.IntN.{ℤ, pos, negsuc, neg_ℤ, nat_abs}
 use lib.ListN.{length, get_or, take, drop, length-append, take-append-drop, drop_of_length-le, get_or-append}
-use lib.Seq.{take_all, take-append_seam, drop-append_seam, drop-cons, get_or_at, take_at, drop_at, get_or-append-add}
+use lib.Seq.{take-append_seam, drop-append_seam, drop-cons, get_or_at, take_at, drop_at, get_or-append-add}
 use mir.Syntax.{w32}
 use mir.Val.{SFits}
 use borrow.Author.Tests.{lt-ltb, le-leb, ne_eqb, ltb-true, leb-true, eqb-true}
@@ -23,7 +23,7 @@ use Rattle.decimal.proofs.Digits.{digit_is, digit_least, digit_most, digits_byte
 use Rattle.decimal.proofs.Laws.{number_read_back, number_one_spelling, number_below_length, number_some, number_digits, fits_below, signed_most, signed_lacks, spelled_number_lacks}
 
 no_value : {P : Type 0} {n : ℕ} → None ≡ Some n → P
-no_value e = let z : ◌≡◌ {A = ℕ} 0 1 = cc in absurd (omega arith)
+no_value e = cc
 
 -- A spelling that ends in a point and one byte more, and one whose last byte but one is a point.
 abbrev pointed : List ℕ → ℕ → List ℕ
@@ -218,16 +218,16 @@ data Signed : List ℕ → ℤ → Type 0 where
 signed_plain : (s : List ℕ) (z : ℤ) (r : Option ℕ) → length_of s ≡ r → without_minus r ≡ Some z → Signed s z
 unfolding without_minus
 signed_plain s z (Some n) p q = let e : pos n ≡ z = cc in subst (λ x. Signed s x) e (without_minus_lem p)
-signed_plain s z None p q = let c : ◌≡◌ {A = ℕ} 0 1 = cc in absurd (omega arith)
+signed_plain s z None p q = cc
 
 signed_minus : (s : List ℕ) (z : ℤ) (r : Option ℕ) → length_of s ≡ r → with_minus r ≡ Some z → Signed (45 ∷ s) z
 unfolding with_minus
-signed_minus s z (Some zero) p q = let c : ◌≡◌ {A = ℕ} 0 1 = cc in absurd (omega arith)
+signed_minus s z (Some zero) p q = cc
 signed_minus s z (Some (suc n)) p q =
     let q₁ : Some (negsuc n) ≡ Some z = rw (eqb-suc-zero n) at q in
     let e : negsuc n ≡ z = cc in
     subst (λ x. Signed (45 ∷ s) x) e (with_minus_lem p)
-signed_minus s z None p q = let c : ◌≡◌ {A = ℕ} 0 1 = cc in absurd (omega arith)
+signed_minus s z None p q = cc
 
 signed_is : (s : List ℕ) (z : ℤ) → instant_of s ≡ Some z → Signed s z
 unfolding instant_of

@@ -3,24 +3,23 @@
 // digits. Every public function accepts every input, but for `write_at`, which asks for room at its place.
 #![tactic(auto)]
 
-ghost use Rattle.std.specs.Prelude.{◌≡◌, ◌+◌, ◌-◌, ◌≤◌, ℕ, ℤ, List, nat_abs, cond, length};
+ghost use Rattle.std.specs.Prelude.{◌≡◌, ◌+◌, ◌-◌, ◌≤◌, ℕ, List, cond, length};
 ghost use Rattle.std.proofs.lemmas.List.Edits.{sets};
 ghost use Rattle.decimal.specs.Spelling.{is_digit, all_digits, digits_value, number_of, milliseconds_of, in_tenths, length_of, instant_of, spelled_number, spelled_length, signed, spelled, spelled_instant, written, written_output};
 
-#[tactic(auto, unfolding(crate::specs::Spelling::number_of, crate::specs::Spelling::is_number, crate::specs::Spelling::has_leading_zero))]
 // The number that the whole slice spells. One pass over at most 10 bytes; a longer slice is refused unread.
+#[tactic(auto, unfolding(crate::specs::Spelling::number_of, crate::specs::Spelling::is_number, crate::specs::Spelling::has_leading_zero))]
 pub fn read_number(s: &[u8]) -> Option<u64>
     ensures { result ≡ number_of s.now }
 {
-    match s {
-        [] | [b'0', _, ..] => None,
-        _ if 10 < s.len() => None,
-        _ => read_digits(s),
+    if s.is_empty() || 10 < s.len() || matches!(s, [b'0', _, ..]) {
+        return None;
     }
+    read_digits(s)
 }
 
-#[tactic(auto, unfolding(crate::specs::Spelling::length_of, crate::specs::Spelling::has_point))]
 // The length that the whole slice spells, in tenths. One pass over at most 11 bytes.
+#[tactic(auto, unfolding(crate::specs::Spelling::length_of, crate::specs::Spelling::has_point))]
 pub fn read_length(s: &[u8]) -> Option<u64>
     ensures { result ≡ length_of s.now }
 {
@@ -30,8 +29,8 @@ pub fn read_length(s: &[u8]) -> Option<u64>
     }
 }
 
-#[tactic(auto, unfolding(crate::specs::Spelling::instant_of, crate::specs::Spelling::without_minus, crate::specs::Spelling::with_minus))]
 // The instant that the whole slice spells, in tenths. One pass over at most 12 bytes.
+#[tactic(auto, unfolding(crate::specs::Spelling::instant_of, crate::specs::Spelling::without_minus, crate::specs::Spelling::with_minus))]
 pub fn read_instant(s: &[u8]) -> Option<i64>
     ensures { result ≡ instant_of s.now }
 {
@@ -54,8 +53,8 @@ pub trait Spelled: Copy {
         ensures { (result ≡ written (spelling self) out.old) × (out.new ≡ written_output (spelling self) out.old) };
 }
 
-#[tactic(auto, unfolding(crate::specs::Spelling::written, crate::specs::Spelling::written_output))]
 // Writes x at a place of the output that has the room, for callers that know it, and returns the place behind it.
+#[tactic(auto, unfolding(crate::specs::Spelling::written, crate::specs::Spelling::written_output))]
 pub fn write_at<T: Spelled>(x: T, out: &mut [u8], at: usize) -> usize
     requires { at + length (T.spelling x) ≤ length out.old }
     ensures { (result ≡ at + length (T.spelling x)) × (out.new ≡ sets out.old at (T.spelling x)) }
@@ -123,32 +122,30 @@ impl Spelled for Instant {
     }
 }
 
-#[tactic(auto, using(std::proofs::lemmas::Int::ints, crate::proofs::Laws::wide_digits_most), unfolding(crate::specs::Spelling::signed))]
 // The number of bytes of x in decimal, minus included. Constant time.
+#[tactic(auto, using(std::proofs::lemmas::Int::ints, crate::proofs::Laws::wide_digits_most), unfolding(crate::specs::Spelling::signed))]
 pub fn integer_length(x: i32) -> usize
     ensures { result ≡ length (spelled x) }
 {
     usize::from(x < 0) + digit_count(u64::from(x.unsigned_abs()))
 }
 
-#[tactic(auto, unfolding(crate::specs::Spelling::written, crate::specs::Spelling::written_output, crate::specs::Spelling::signed))]
 // Writes the absolute value of z, with a minus before it where z is below 0. Where the output is too short it writes nothing.
+#[tactic(auto, unfolding(crate::specs::Spelling::written, crate::specs::Spelling::written_output, crate::specs::Spelling::signed))]
 fn write_signed<T: Spelled>(z: i32, magnitude: T, out: &mut [u8]) -> Option<usize>
     ensures { let s = signed (λ _. T.spelling magnitude) z in (result ≡ written s out.old) × (out.new ≡ written_output s out.old) }
 {
     if 0 <= z {
         return magnitude.write(out);
     }
-    if out.is_empty() {
-        return None;
-    }
-    let n = magnitude.write(&mut out[1..])?;
-    out[0] = b'-';
+    let (minus, rest) = out.split_first_mut()?;
+    let n = magnitude.write(rest)?;
+    *minus = b'-';
     Some(n + 1)
 }
 
-#[tactic(auto, unfolding(crate::specs::Spelling::milliseconds_of, crate::specs::Spelling::in_tenths))]
 // Whole milliseconds and the byte b behind their point, in tenths. More than 9 digits are refused unread.
+#[tactic(auto, unfolding(crate::specs::Spelling::milliseconds_of, crate::specs::Spelling::in_tenths))]
 fn read_tenths(s: &[u8], b: u8) -> Option<u64>
     ensures { result ≡ in_tenths (milliseconds_of s.now) b }
 {

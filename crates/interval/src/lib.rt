@@ -1,10 +1,10 @@
-// Instants and lengths, in tenths of a millisecond, which clock marks and forgets are refused, and the conditions on intervals. The lowest crate:
-// every other crate goes by these contracts and by the laws of `proofs/Laws.antt`, and looks at no inequality itself. Every function takes constant
-// time and accepts every input. Comparisons are joined by `&` and `|`: each is as cheap as the branch that would spare it.
+// Instants and lengths, in tenths of a millisecond, which clock marks and forgets are refused, and the conditions on intervals. Every other crate goes by
+// these contracts and by the laws of `proofs/Laws.antt`. Every function takes constant time and accepts every input. Comparisons are joined by `&` and `|`:
+// each is as cheap as the branch that would spare it.
 #![tactic(auto)]
 
 ghost use Rattle.std.specs.Prelude.{◌≡◌, ℤ, pos, ◌+ℤ◌, ◌-ℤ◌};
-ghost use Rattle.interval.specs.Instants.{is_instant, is_length, first_floor, is_mark_refused, is_forget_refused, eq_z, least};
+ghost use Rattle.interval.specs.Instants.{is_instant, is_length, first_floor, is_mark_refused, is_forget_refused, eq_z, least, greatest};
 ghost use Rattle.interval.specs.Conditions.{is_related, ending_of, is_forbidding, has_length};
 
 // The operators of two operands that ask a condition of both intervals.
@@ -118,6 +118,20 @@ pub fn is_forget_refused(floor: i32, opened: i32, f: i32) -> bool
     ensures { result ≡ is_forget_refused floor opened f }
 {
     (f < floor) | ((opened < f) | !is_instant(f))
+}
+
+// The least of two starts.
+pub fn least_start(a: i32, b: i32) -> i32
+    ensures { result ≡ least a b }
+{
+    a.min(b)
+}
+
+// The greatest of two ends.
+pub fn greatest_end(a: i32, b: i32) -> i32
+    ensures { result ≡ greatest a b }
+{
+    a.max(b)
 }
 
 // How long an interval lasts; wider than an instant, so that no difference of two i32 overflows.

@@ -23,9 +23,9 @@ pub const TOTAL_SIZE: usize = 27;
 
 pub const REFUSAL_SIZE: usize = 40;
 
-#[tactic(auto, unfolding(crate::specs::Listing::written_where, text::specs::Output::output_where, crate::specs::Listing::listing_fits))]
 // Writes the listing of the table's first rows at the front of the output and returns the number of bytes, where the table has the rows, and the output room
 // for the first line and the longest of each row.
+#[tactic(auto, unfolding(crate::specs::Listing::written_where, text::specs::Output::output_where, crate::specs::Listing::listing_fits))]
 pub fn write_listing(table: &[i32], rows: usize, out: &mut [u8]) -> Option<usize>
     ensures { (result ≡ listing_length rows table.now out.old) × (out.new ≡ listing_output rows table.now out.old) }
 {
@@ -39,8 +39,8 @@ pub fn write_listing(table: &[i32], rows: usize, out: &mut [u8]) -> Option<usize
     Some(at)
 }
 
-#[tactic(auto, using(crate::proofs::Fields::fields), unfolding(crate::specs::Listing::written_where, text::specs::Output::output_where, crate::specs::Listing::refusal_fits))]
 // Writes the line of a refusal at the front of the output and returns the number of bytes, where the output has room for the longest.
+#[tactic(auto, using(crate::proofs::Fields::fields), unfolding(crate::specs::Listing::written_where, text::specs::Output::output_where, crate::specs::Listing::refusal_fits))]
 pub fn write_refusal(number: u32, line: u64, out: &mut [u8]) -> Option<usize>
     ensures { (result ≡ refusal_length number line out.old) × (out.new ≡ refusal_output number line out.old) }
 {
@@ -52,9 +52,9 @@ pub fn write_refusal(number: u32, line: u64, out: &mut [u8]) -> Option<usize>
     Some(write_last_field(line, out, number))
 }
 
-#[tactic(auto, unfolding(crate::specs::Listing::written_where, text::specs::Output::output_where, crate::specs::Report::report_fits))]
 // Writes the lines of a report at the front of the output and returns the number of bytes: of each entry, which has so many rows, and of the total. The output
 // needs room for the longest line of each entry and of the total.
+#[tactic(auto, unfolding(crate::specs::Listing::written_where, text::specs::Output::output_where, crate::specs::Report::report_fits))]
 pub fn write_report(tallies: &[usize], total: usize, out: &mut [u8]) -> Option<usize>
     ensures { (result ≡ report_length tallies.now total out.old) × (out.new ≡ report_output tallies.now total out.old) }
 {
@@ -69,8 +69,8 @@ pub fn write_report(tallies: &[usize], total: usize, out: &mut [u8]) -> Option<u
     Some(write_last_field(total as u64, out, word))
 }
 
-#[tactic(auto, using(crate::proofs::Fields::fields))]
 // Writes the line of entry e, which has n rows.
+#[tactic(auto, using(crate::proofs::Fields::fields))]
 fn write_tally(e: usize, n: usize, out: &mut [u8], at: usize) -> usize
     requires { at + tally_size ≤ length out.old }
     ensures { (result ≡ at + length (spelled_number e ++ last_field n)) × (out.new ≡ sets out.old at (spelled_number e ++ last_field n)) × (result ≤ at + tally_size) }
@@ -79,8 +79,8 @@ fn write_tally(e: usize, n: usize, out: &mut [u8], at: usize) -> usize
     write_last_field(n as u64, out, entry)
 }
 
-#[tactic(auto, using(crate::proofs::Fields::few_bytes))]
 // Writes the line of row i.
+#[tactic(auto, using(crate::proofs::Fields::few_bytes))]
 fn write_row(row: Row, i: usize, out: &mut [u8], at: usize) -> usize
     requires { at + row_size ≤ length out.old }
     ensures { (result ≡ at + length (row_text i row)) × (out.new ≡ sets out.old at (row_text i row)) × (result ≤ at + row_size) }
@@ -104,8 +104,8 @@ fn write_field<T: Spelled>(x: T, out: &mut [u8], at: usize) -> usize
     decimal::write_at(x, out, at + 1)
 }
 
-#[tactic(auto, using(crate::proofs::Fields::fields))]
 // Writes a tab, m and the end of the line.
+#[tactic(auto, using(crate::proofs::Fields::fields))]
 fn write_last_field(m: u64, out: &mut [u8], at: usize) -> usize
     requires { at + length (last_field m) ≤ length out.old }
     ensures { (result ≡ at + length (last_field m)) × (out.new ≡ sets out.old at (last_field m)) }

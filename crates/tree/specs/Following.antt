@@ -15,9 +15,9 @@ node_by (suc (suc n)) l r = Two l r
 unfoldable pub node_at : List ℕ → List ℤ → ℕ → Node
 node_at arities t i = node_by (arity_at arities t i) (cell t i 1) (cell t i 2)
 
--- what is left of a limit behind so many bytes, where they are no more
-abbrev pub rest_behind : ℕ → List ℕ → Option ℕ
-rest_behind limit s = cond (leb (length s) limit) (Some (limit - length s)) None
+-- what is left of a limit behind n bytes, where they are no more
+abbrev pub rest_of : ℕ → ℕ → Option ℕ
+rest_of limit n = cond (leb n limit) (Some (limit - n)) None
 
 -- how many rows there are up to the one that a reference names
 abbrev pub rows_to : ℤ → ℕ

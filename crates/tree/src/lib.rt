@@ -7,7 +7,7 @@ ghost use Rattle.std.proofs.lemmas.List.Edits.{sets};
 ghost use Rattle.table.specs.Operators.{operators_of};
 ghost use Rattle.table.specs.Ready.{Ready};
 ghost use Rattle.tree.specs.Tree.{reference_bytes, tree_over, tree_bytes, length_within};
-ghost use Rattle.tree.specs.Following.{rest_behind, node_at, Followable};
+ghost use Rattle.tree.specs.Following.{rest_of, node_by, node_at, Followable};
 
 use chart::Chart;
 
@@ -23,7 +23,13 @@ enum Node {
 // one byte of what is left of the limit, and the first that finds too little ends the count, however large the tree is. So at most
 // limit + 1 references are followed, each in constant time, and no deeper than operators nest, at most 32 entries in a table that is
 // consistent. Of the chart only an array of 32 bytes is lent down, so that each step down needs little stack.
-pub fn tree_length(chart: Chart, table: &[i32], rows: usize, i: usize, limit: usize) -> Option<usize>
+pub fn tree_length(
+    chart: Chart,
+    table: &[i32],
+    rows: usize,
+    i: usize,
+    limit: usize,
+) -> Option<usize>
     requires { Ready chart rows table.now × (i < rows) }
     ensures { result ≡ length_within limit (tree_bytes (operators_of chart) table.now i) }
 {
@@ -43,9 +49,10 @@ pub fn write_tree(chart: Chart, table: &[i32], rows: usize, i: usize, out: &mut 
 }
 
 // What is left of a limit behind the bytes of a reference z: one for -1, else the tree of row z.
+#[tactic(auto, using(decimal::proofs::Laws::integer_length_most))]
 fn rest_behind(arities: &[u8; 32], table: &[i32], z: i32, limit: usize) -> Option<usize>
     requires { Followable arities.now table.now z }
-    ensures { result ≡ rest_behind limit (reference_bytes (tree_over arities.now table.now) z) }
+    ensures { result ≡ rest_of limit (length (reference_bytes (tree_over arities.now table.now) z)) }
 {
     if z < 0 {
         return limit.checked_sub(1);
@@ -97,9 +104,16 @@ fn node_at(arities: &[u8; 32], table: &[i32], z: i32) -> Node
     ensures { result ≡ node_at arities.now table.now (nat_abs z) }
 {
     let row = table::row_at(table, z as usize);
-    match arities[row.entry as usize] {
-        0 => Node::Event(row.left),
-        1 => Node::One(row.left),
-        _ => Node::Two(row.left, row.right),
+    node_by(arities[row.entry as usize], row.left, row.right)
+}
+
+// The same from its numbers.
+fn node_by(arity: u8, left: i32, right: i32) -> Node
+    ensures { result ≡ node_by arity left right }
+{
+    match arity {
+        0 => Node::Event(left),
+        1 => Node::One(left),
+        _ => Node::Two(left, right),
     }
 }

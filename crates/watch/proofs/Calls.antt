@@ -29,6 +29,10 @@ use Rattle.watch.specs.Steps.{Step, refused_step, taken_step, opening_step, chec
 use Rattle.state.specs.declared.WatchState.{WatchState}
 
 module _ (chart : Chart) (t : List ℤ) (o : ℤ) where
+  pub opening_14 : is_usable chart ≡ false → opening_step chart t o ≡ refused_step 14 (empty_state (pos 0)) t
+  unfolding opening_step
+  opening_14 e = rw e
+
   pub opening_8 : is_usable chart ≡ true → is_instant o ≡ false → opening_step chart t o ≡ refused_step 8 (empty_state (pos 0)) t
   unfolding opening_step
   opening_8 e d = rw (e, d)

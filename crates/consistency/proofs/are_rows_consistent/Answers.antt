@@ -19,17 +19,11 @@ pub loop-i-init : goal.loop-i-init
 unfolding last_end
 loop-i-init c = (none_below _, search rules)
 
-pub row_at-row-requires : goal.row_at-row-requires
-row_at-row-requires c = room c.args.state.rows c.loop-i.i c.args.t.now c.requires.fit c.loop-i-test.true
-
 pub returns-in_default : goal.returns-in_default
 returns-in_default c =
     let g = c.args in
     let none : entry_of (stored_row g.t.now c.loop-i.i) g.state.entries ≡ None = rw c.row_at-row.ensures at (sym c.entry_of.ensures.value ∙ c.in_default.is) in
     sym (not_all g.state.rows _ c.loop-i.i c.loop-i-test.true (row_unknown g.chart g.state g.t.now c.loop-i.i c.loop-i-test.true c.requires.same none))
-
-pub overflow_mul-i : goal.overflow_mul-i
-overflow_mul-i c = let h = room c.args.state.rows c.loop-i.i c.args.t.now c.requires.fit c.loop-i-test.true in search rules
 
 pub slice_bounds-is_row_of-end : goal.slice_bounds-is_row_of-end
 slice_bounds-is_row_of-end c = let h = room c.args.state.rows c.loop-i.i c.args.t.now c.requires.fit c.loop-i-test.true in search rules

@@ -1,8 +1,7 @@
 -- `decimal::read_digits` meets its contract. The loop's invariant: the value so far, carried on over the bytes that are left, is the
 -- answer for the whole slice; i digits keep the value below the ith power of ten.
-use Rattle.std.proofs.Common.{◌≡◌, ℕ, ◌-◌, ◌<◌, true, sym, ◌∙◌, arith, rules}
+use Rattle.std.proofs.Common.{arith}
 use Rattle.std.proofs.lemmas.Grind.{common_steps}
-use Rattle.decimal.specs.Spelling.{is_digit, all_digits, value_from}
 use Rattle.decimal.proofs.Digits.{carried_none, carried_more, carried_all, digit_below, digit_most}
 use Rattle.decimal.proofs.read_digits.Goals as goal
 

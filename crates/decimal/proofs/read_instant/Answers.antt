@@ -1,5 +1,5 @@
 -- `decimal::read_instant` meets its contract: a length on paper fits an i64.
-use Rattle.std.proofs.Common.{sym, arith, rules, ◌<◌, ◌^◌}
+use Rattle.std.proofs.Common.{sym, arith, ◌<◌, ◌^◌}
 use Rattle.std.proofs.lemmas.Int.{ints}
 use Rattle.std.proofs.lemmas.Grind.{common_steps}
 use Rattle.decimal.specs.Spelling.{instant_of, without_minus, with_minus}

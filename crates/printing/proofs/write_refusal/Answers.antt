@@ -1,5 +1,5 @@
 -- `write_refusal` meets its contract: the word, the number and the line are written one behind the other.
-use Rattle.std.proofs.Common.{◌≤◌, length, [], ◌∷◌, ◌++◌, arith, length-append}
+use Rattle.std.proofs.Common.{◌≤◌, length, ◌∷◌, ◌++◌, arith, length-append}
 use Rattle.decimal.specs.Spelling.{spelled_number}
 use Rattle.printing.specs.Listing.{refused_word, refusal_text, last_field}
 use Rattle.printing.proofs.Fields.{behind, short_digits_most}

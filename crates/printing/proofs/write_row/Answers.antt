@@ -1,5 +1,5 @@
 -- `write_row` meets its contract: the fields are written one behind the other, and then the end of the line.
-use Rattle.std.proofs.Common.{ℕ, ◌+◌, List, [], ◌∷◌, ◌++◌, set, refl, arith, rules, SFits, w32}
+use Rattle.std.proofs.Common.{ℕ, ◌+◌, List, [], ◌∷◌, set, refl, arith, rules, SFits, w32}
 use mir.ValLaws.{to_z-of_z}
 use Rattle.decimal.specs.Spelling.{spelled_number, spelled, spelled_instant}
 use Rattle.table.specs.declared.Row.{Row}
@@ -33,10 +33,10 @@ returns c =
     let start : SFits w32 r.start = search rules in
     let end : SFits w32 r.end = search rules in
     let w = row_written c.args.i r c.args.out.now c.args.at
-      c.write_at-number.ensures
-      (simp (to_z-of_z, entry) at c.write_field-entry.ensures)
-      (simp (to_z-of_z, left) at c.write_field-left.ensures)
-      (simp (to_z-of_z, right) at c.write_field-right.ensures)
-      (simp (to_z-of_z, start) at c.write_field-start.ensures)
-      (simp (to_z-of_z, end) at c.write_field-end.ensures) in
+    c.write_at-number.ensures
+    (simp (to_z-of_z, entry) at c.write_field-entry.ensures)
+    (simp (to_z-of_z, left) at c.write_field-left.ensures)
+    (simp (to_z-of_z, right) at c.write_field-right.ensures)
+    (simp (to_z-of_z, start) at c.write_field-start.ensures)
+    (simp (to_z-of_z, end) at c.write_field-end.ensures) in
     (w.0, w.1, grind (arith, few_bytes))

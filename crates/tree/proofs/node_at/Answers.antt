@@ -1,9 +1,5 @@
 -- `node_at` meets its contract: the row is in the table, and its entry among the 32.
-use mathlib.Core.Path.{◌≡◌}
-use lib.IntN.{nat_abs}
-use mir.Syntax.{w32}
-use mir.Val.{to_z, of_z}
-use Rattle.std.proofs.Common.{rules}
+use Rattle.std.proofs.Common.{rules, ◌≡◌, nat_abs, w32, to_z, of_z}
 use Rattle.table.specs.Table.{stored_row}
 use Rattle.tree.specs.Following.{node_at}
 use Rattle.tree.proofs.node_at.Goals as goal
@@ -17,4 +13,4 @@ returns c =
     let entry : to_z w32 (of_z w32 r.entry) ≡ r.entry = search rules in
     let left : to_z w32 (of_z w32 r.left) ≡ r.left = search rules in
     let right : to_z w32 (of_z w32 r.right) ≡ r.right = search rules in
-    rw (entry, left, right, read)
+    rw (entry, left, right, read) at c.node_by.ensures

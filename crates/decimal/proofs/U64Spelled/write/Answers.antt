@@ -1,6 +1,6 @@
 -- The write of a number meets its contract. The loop's invariant: the spelling of what is left of the number, followed by the output from
 -- place k on, is the whole spelling followed by the old rest of the output; k is the number of digits left.
-use Rattle.std.proofs.Common.{◌<◌, ◌≤◌, arith}
+use Rattle.std.proofs.Common.{arith}
 use Rattle.std.proofs.lemmas.Grind.{common_steps}
 use Rattle.decimal.specs.Spelling.{written, written_output}
 use Rattle.decimal.proofs.Digits.{spelled_small, spelled_large, spelled_nonempty, length_large, one_digit_below, more_digits_least}

@@ -1,4 +1,4 @@
-use Rattle.std.proofs.Common.{◌≡◌, ◌+◌, ◌++◌, length, drop}
+use Rattle.std.proofs.Common.{◌≡◌, ◌++◌, length, drop}
 use Rattle.decimal.specs.Spelling.{spelled_number}
 use Rattle.decimal.proofs.U64Spelled.write.Given as goal
 

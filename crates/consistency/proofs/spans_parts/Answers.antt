@@ -1,4 +1,4 @@
--- `spans_parts` meets its contract.
+-- `spans_parts` meets its contract: the results are the least start and the greatest end.
 use Rattle.std.proofs.Common.{rules, ◌≡◌, w32}
 use Rattle.interval.specs.Instants.{least, greatest}
 use Rattle.interval.proofs.Machine.{eq_bits}

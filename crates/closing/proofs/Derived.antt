@@ -32,8 +32,8 @@ use Rattle.table.specs.Ends.{ending_before}
 use Rattle.table.proofs.Rows.{length_rows, row_at_lem}
 use Rattle.table.proofs.Ends.{counted_passes, counted_fails}
 use Rattle.table.proofs.EndParts.{ends_low, ends_few}
-use Rattle.std.specs.Prelude.{Option, None, Some}
-use Rattle.closing.specs.declared.Lasting.{Lasting}
+use Rattle.closing.specs.declared.Taken.{Taken}
+use Rattle.closing.specs.declared.Taken.TheVariants.{All, Lasting}
 use Rattle.closing.specs.Added.{counted, pending_from, span, when, event_row, event_rows, part_row, is_long, taken_row, taken_rows, or_rows, waited_from, waited_to, delayed_rows, forbids, is_within, is_forbidden, absence_row, absence_rows, top_of, pair_row, right_by, right_from, pairs_of, pairs_with, next_row, least_start, left_by, left_from, pair_rows, added_rows}
 use Rattle.closing.proofs.Spans.{each_same, some_same, each_numbered, some_snoc, some_none, each_from, each_upto, span_same, keep_keep, keep_all, some_keep, kept_ones, some_front}
 use Rattle.closing.proofs.Grown.{Grown, ends_ordered, all_ordered, of_entry, derived, old_not, pair_at, pair_ends, paired, paired_is, pairs_by, pairs_made, pairs_none, ends_here}
@@ -101,7 +101,7 @@ module _ (o : ℤ) (m n : ℕ) (t : List ℤ) (g : Grown o m n t) (entry : ℕ) 
         ∙ each_upto one k l n s.apart s.within (λ i h j. none_else i j (s.behind i h j))
         ∙ span_same one (λ i. when (q' i) (part_row side entry o t i)) k l (λ i p h. one_is i (omega (arith, s.within)) (s.at i p h))
 
-  taken_derived : (side : Arm) (a : ℕ) (k : Option Lasting) (i j : ℕ) → Spanned side i j → derived g entry (map (part side) (keep (λ i. is_long k (row_at (rows_in n t) i).start (row_at (rows_in n t) i).end) (of (places (rows_in n t)) a (numbers 0 (length (rows_in n t)))))) ≡ taken_rows side entry o (pos a) k i j t
+  taken_derived : (side : Arm) (a : ℕ) (k : Taken) (i j : ℕ) → Spanned side i j → derived g entry (map (part side) (keep (λ i. is_long k (row_at (rows_in n t) i).start (row_at (rows_in n t) i).end) (of (places (rows_in n t)) a (numbers 0 (length (rows_in n t)))))) ≡ taken_rows side entry o (pos a) k i j t
   unfolding taken_rows taken_row
   taken_derived side a k i j s =
       let q : ℕ → Bool = λ i. eqb (row_at (rows_in n t) i).entry a in
@@ -109,8 +109,8 @@ module _ (o : ℤ) (m n : ℕ) (t : List ℤ) (g : Grown o m n t) (entry : ℕ) 
       ap (λ l. derived g entry (map (part side) l)) (keep_keep p q (numbers 0 (length (rows_in n t))))
       ∙ parts side (λ i. q i && p i) (λ i. eq_z (cell t i 0) (pos a) && is_long k (cell t i 3) (cell t i 4)) (λ i h. ap₂ ◌&&◌ (of_entry g entry a i h) (rw (row_at_lem n i t h))) i j s
 
-  all_derived : (side : Arm) (a i j : ℕ) → Spanned side i j → derived g entry (map (part side) (of (places (rows_in n t)) a (numbers 0 (length (rows_in n t))))) ≡ taken_rows side entry o (pos a) None i j t
-  all_derived side a i j s = ap (λ l. derived g entry (map (part side) l)) (sym (keep_all (of (places (rows_in n t)) a (numbers 0 (length (rows_in n t)))))) ∙ taken_derived side a None i j s
+  all_derived : (side : Arm) (a i j : ℕ) → Spanned side i j → derived g entry (map (part side) (of (places (rows_in n t)) a (numbers 0 (length (rows_in n t))))) ≡ taken_rows side entry o (pos a) All i j t
+  all_derived side a i j s = ap (λ l. derived g entry (map (part side) l)) (sym (keep_all (of (places (rows_in n t)) a (numbers 0 (length (rows_in n t)))))) ∙ taken_derived side a All i j s
 
   or_derived : (a b : ℕ) → derived g entry (map (part left) (of (places (rows_in n t)) a (numbers 0 (length (rows_in n t)))) ++ map (part right) (of (places (rows_in n t)) b (numbers 0 (length (rows_in n t))))) ≡ or_rows entry o (pos a) (pos b) m n t
   unfolding or_rows
@@ -121,9 +121,9 @@ module _ (o : ℤ) (m n : ℕ) (t : List ℤ) (g : Grown o m n t) (entry : ℕ) 
       ∙ keep_append (λ r. ends_here o r.start r.end) (map (node_row (rows_in n t) entry) xs) (map (node_row (rows_in n t) entry) ys)
       ∙ ap₂ ◌++◌ (all_derived left a m n (new_ones left (λ e. refl))) (all_derived right b m n (new_ones right (λ e. refl)))
 
-  length_derived : (c : LengthTest) (a d : ℕ) → derived g entry (make (places (rows_in n t)) (lasting c a d) [] (numbers 0 (length (rows_in n t)))) ≡ taken_rows left entry o (pos a) (Some (record { test = c; length = d })) m n t
+  length_derived : (c : LengthTest) (a d : ℕ) → derived g entry (make (places (rows_in n t)) (lasting c a d) [] (numbers 0 (length (rows_in n t)))) ≡ taken_rows left entry o (pos a) (Lasting c d) m n t
   unfolding taken_rows taken_row part_row
-  length_derived c a d = taken_derived only a (Some (record { test = c; length = d })) m n (new_ones only (λ e. refl))
+  length_derived c a d = taken_derived only a (Lasting c d) m n (new_ones only (λ e. refl))
 
   -- a delay: the rows that ended d before, found by two searches
   waited : (d : ℕ) → Spanned (delayed d) (waited_from o d n t) (waited_to o d n t)

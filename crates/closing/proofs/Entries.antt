@@ -18,7 +18,7 @@ use Rattle.chart.specs.Charts.{entry_at}
 use Rattle.chart.specs.declared.Chart.{Chart}
 use mir.Syntax.{w32}
 use mir.Val.{SFits}
-use Rattle.std.specs.Prelude.{Option, None, Some}
+use Rattle.std.specs.Prelude.{None, Some}
 use Rattle.model.specs.Lists.{sort_stably}
 use Rattle.model.specs.Recognitions.{Event}
 use Rattle.model.specs.Order.{Row, since_of}
@@ -28,7 +28,7 @@ use Rattle.model.proofs.Steps.{extend_none, extend_on, extend_more, close_rules}
 use Rattle.model.proofs.Due.{instants_more}
 use Rattle.model.specs.RowSteps.{Rule, rules, starts_later, extend_rows, close_rows, close_instants, instants_to, ends_at, numbered}
 use Rattle.state.specs.declared.WatchState.{WatchState}
-use Rattle.table.specs.Table.{rows_in, fill, put_rows, zeroed, room_in}
+use Rattle.table.specs.Table.{rows_in, put_rows, zeroed, room_in}
 use Rattle.table.specs.Operators.{operators_of, entry_operator}
 use Rattle.table.specs.Ready.{Ready}
 use Rattle.table.proofs.Laws.{zeroed_same, zeroed_again}
@@ -40,7 +40,6 @@ use Rattle.ordering.proofs.Sorting.{length_sorted}
 use Rattle.ordering.proofs.Appended.{rows_alike, rows_ordered}
 use Rattle.closing.specs.Added.{pending_from, FilledBy, counted, Tried, added_rows}
 use Rattle.closing.specs.Closed.{closed_rows, closed_count, closed_table}
-use Rattle.closing.proofs.Filling.{some_told, none_told}
 use Rattle.closing.proofs.Derived.{counted_is}
 use Rattle.closing.proofs.Grown.{Grown}
 use Rattle.closing.proofs.Growth.{Ending, grown_more, added_entry, added_ending}
@@ -50,32 +49,32 @@ pub small : (a n : ℕ) → a < n → n < 32 → SFits w32 (pos a)
 small a n h k = record { sfits = omega arith }
 
 -- all were appended
-pub fits_told : (room n : ℕ) (rs : List Row) (t : List ℤ) (k : ℕ) (u : List ℤ) → FilledBy room n rs t (Some k) u → n ≤ room → (n + length rs ≤ room) × (k ≡ n + length rs) × (u ≡ put_rows n rs t)
-fits_told room n rs t k u d l = go (leb (n + length rs) room) refl
+pub fits_told : (room n : ℕ) (rs : List Row) (t : List ℤ) (k : ℕ) (u : List ℤ) → FilledBy room n rs t k u → n ≤ room → k ≤ room → (n + length rs ≤ room) × (k ≡ n + length rs) × (u ≡ put_rows n rs t)
+fits_told room n rs t k u d l h = go (leb (n + length rs) room) refl
   where
     go : (b : Bool) → leb (n + length rs) room ≡ b → (n + length rs ≤ room) × (k ≡ n + length rs) × (u ≡ put_rows n rs t)
     go true e =
         let p = leb-true (n + length rs) room e in
         let f = fill_fits room n rs t p in
-        (p, (some_told room (fill room n rs t).count d.0).0 ∙ ap (λ x. x.count) f, d.1 ∙ ap (λ x. x.table) f)
+        (p, d.0 ∙ ap (λ x. x.count) f, d.1 ∙ ap (λ x. x.table) f)
     go false e =
         let f = fill_full room n rs t l (leb-false (n + length rs) room e) in
-        let c : (fill room n rs t).count ≡ suc room = ap (λ x. x.count) f in
-        absurd (omega (arith, (some_told room (fill room n rs t).count d.0).1))
+        let c : k ≡ suc room = d.0 ∙ ap (λ x. x.count) f in
+        absurd (omega arith)
 
--- not all fit
-pub full_told : (room n : ℕ) (rs : List Row) (t : List ℤ) (u : List ℤ) → FilledBy room n rs t None u → n ≤ room → (room < n + length rs) × (u ≡ put_rows n (take (room - n) rs) t)
-full_told room n rs t u d l = go (leb (n + length rs) room) refl
+pub full_told : (room n : ℕ) (rs : List Row) (t : List ℤ) (k : ℕ) (u : List ℤ) → FilledBy room n rs t k u → n ≤ room → room < k → (room < n + length rs) × (k ≡ suc room) × (u ≡ put_rows n (take (room - n) rs) t)
+full_told room n rs t k u d l h = go (leb (n + length rs) room) refl
   where
-    go : (b : Bool) → leb (n + length rs) room ≡ b → (room < n + length rs) × (u ≡ put_rows n (take (room - n) rs) t)
+    go : (b : Bool) → leb (n + length rs) room ≡ b → (room < n + length rs) × (k ≡ suc room) × (u ≡ put_rows n (take (room - n) rs) t)
     go true e =
         let p = leb-true (n + length rs) room e in
         let f = fill_fits room n rs t p in
-        let c : (fill room n rs t).count ≡ n + length rs = ap (λ x. x.count) f in
-        absurd (omega (arith, none_told room (fill room n rs t).count d.0))
+        let c : k ≡ n + length rs = d.0 ∙ ap (λ x. x.count) f in
+        absurd (omega arith)
     go false e =
         let p = leb-false (n + length rs) room e in
-        (p, d.1 ∙ ap (λ x. x.table) (fill_full room n rs t l p))
+        let f = fill_full room n rs t l p in
+        (p, d.0 ∙ ap (λ x. x.count) f, d.1 ∙ ap (λ x. x.table) f)
 
 -- all so far found room: `done` was appended to the n₀ rows of t₀, and `rest` is left of `all`
 pub record Closing (room n₀ : ℕ) (all : List Row) (t₀ : List ℤ) (n : ℕ) (rest : List Row) (t : List ℤ) : Type 0 where
@@ -110,24 +109,24 @@ module _ {room n₀ : ℕ} {all : List Row} {t₀ : List ℤ} {n : ℕ} {rest : 
   }
 
   -- they found none, and nothing but the rows behind was altered
-  pub closing_full : (rs qs : List Row) (u : List ℤ) → rest ≡ rs ++ qs → room * 5 ≤ length t → room < n + length rs → take (n * 5) u ≡ take (n * 5) t → drop (room * 5) u ≡ drop (room * 5) t → Tried room n₀ all t₀ None u
-  closing_full rs qs u e h l p q =
+  pub closing_full : (rs qs : List Row) (k : ℕ) (u : List ℤ) → rest ≡ rs ++ qs → room * 5 ≤ length t → room < n + length rs → k ≡ suc room → take (n * 5) u ≡ take (n * 5) t → drop (room * 5) u ≡ drop (room * 5) t → Tried room n₀ all t₀ k u
+  closing_full rs qs k u e h l c p q =
       let size : length all ≡ length f.done + (length rs + length qs) = ap length (f.is ∙ ap (λ x. f.done ++ x) e) ∙ length-append f.done (rs ++ qs) ∙ ap (λ x. length f.done + x) (length-append rs qs) in
       let old : n₀ * 5 ≤ n * 5 = omega (arith, least) in
       let first : take (n₀ * 5) u ≡ take (n₀ * 5) t = sym (take-take (n₀ * 5) (n * 5) u old) ∙ ap (take (n₀ * 5)) p ∙ take-take (n₀ * 5) (n * 5) t old in
       inr (
         omega (arith, f.count),
-        refl,
+        c,
         first ∙ ap (take (n₀ * 5)) f.table ∙ take_puts n₀ f.done t₀ (omega (arith, f.count, f.most, same_size)),
         q ∙ ap (drop (room * 5)) f.table ∙ drop_puts n₀ (room * 5) f.done t₀ (omega (arith, f.count, f.most)),
       )
 
   -- nothing is left
-  pub closing_ended : rest ≡ [] → Tried room n₀ all t₀ (Some n) t
+  pub closing_ended : rest ≡ [] → Tried room n₀ all t₀ n t
   closing_ended e =
       let w : all ≡ f.done = f.is ∙ ap (λ x. f.done ++ x) e ∙ append-nil f.done in
       let c : n ≡ n₀ + length all = f.count ∙ ap (λ x. n₀ + length x) (sym w) in
-      inl (omega (arith, f.most), ap Some c, f.table ∙ ap (λ x. put_rows n₀ x t₀) (sym w))
+      inl (omega (arith, f.most), c, f.table ∙ ap (λ x. put_rows n₀ x t₀) (sym w))
 
 -- the rows left to append from entry i on, to the n rows of t
 abbrev pub rules_from : Chart → List ℤ → ℤ → ℕ → List Rule
@@ -186,26 +185,25 @@ module _ (chart : Chart) (since : List ℤ) (o : ℤ) (first pending : ℕ) (cod
   ending : (r : Row) → Memᴰ r added → Ending o r
   ending r h = added_ending o m n t g i (entry_operator (entry_at chart i)) first pending codes few r (is_made h)
 
-  module _ {room n₀ : ℕ} {all : List Row} {t₀ : List ℤ} {u : List ℤ} (f : Closing room n₀ all t₀ n (left_rows chart since o events i n t) t) where
-    -- the entry's rows did not fit
-    pub entry_full : room * 5 ≤ length t → FilledBy room n added t None u → Tried room n₀ all t₀ None u
-    entry_full held d =
-        let w = full_told room n added t u d f.most in
+  module _ {room n₀ : ℕ} {all : List Row} {t₀ : List ℤ} {k : ℕ} {u : List ℤ} (f : Closing room n₀ all t₀ n (left_rows chart since o events i n t) t) (held : room * 5 ≤ length t) (d : FilledBy room n added t k u) where
+    -- what is known once the entry's rows were appended: they did not fit; or they did, may be put in order, and then the next entry's are derived
+    pub record Entered : Type 0 where
+      pub full : room < k → Tried room n₀ all t₀ k u
+      pub grows : k ≤ room → n ≤ k
+      pub alike : k ≤ room → Alike n k u
+      pub more : k ≤ room → (v : List ℤ) → v ≡ ordered n (k - n) u → (rows_in k v ≡ rows_in n t ++ sorted) × ((r : Row) → Memᴰ r sorted → r.entry ≡ i)
+      pub next : k ≤ room → (v : List ℤ) → v ≡ ordered n (k - n) u → Closing room n₀ all t₀ k (left_rows chart since o events (i + 1) k v) v × Grown o m k v
+
+    entry_full : room < k → Tried room n₀ all t₀ k u
+    entry_full h =
+        let w = full_told room n added t k u d f.most h in
         let ps : List Row = take (room - n) added in
         let size : n + length ps ≤ room = omega (arith, f.most, length-take-le (room - n) added (omega (arith, w.0))) in
-        closing_full f sorted (drop (n + length sorted) later) u left_cut held (omega (arith, w.0, length_sorted added)) (ap (take (n * 5)) w.1 ∙ take_puts n ps t (omega arith)) (ap (drop (room * 5)) w.1 ∙ drop_puts n (room * 5) ps t (omega arith))
+        closing_full f sorted (drop (n + length sorted) later) k u left_cut held (omega (arith, w.0, length_sorted added)) w.1 (ap (take (n * 5)) w.2 ∙ take_puts n ps t (omega arith)) (ap (drop (room * 5)) w.2 ∙ drop_puts n (room * 5) ps t (omega arith))
 
-    module _ {k : ℕ} (held : room * 5 ≤ length t) (d : FilledBy room n added t (Some k) u) where
-      -- what is known where they did: they may be put in order, and then the next entry's are derived
-      pub record Entered : Type 0 where
-        pub grows : n ≤ k
-        pub fit : k ≤ room
-        pub alike : Alike n k u
-        pub more : (v : List ℤ) → v ≡ ordered n (k - n) u → (rows_in k v ≡ rows_in n t ++ sorted) × ((r : Row) → Memᴰ r sorted → r.entry ≡ i)
-        pub next : (v : List ℤ) → v ≡ ordered n (k - n) u → Closing room n₀ all t₀ k (left_rows chart since o events (i + 1) k v) v × Grown o m k v
-
+    module _ (l : k ≤ room) where
       fits : (n + length added ≤ room) × (k ≡ n + length added) × (u ≡ put_rows n added t)
-      fits = fits_told room n added t k u d f.most
+      fits = fits_told room n added t k u d f.most l
 
       entry_alike : Alike n k u
       entry_alike =
@@ -230,12 +228,12 @@ module _ (chart : Chart) (since : List ℤ) (o : ℤ) (first pending : ℕ) (cod
           let rows : rows_in k v ≡ rows_in n t ++ sorted = w.2 in
           let size : (n + length sorted) * 5 ≤ length t = omega (arith, fits.0, length_sorted added) in
           let rest : left_rows chart since o events (i + 1) k v ≡ drop (n + length sorted) later = rw (rows, c) in (
-            subst (λ x. Closing room n₀ all t₀ k x v) (sym rest) (closing_next f sorted (drop (n + length sorted) later) k v left_cut c (omega (arith, fits.0, fits.1)) q),
+            subst (λ x. Closing room n₀ all t₀ k x v) (sym rest) (closing_next f sorted (drop (n + length sorted) later) k v left_cut c l q),
             rw (c, q) (grown_more o m n t sorted g (λ r h. ending r (stably_mem starts_later added h)) size),
           )
 
-      pub entered : Entered
-      entered = record { grows = omega (arith, fits.1); fit = omega (arith, fits.0, fits.1); alike = entry_alike; more = λ v z. ((entry_more v z).2, λ r h. entry_of r (stably_mem starts_later added h)); next = entry_next }
+    pub entered : Entered
+    entered = record { full = entry_full; grows = λ l. omega (arith, (fits l).1); alike = entry_alike; more = λ l v z. ((entry_more l v z).2, λ r h. entry_of r (stably_mem starts_later added h)); next = entry_next }
 
 -- the events of the open instant
 abbrev pub events_in : WatchState → List Event
@@ -255,20 +253,26 @@ module _ (chart : Chart) (w : WatchState) (x : ℤ) (t : List ℤ) where
       let p = instants_more (operators_of chart) w.since (events_in w) (instants_to w.instant x) w.instant (rows_in n t) in
       rw (p.1, drop_at (rows_in n t) p.0 n (length_rows n t), length-append, length_rows)
 
-  module _ (ready : Ready chart n t) (u : List ℤ) where
+  module _ (ready : Ready chart n t) (k : ℕ) (u : List ℤ) where
+    abbrev Closed : Type 0
+    Closed = (Some k ≡ closed_count chart w x t) × (u ≡ closed_table chart w x t)
+
+    abbrev Restored : Type 0
+    Restored = (None ≡ closed_count chart w x t) × (zeroed (n * 5) (room_in t * 5) u ≡ closed_table chart w x t)
+
     -- all fit
-    pub closed_fits : {k : ℕ} → Tried (room_in t) n (drop n closed) t (Some k) u → (Some k ≡ closed_count chart w x t) × (u ≡ closed_table chart w x t)
+    pub closed_fits : Tried (room_in t) n (drop n closed) t k u → k ≤ room_in t → Closed
     unfolding closed_count closed_table
-    closed_fits (inl f) =
+    closed_fits (inl f) h =
         let l : leb (length closed) (room_in t) ≡ true = le-leb (length closed) (room_in t) (omega (arith, f.0, closed_length)) in
-        rw l (f.1 ∙ ap Some (sym closed_length), f.2)
-    closed_fits (inr f) = absurd (cc)
+        rw l (ap Some (f.1 ∙ sym closed_length), f.2)
+    closed_fits (inr f) h = absurd (omega (arith, f.1))
 
     -- not all fit
-    pub closed_full : Tried (room_in t) n (drop n closed) t None u → (None ≡ closed_count chart w x t) × (zeroed (n * 5) (room_in t * 5) u ≡ closed_table chart w x t)
+    pub closed_full : Tried (room_in t) n (drop n closed) t k u → room_in t < k → Restored
     unfolding closed_count closed_table
-    closed_full (inl f) = absurd (cc)
-    closed_full (inr f) =
+    closed_full (inl f) h = absurd (omega (arith, f.0, f.1))
+    closed_full (inr f) h =
         let room = room_in t in
         let l : leb (length closed) room ≡ false = lt-leb (length closed) room (omega (arith, f.0, closed_length)) in
         rw l (refl, zeroed_same (n * 5) (room * 5) u t f.2 f.3 ∙ zeroed_again (n * 5) (room * 5) t (omega (arith, ready.fit)) (capacity_fits (length t)) ready.zeros)

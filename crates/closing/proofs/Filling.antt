@@ -2,21 +2,17 @@
 use Prim.Native.Nat.{ℕ, ◌+◌, ◌≤◌, ◌<◌}
 use native.Mathlib.Omega.{arith}
 use mathlib.Core.Path.{◌≡◌, refl, sym, ap, ◌∙◌}
-use mathlib.Core.Bool.{Bool, true, false, cond}
 use mathlib.Core.List.{List, [], ◌++◌}
-use borrow.Author.Tests.{leb-true, leb-false, le-leb, lt-leb}
-use lib.Dec.{leb}
 use lib.IntN.{ℤ}
 use lib.ListN.{length}
 use lib.Signed.{le_z}
-use Rattle.std.specs.Prelude.{Option, None, Some}
 use Rattle.model.specs.Lists.{each}
 use Rattle.model.specs.Order.{Row}
 use Rattle.model.proofs.Sorted.{keep_append}
 use Rattle.table.specs.Table.{cell, Filled, filled, fill}
 use Rattle.table.proofs.Fill.{fill_none, fill_count_least, fill_append, fill_append_full, fill_kept, fill_length}
 use Rattle.closing.specs.declared.Frame.{Frame}
-use Rattle.closing.specs.Added.{Appendable, fitting, FilledBy, counted, span}
+use Rattle.closing.specs.Added.{Appendable, FilledBy, counted, span}
 use Rattle.closing.proofs.Spans.{each_on, each_none, each_past}
 
 -- the first n rows of t are those of u
@@ -31,32 +27,11 @@ pub record Filling (room : ℕ) (x : ℤ) (n₀ : ℕ) (all : List Row) (t₀ : 
   pub kept : Kept n₀ t t₀
   pub on : fill room n (counted x rest) t ≡ fill room n₀ (counted x all) t₀
 
--- a count that fits, and one that does not
-pub some_told : (room k : ℕ) {n : ℕ} → Some n ≡ fitting room k → (n ≡ k) × (k ≤ room)
-some_told room k {n} e = go (leb k room) refl e
-  where
-    go : (b : Bool) → leb k room ≡ b → Some n ≡ cond b (Some k) None → (n ≡ k) × (k ≤ room)
-    go true f g = (cc, leb-true k room f)
-    go false f g = absurd (cc)
-
-pub none_told : (room k : ℕ) → None ≡ fitting room k → room < k
-none_told room k e = go (leb k room) refl e
-  where
-    go : (b : Bool) → leb k room ≡ b → None ≡ cond b (Some k) None → room < k
-    go true f g = absurd (cc)
-    go false f g = leb-false k room f
-
-pub some_fits : (room k : ℕ) → k ≤ room → Some k ≡ fitting room k
-some_fits room k h = rw (le-leb k room h)
-
-pub none_fits : (room k : ℕ) → room < k → None ≡ fitting room k
-none_fits room k h = rw (lt-leb k room h)
-
 -- nothing is to be appended
-pub nothing : (room : ℕ) (x : ℤ) (n : ℕ) (all : List Row) (t : List ℤ) → n ≤ room → all ≡ [] → FilledBy room n (counted x all) t (Some n) t
-nothing room x n all t h e =
+pub nothing : (room : ℕ) (x : ℤ) (n : ℕ) (all : List Row) (t : List ℤ) → all ≡ [] → FilledBy room n (counted x all) t n t
+nothing room x n all t e =
     let z : filled n t ≡ fill room n (counted x all) t = sym (fill_none room n t) ∙ ap (λ l. fill room n (counted x l) t) (sym e) in
-    (some_fits room n h ∙ ap (λ (y : Filled). fitting room y.count) z, ap (λ (y : Filled). y.table) z)
+    (ap (λ (y : Filled). y.count) z, ap (λ (y : Filled). y.table) z)
 
 pub begin : (room : ℕ) (x : ℤ) (n : ℕ) (all : List Row) (t : List ℤ) → n ≤ room → Filling room x n all t n all t
 begin room x n all t h = record { least = omega arith; most = h; size = refl; kept = λ i k p q. refl; on = refl }
@@ -67,42 +42,43 @@ module _ {room : ℕ} {x : ℤ} {n₀ : ℕ} {all : List Row} {t₀ : List ℤ} 
   cut rs qs e = ap (counted x) e ∙ keep_append (λ r. le_z x r.start) rs qs
 
   -- some were appended, and there was room for them
-  pub next : (rs qs : List Row) (k : ℕ) (u : List ℤ) → rest ≡ rs ++ qs → FilledBy room n (counted x rs) t (Some k) u → Filling room x n₀ all t₀ k qs u
-  next rs qs k u e d =
-      let w = some_told room (fill room n (counted x rs) t).count d.0 in
-      let c : k ≡ (fill room n (counted x rs) t).count = w.0 in
+  pub next : (rs qs : List Row) (k : ℕ) (u : List ℤ) → rest ≡ rs ++ qs → FilledBy room n (counted x rs) t k u → k ≤ room → Filling room x n₀ all t₀ k qs u
+  next rs qs k u e d h =
+      let c : k ≡ (fill room n (counted x rs) t).count = d.0 in
       let l : n ≤ (fill room n (counted x rs) t).count = fill_count_least room n (counted x rs) t f.most in
+      let w : (fill room n (counted x rs) t).count ≤ room = omega arith in
       record {
         least = omega (arith, f.least);
-        most = omega (arith, w.1);
+        most = h;
         size = ap length d.1 ∙ fill_length room n (counted x rs) t ∙ f.size;
         kept = λ i j p q. ap (λ y. cell y i j) d.1 ∙ fill_kept room n (counted x rs) t i j (omega (arith, f.least)) q ∙ f.kept i j p q;
-        on = rw (c, d.1) (sym (fill_append room n (counted x rs) (counted x qs) t f.most w.1)) ∙ ap (λ l. fill room n l t) (sym (cut rs qs e)) ∙ f.on;
+        on = rw (c, d.1) (sym (fill_append room n (counted x rs) (counted x qs) t f.most w)) ∙ ap (λ l. fill room n l t) (sym (cut rs qs e)) ∙ f.on;
       }
 
   -- there was no room
-  pub full : (rs qs : List Row) (u : List ℤ) → rest ≡ rs ++ qs → FilledBy room n (counted x rs) t None u → FilledBy room n₀ (counted x all) t₀ None u
-  full rs qs u e d =
-      let w = none_told room (fill room n (counted x rs) t).count d.0 in
+  pub full : (rs qs : List Row) (k : ℕ) (u : List ℤ) → rest ≡ rs ++ qs → FilledBy room n (counted x rs) t k u → room < k → FilledBy room n₀ (counted x all) t₀ k u
+  full rs qs k u e d h =
+      let c : k ≡ (fill room n (counted x rs) t).count = d.0 in
+      let w : room < (fill room n (counted x rs) t).count = omega arith in
       let z : fill room n (counted x rs) t ≡ fill room n₀ (counted x all) t₀ = sym (fill_append_full room n (counted x rs) (counted x qs) t f.most w) ∙ ap (λ l. fill room n l t) (sym (cut rs qs e)) ∙ f.on in
-      (d.0 ∙ ap (λ (y : Filled). fitting room y.count) z, d.1 ∙ ap (λ (y : Filled). y.table) z)
+      (d.0 ∙ ap (λ (y : Filled). y.count) z, d.1 ∙ ap (λ (y : Filled). y.table) z)
 
   -- all that was left was appended
-  pub last : {k : Option ℕ} {u : List ℤ} → FilledBy room n (counted x rest) t k u → FilledBy room n₀ (counted x all) t₀ k u
-  last d = (d.0 ∙ ap (λ (y : Filled). fitting room y.count) f.on, d.1 ∙ ap (λ (y : Filled). y.table) f.on)
+  pub last : {k : ℕ} {u : List ℤ} → FilledBy room n (counted x rest) t k u → FilledBy room n₀ (counted x all) t₀ k u
+  last d = (d.0 ∙ ap (λ (y : Filled). y.count) f.on, d.1 ∙ ap (λ (y : Filled). y.table) f.on)
 
   -- nothing is left
-  pub ended : rest ≡ [] → FilledBy room n₀ (counted x all) t₀ (Some n) t
-  ended e = last (nothing room x n rest t f.most e)
+  pub ended : rest ≡ [] → FilledBy room n₀ (counted x all) t₀ n t
+  ended e = last (nothing room x n rest t e)
 
 -- a loop that appends h i at each number i from one on to before e
 module _ {room : ℕ} {x : ℤ} {n₀ : ℕ} {all : List Row} {t₀ : List ℤ} {n : ℕ} {t : List ℤ} (h : ℕ → List Row) (i e : ℕ) (f : Filling room x n₀ all t₀ n (each h (span i e)) t) where
-  module _ {rs : List Row} {u : List ℤ} (l : i < e) (same : rs ≡ h i) where
-    pub turn : {k : ℕ} → FilledBy room n (counted x rs) t (Some k) u → Filling room x n₀ all t₀ k (each h (span (i + 1) e)) u
-    turn {k} d = next f rs (each h (span (i + 1) e)) k u (each_on h i e l ∙ ap (λ y. y ++ each h (span (i + 1) e)) (sym same)) d
+  module _ {rs : List Row} {k : ℕ} {u : List ℤ} (l : i < e) (same : rs ≡ h i) (d : FilledBy room n (counted x rs) t k u) where
+    pub turn : k ≤ room → Filling room x n₀ all t₀ k (each h (span (i + 1) e)) u
+    turn = next f rs (each h (span (i + 1) e)) k u (each_on h i e l ∙ ap (λ y. y ++ each h (span (i + 1) e)) (sym same)) d
 
-    pub stop : FilledBy room n (counted x rs) t None u → FilledBy room n₀ (counted x all) t₀ None u
-    stop d = full f rs (each h (span (i + 1) e)) u (each_on h i e l ∙ ap (λ y. y ++ each h (span (i + 1) e)) (sym same)) d
+    pub stop : room < k → FilledBy room n₀ (counted x all) t₀ k u
+    stop = full f rs (each h (span (i + 1) e)) k u (each_on h i e l ∙ ap (λ y. y ++ each h (span (i + 1) e)) (sym same)) d
 
   -- a number at which nothing is to be appended
   pub skip : i < e → h i ≡ [] → Filling room x n₀ all t₀ n (each h (span (i + 1) e)) t
@@ -124,7 +100,7 @@ module _ {room : ℕ} {x : ℤ} {n₀ : ℕ} {all : List Row} {t₀ : List ℤ} 
     on = ap (λ y. fill room n (counted x y) t) (sym (each_past h i k e l g z)) ∙ f.on;
   }
 
-  pub over : e ≤ i → FilledBy room n₀ (counted x all) t₀ (Some n) t
+  pub over : e ≤ i → FilledBy room n₀ (counted x all) t₀ n t
   over l = ended f (each_none h i e l)
 
 -- what a function that appends asks, in the middle of a loop

@@ -9,7 +9,6 @@ use lib.ListN.{length, drop, length-append, drop_of_length-le}
 use lib.Seq.{drop_at}
 use Rattle.interval.proofs.Signed.{◌≤ᶻ◌, ◌<ᶻ◌, eq_fact, lt_true, antisym, add_fact}
 use Rattle.chart.specs.declared.Chart.{Chart}
-use Rattle.std.specs.Prelude.{Option, None, Some}
 use Rattle.model.specs.Recognitions.{Event}
 use Rattle.model.specs.Order.{Row}
 use Rattle.model.specs.RowSteps.{close_rows, close_instants, instants_to, due_ends, numbered}
@@ -85,22 +84,27 @@ module _ (chart : Chart) (since : List ℤ) (o x : ℤ) (h : o <ᶻ x) (first : 
       ap (drop n) (instants_on (operators_of chart) since es o x (rows_in n t) h ∙ p.1 ∙ ap (λ z. z ++ p.0) closed_new ∙ append_assoc (rows_in n t) new p.0)
       ∙ drop_at (rows_in n t) (new ++ p.0) n (length_rows n t) ∙ ap (λ l. new ++ l) (sym rest)
 
-  module _ {room n₀ : ℕ} {whole : List Row} {t₀ : List ℤ} {u : List ℤ} (f : Closing room n₀ whole t₀ n (left_instants chart since o x es n t) t) where
+  module _ {room n₀ : ℕ} {whole : List Row} {t₀ : List ℤ} {k : ℕ} {u : List ℤ} (f : Closing room n₀ whole t₀ n (left_instants chart since o x es n t) t) (held : room * 5 ≤ length t) (d : Tried room n new t k u) where
     -- the rows of this instant found no room
-    pub turn_full : room * 5 ≤ length t → Tried room n new t None u → Tried room n₀ whole t₀ None u
-    turn_full held (inl w) = absurd (cc)
-    turn_full held (inr w) = closing_full f new (drop (n + length new) all) u left_cut held w.0 w.2 w.3
+    pub turn_full : room < k → Tried room n₀ whole t₀ k u
+    turn_full l = go d
+      where
+        go : Tried room n new t k u → Tried room n₀ whole t₀ k u
+        go (inl w) = absurd (omega (arith, w.0, w.1))
+        go (inr w) = closing_full f new (drop (n + length new) all) k u left_cut held w.0 w.1 w.2 w.3
 
     -- they did, and e is the next due instant
-    pub turn_next : {k : ℕ} → room * 5 ≤ length t → Tried room n new t (Some k) u → Settled (o +ℤ pos 1) k u → (e : ℤ) → NextDue (due_ends [] (operators_of chart) since (rows_in k u)) (o +ℤ pos 1) x e → Closing room n₀ whole t₀ k (left_instants chart since e x [] k u) u
+    pub turn_next : k ≤ room → Settled (o +ℤ pos 1) k u → (e : ℤ) → NextDue (due_ends [] (operators_of chart) since (rows_in k u)) (o +ℤ pos 1) x e → Closing room n₀ whole t₀ k (left_instants chart since e x [] k u) u
     unfolding left_instants
-    turn_next held (inr w) s e due = absurd (cc)
-    turn_next {k} held (inl w) s e due =
-        let c : k ≡ n + length new = cc in
-        let rows : rows_in k u ≡ closed = rw (c, w.2) (rows_puts n new t (omega (arith, w.0))) ∙ sym closed_new in
-        let rest : left_instants chart since e x [] k u ≡ drop (n + length new) all =
-        ap (drop k) (sym (instants_skip (operators_of chart) since [] (o +ℤ pos 1) x e (rows_in k u) (rows_end (o +ℤ pos 1) k u s) due))
-        ∙ ap (λ z. drop k (close_instants (instants_to (o +ℤ pos 1) x) (o +ℤ pos 1) [] (operators_of chart) since z)) rows
-        ∙ ap (drop k) (sym (instants_without (operators_of chart) since es (instants_to (o +ℤ pos 1) x) (o +ℤ pos 1) closed (λ v m. omega (arith, eq_fact (numbered_mem o first codes v m).0, add_fact o (pos 1)))))
-        ∙ ap (λ z. drop z all) c in
-        subst (λ z. Closing room n₀ whole t₀ k z u) (sym rest) (closing_next f new (drop (n + length new) all) k u left_cut c (omega (arith, w.0)) w.2)
+    turn_next l s e due = go d
+      where
+        go : Tried room n new t k u → Closing room n₀ whole t₀ k (left_instants chart since e x [] k u) u
+        go (inr w) = absurd (omega (arith, w.1))
+        go (inl w) =
+            let rows : rows_in k u ≡ closed = rw (w.1, w.2) (rows_puts n new t (omega (arith, w.0))) ∙ sym closed_new in
+            let rest : left_instants chart since e x [] k u ≡ drop (n + length new) all =
+            ap (drop k) (sym (instants_skip (operators_of chart) since [] (o +ℤ pos 1) x e (rows_in k u) (rows_end (o +ℤ pos 1) k u s) due))
+            ∙ ap (λ z. drop k (close_instants (instants_to (o +ℤ pos 1) x) (o +ℤ pos 1) [] (operators_of chart) since z)) rows
+            ∙ ap (drop k) (sym (instants_without (operators_of chart) since es (instants_to (o +ℤ pos 1) x) (o +ℤ pos 1) closed (λ v m. omega (arith, eq_fact (numbered_mem o first codes v m).0, add_fact o (pos 1)))))
+            ∙ ap (λ z. drop z all) w.1 in
+            subst (λ z. Closing room n₀ whole t₀ k z u) (sym rest) (closing_next f new (drop (n + length new) all) k u left_cut w.1 l w.2)

@@ -22,7 +22,7 @@ use Rattle.model.specs.Statements.{NextDue}
 use Rattle.model.proofs.Sorted.{keep_mem, mem_keep}
 use Rattle.model.proofs.Due.{due_delayed, delayed_kept}
 use Rattle.table.specs.Table.{cell, rows_in}
-use Rattle.table.specs.Ends.{ending_before, ending_by}
+use Rattle.table.specs.Ends.{count_ending}
 use Rattle.table.specs.Operators.{operators_of, entry_operator}
 use Rattle.table.proofs.Operators.{operators_all}
 use Rattle.table.proofs.Lower.{lower_entry}
@@ -36,10 +36,10 @@ use Rattle.closing.proofs.Grown.{eq_entry}
 module _ (x last limit a : ℤ) (d n : ℕ) (t : List ℤ) (s : Settled (last +ℤ pos 1) n t) (h : last <ᶻ limit) (above : le_z (pos 0) a ≡ true) where
   -- the rows at whose ends a wait would end behind `last` and before the limit
   abbrev first : ℕ
-  first = ending_by n (last -ℤ pos d) t
+  first = count_ending true n (last -ℤ pos d) t
 
   abbrev end : ℕ
-  end = ending_before n (limit -ℤ pos d) t
+  end = count_ending false n (limit -ℤ pos d) t
 
   abbrev ends : List ℤ
   ends = delayed_ends x (rows_in n t) (after (nat_abs a) d)
@@ -69,7 +69,7 @@ module _ (x last limit a : ℤ) (d n : ℕ) (t : List ℤ) (s : Settled (last +�
   due_limit j g l = omega (arith, lt_false (cell t j 4) (limit -ℤ pos d) (counted_fails false n (limit -ℤ pos d) t s.ordered j g l), add_fact (cell t j 4) (pos d), sub_fact limit (pos d))
 
   pub inside : end ≤ n
-  inside = let low : end ≤ ending_by n (limit -ℤ pos d) t = ends_low (limit -ℤ pos d) n t in omega (arith, ends_few (limit -ℤ pos d) n t)
+  inside = let low : end ≤ count_ending true n (limit -ℤ pos d) t = ends_low (limit -ℤ pos d) n t in omega (arith, ends_few (limit -ℤ pos d) n t)
 
   pub few : first ≤ end
   few = go (leb first end) refl

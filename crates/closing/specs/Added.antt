@@ -1,7 +1,7 @@
 -- What each operator's function appends, read off the table as the function reads it: m is the number of rows from before this
 -- closing, n that of all rows, a and b are operands. Nothing here has to be believed: the theorems of proofs/Derived.antt say that
 -- these are the rows that the reference model's step makes, before it puts them in order.
-use Rattle.std.specs.Prelude.{ℕ, zero, suc, ◌+◌, ◌*◌, ◌-◌, ◌≤◌, ◌<◌, ◌≡◌, ◌⊎◌, Bool, true, false, cond, not, ◌&&◌, ◌||◌, List, [], ◌∷◌, ◌++◌, eqb, leb, ltb, ℤ, pos, nat_abs, ◌-ℤ◌, length, get_or, take, drop, Option, None, Some, option_map}
+use Rattle.std.specs.Prelude.{ℕ, zero, suc, ◌+◌, ◌*◌, ◌-◌, ◌≤◌, ◌<◌, ◌≡◌, ◌⊎◌, Bool, true, false, cond, not, ◌&&◌, ◌||◌, List, [], ◌∷◌, ◌++◌, eqb, leb, ltb, ℤ, pos, nat_abs, ◌-ℤ◌, length, get_or, take, drop}
 use Rattle.std.specs.Int.Signed.{le_z, lt_z}
 use Rattle.interval.specs.Instants.{eq_z, least, greatest}
 use Rattle.interval.specs.Conditions.{is_related, ending_of, is_forbidding, has_length}
@@ -15,19 +15,17 @@ use Rattle.interval.specs.declared.Nearest.TheVariants.{Cut, Change}
 use Rattle.model.specs.Lists.{keep, each, numbers}
 use Rattle.model.specs.Recognitions.{Event, Operator, event, related, or, absence, lasting, after, nearest, Arm, left, right}
 use Rattle.model.specs.Order.{Row, row, none, left_of, right_of}
-use Rattle.table.specs.Table.{cell, stored_row, model_row, fill, put_rows}
+use Rattle.table.specs.Table.{cell, stored_row, fill, put_rows}
 use Rattle.model.specs.RowSteps.{numbered}
-use Rattle.table.specs.Ends.{Ordered, ending_before, ending_by}
+use Rattle.table.specs.Ends.{Ordered, ending_before, count_ending}
 use Rattle.table.specs.Ready.{EndBefore}
 use Rattle.table.specs.declared.Row as stored
 use Rattle.closing.specs.declared.Frame.{Frame}
 use Rattle.closing.specs.declared.Pending.{Pending}
 use Rattle.closing.specs.declared.Wanted.{Wanted}
 use Rattle.closing.specs.declared.Sought.{Sought}
-use Rattle.closing.specs.declared.Made.{Made}
-use Rattle.closing.specs.declared.Lasting.{Lasting}
-use Rattle.closing.specs.declared.Arm as code
-use Rattle.closing.specs.declared.Arm.TheVariants.{Left, Right}
+use Rattle.closing.specs.declared.Taken.{Taken}
+use Rattle.closing.specs.declared.Taken.TheVariants.{All, Lasting}
 
 -- n rows in a table with room for so many, of which the frame says what they are: what a function that appends rows asks
 pub record Appendable (f : Frame) (n : ℕ) (t : List ℤ) : Type 0 where
@@ -51,51 +49,26 @@ pub record Settled (o : ℤ) (n : ℕ) (t : List ℤ) : Type 0 where
   pub ordered : Ordered n t
   pub ended : EndBefore o n t
 
--- a count of rows, if so many fit
-abbrev pub fitting : ℕ → ℕ → Option ℕ
-fitting room k = cond (leb k room) (Some k) None
-
--- the rows rs were appended to the n rows of the table t, as far as there was room: the count k, if all fit, and the table u after it
-abbrev pub FilledBy : ℕ → ℕ → List Row → List ℤ → Option ℕ → List ℤ → Type 0
-FilledBy room n rs t k u = (k ≡ fitting room (fill room n rs t).count) × (u ≡ (fill room n rs t).table)
+-- the rows rs were appended to the n rows of the table t, as far as there was room: the count k and the table u after it
+abbrev pub FilledBy : ℕ → ℕ → List Row → List ℤ → ℕ → List ℤ → Type 0
+FilledBy room n rs t k u = (k ≡ (fill room n rs t).count) × (u ≡ (fill room n rs t).table)
 
 -- the rows rs were to be appended to the n rows of t: they were, or there is no room for them, and nothing but the rows behind was altered
-abbrev pub Tried : ℕ → ℕ → List Row → List ℤ → Option ℕ → List ℤ → Type 0
+abbrev pub Tried : ℕ → ℕ → List Row → List ℤ → ℕ → List ℤ → Type 0
 Tried room n rs t k u =
-    ((n + length rs ≤ room) × (k ≡ Some (n + length rs)) × (u ≡ put_rows n rs t)) ⊎
-    ((room < n + length rs) × (k ≡ None) × (take (n * 5) u ≡ take (n * 5) t) × (drop (room * 5) u ≡ drop (room * 5) t))
+    ((n + length rs ≤ room) × (k ≡ n + length rs) × (u ≡ put_rows n rs t)) ⊎
+    ((room < n + length rs) × (k ≡ suc room) × (take (n * 5) u ≡ take (n * 5) t) × (drop (room * 5) u ≡ drop (room * 5) t))
 
 -- the rows that start at x or later, from which their entry counts
 abbrev pub counted : ℤ → List Row → List Row
 counted x rs = keep (λ r. le_z x r.start) rs
 
-abbrev pub Appended : Frame → ℕ → List Row → List ℤ → Option ℕ → List ℤ → Type 0
+abbrev pub Appended : Frame → ℕ → List Row → List ℤ → ℕ → List ℤ → Type 0
 Appended f n rs t k u = FilledBy f.room n (counted f.since rs) t k u
-
--- the rows of what an entry has made
-abbrev pub rows_of : Option Made → Option ℕ
-rows_of m = option_map (λ (x : Made). x.rows) m
-
--- what a loop over rows asks of the test that makes rows of them: to be asked of each, and to make none whose entry is a negative number
-pub record Makes (f : Frame) (pre : stored.Row → ℕ → Type 0) (post : stored.Row → ℕ → Option stored.Row → Type 0) : Type 0 where
-  pub asked : (r : stored.Row) (i : ℕ) → i < f.end → pre r i
-  pub above : (r x : stored.Row) (i : ℕ) → i < f.end → post r i (Some x) → le_z (pos 0) x.entry ≡ true
-
--- the rows h are what the test makes of the rows of t from `from` to before `to`
-abbrev pub row_list : Option stored.Row → List Row
-row_list None = []
-row_list (Some r) = model_row r ∷ []
-
-abbrev pub MadeBy : (ℕ → List Row) → ℕ → ℕ → List ℤ → (stored.Row → ℕ → Option stored.Row → Type 0) → Type 0
-MadeBy h from to t post = (i : ℕ) (r : Option stored.Row) → from ≤ i → i < to → post (stored_row t i) i r → row_list r ≡ h i
 
 -- the numbers from a to before e
 abbrev pub span : ℕ → ℕ → List ℕ
 span a e = numbers a (e - a)
-
--- what the test makes of the rows from `from` to before the frame's end was appended
-abbrev pub AppendedBy : Frame → ℕ → ℕ → (stored.Row → ℕ → Option stored.Row → Type 0) → List ℤ → Option ℕ → List ℤ → Type 0
-AppendedBy f n from post t k u = (h : ℕ → List Row) → MadeBy h from f.end t post → Appended f n (each h (span from f.end)) t k u
 
 -- a row if the test holds
 abbrev pub when : Bool → Row → List Row
@@ -122,9 +95,9 @@ unfoldable pub event_rows : ℕ → ℤ → ℕ → Pending → List ℕ → Lis
 event_rows entry o k p codes = each (λ j. event_row entry k o (get_or codes j 0) (p.first + j)) (span 0 p.count)
 
 -- a row that refers to row i alone; it ends at the instant o
-abbrev pub arm_of : code.Arm → Arm
-arm_of Left = left
-arm_of Right = right
+abbrev pub arm_of : Bool → Arm
+arm_of true = right
+arm_of false = left
 
 abbrev pub part_of : Arm → Frame → stored.Row → ℕ → stored.Row
 part_of m f r i = record { entry = f.entry; left = left_of m i; right = right_of m i; start = r.start; end = f.instant }
@@ -133,31 +106,31 @@ unfoldable pub part_row : Arm → ℕ → ℤ → List ℤ → ℕ → Row
 part_row m entry o t i = row entry (left_of m i) (right_of m i) (cell t i 3) o
 
 -- an arm of or, a length test, a delay: the rows from m to before n that are taken
-abbrev pub is_long : Option Lasting → ℤ → ℤ → Bool
-is_long None s e = true
-is_long (Some l) s e = has_length l.test l.length s e
+abbrev pub is_long : Taken → ℤ → ℤ → Bool
+is_long All s e = true
+is_long (Lasting c d) s e = has_length c d s e
 
-abbrev pub is_taken : ℤ → Option Lasting → stored.Row → Bool
+abbrev pub is_taken : ℤ → Taken → stored.Row → Bool
 is_taken a k r = eq_z r.entry a && is_long k r.start r.end
 
-unfoldable pub taken_row : Arm → ℕ → ℤ → ℤ → Option Lasting → List ℤ → ℕ → List Row
+unfoldable pub taken_row : Arm → ℕ → ℤ → ℤ → Taken → List ℤ → ℕ → List Row
 taken_row side entry o a k t i = when (is_taken a k (stored_row t i)) (part_row side entry o t i)
 
-unfoldable pub taken_rows : Arm → ℕ → ℤ → ℤ → Option Lasting → ℕ → ℕ → List ℤ → List Row
+unfoldable pub taken_rows : Arm → ℕ → ℤ → ℤ → Taken → ℕ → ℕ → List ℤ → List Row
 taken_rows side entry o a k m n t = each (taken_row side entry o a k t) (span m n)
 
 unfoldable pub or_rows : ℕ → ℤ → ℤ → ℤ → ℕ → ℕ → List ℤ → List Row
-or_rows entry o a b m n t = taken_rows left entry o a None m n t ++ taken_rows right entry o b None m n t
+or_rows entry o a b m n t = taken_rows left entry o a All m n t ++ taken_rows right entry o b All m n t
 
 -- a delay: of all n rows those of a that end d before the instant
 abbrev pub waited_from : ℤ → ℕ → ℕ → List ℤ → ℕ
-waited_from o d n t = ending_before n (o -ℤ pos d) t
+waited_from o d n t = count_ending false n (o -ℤ pos d) t
 
 abbrev pub waited_to : ℤ → ℕ → ℕ → List ℤ → ℕ
-waited_to o d n t = ending_by n (o -ℤ pos d) t
+waited_to o d n t = count_ending true n (o -ℤ pos d) t
 
 unfoldable pub delayed_rows : ℕ → ℤ → ℤ → ℕ → ℕ → List ℤ → List Row
-delayed_rows entry o a d n t = taken_rows left entry o a None (waited_from o d n t) (waited_to o d n t) t
+delayed_rows entry o a d n t = taken_rows left entry o a All (waited_from o d n t) (waited_to o d n t) t
 
 -- whether row j is one of a that starts at x or later; k is the first such row from row i on to before row n, or n or more where there is none
 abbrev pub is_waited : ℤ → ℤ → List ℤ → ℕ → Bool
@@ -170,11 +143,8 @@ pub record FirstWaited (x a : ℤ) (i n : ℕ) (t : List ℤ) (k : ℕ) : Type 0
 
 -- an absence: whether row j forbids an interval; whether the row before place j is there and ends at `start` or later; and whether one of
 -- the rows before place j forbids the interval, searched backwards as long as they end at its start or later
-abbrev pub is_forbidding_row : Edges → ℤ → ℤ → ℤ → stored.Row → Bool
-is_forbidding_row e b start end s = eq_z s.entry b && is_forbidding e start end s.start s.end
-
 unfoldable pub forbids : Edges → ℤ → ℤ → ℤ → List ℤ → ℕ → Bool
-forbids e b start end t j = is_forbidding_row e b start end (stored_row t j)
+forbids e b start end t j = eq_z (cell t j 0) b && is_forbidding e start end (cell t j 3) (cell t j 4)
 
 unfoldable pub is_within : ℤ → List ℤ → ℕ → Bool
 is_within start t zero = false
@@ -203,9 +173,6 @@ absence_rows e entry o a b m n t = each (absence_row e entry o a b (top_of b n t
 -- two operands: the pairs in which one row or both end at the instant
 abbrev pub is_wanted : Wanted → stored.Row → Bool
 is_wanted w s = eq_z s.entry w.operand && is_related w.relation w.start w.end s.start s.end
-
-abbrev pub wanted_with : Relation → ℤ → ℕ → stored.Row → Wanted
-wanted_with c b r q = record { relation = c; operand = b; left = r; start = q.start; end = q.end }
 
 abbrev pub pair_of : Frame → Wanted → stored.Row → ℕ → stored.Row
 pair_of f w s i = record { entry = f.entry; left = pos w.left; right = pos i; start = least w.start s.start; end = greatest w.end s.end }
@@ -309,7 +276,7 @@ nearest_pairs entry w limit m n t = each (nearest_row entry w limit t) (span m n
 
 -- the pairs of row r, and those of a row that may be none of a
 abbrev pub wanted_by : ℤ → List ℤ → ℕ → Wanted
-wanted_by b t r = wanted_with Seq b r (stored_row t r)
+wanted_by b t r = record { relation = Seq; operand = b; left = r; start = cell t r 3; end = cell t r 4 }
 
 unfoldable pub nearest_of : Sought → ℕ → ℤ → ℕ → ℕ → List ℤ → ℕ → List Row
 nearest_of k entry o m n t r = nearest_pairs entry (wanted_by k.b t r) (limit_by k.nearest o k.a k.to t r) m n t
@@ -333,6 +300,6 @@ added_rows (event k) entry o p codes m n t = event_rows entry o k p codes
 added_rows (related c a b) entry o p codes m n t = pair_rows c entry (pos a) (pos b) m n t
 added_rows (or a b) entry o p codes m n t = or_rows entry o (pos a) (pos b) m n t
 added_rows (absence e a b) entry o p codes m n t = absence_rows e entry o (pos a) (pos b) m n t
-added_rows (lasting c a d) entry o p codes m n t = taken_rows left entry o (pos a) (Some (record { test = c; length = d })) m n t
+added_rows (lasting c a d) entry o p codes m n t = taken_rows left entry o (pos a) (Lasting c d) m n t
 added_rows (after a d) entry o p codes m n t = delayed_rows entry o (pos a) d n t
 added_rows (nearest c a b) entry o p codes m n t = nearest_rows c entry o (pos a) (pos b) m n t

@@ -4,7 +4,7 @@
 // function says what it looks at.
 #![tactic(auto)]
 
-ghost use Rattle.std.specs.Prelude.{◌≡◌, [], ◌∷◌, ◌||◌, IfSome, ◌+◌, ◌*◌, ◌≤◌, ◌<◌, pos, nat_abs, ◌+ℤ◌, length, drop, true};
+ghost use Rattle.std.specs.Prelude.{◌≡◌, [], ◌∷◌, ◌+◌, ◌*◌, ◌≤◌, ◌<◌, eqb, pos, nat_abs, ◌+ℤ◌, length, drop, true};
 ghost use Rattle.std.specs.Int.Signed.{le_z, lt_z};
 ghost use Rattle.interval.specs.Instants.{eq_z, least};
 ghost use Rattle.interval.specs.Conditions.{ending_of};
@@ -13,17 +13,16 @@ ghost use Rattle.model.specs.Capacity.{capacity};
 ghost use Rattle.model.specs.Recognitions.{after};
 ghost use Rattle.model.specs.RowSteps.{close_rows, delayed_ends, due_ends};
 ghost use Rattle.model.specs.Statements.{NextDue};
-ghost use Rattle.table.specs.Table.{cell, model_row, rows_in};
-ghost use Rattle.table.specs.Ends.{Ordered};
+ghost use Rattle.table.specs.Table.{cell, stored_row, model_row, rows_in};
+ghost use Rattle.table.specs.Ends.{Ordered, ending_before};
 ghost use Rattle.table.specs.Operators.{operators_of, entry_operator};
-ghost use Rattle.closing.specs.Added.{Appendable, Proper, Settled, Appended, Tried, rows_of, Makes, AppendedBy, is_waited, FirstWaited, SerialsFit, events_at, event_rows, arm_of, part_of, is_taken, taken_rows, or_rows, delayed_rows, is_forbidding_row, is_forbidden, absence_rows, top_of, SameTop, next_row, Passed, least_start, wanted_with, is_wanted, pair_of, right_from, pairs_of, left_from, pair_rows, latest_start, near_from, near_to, is_later_row, rival_end, nearest_pairs, nearest_of, nearest_rows, added_rows};
+ghost use Rattle.closing.specs.Added.{Appendable, Proper, Settled, Appended, Tried, is_waited, FirstWaited, SerialsFit, serial_row, events_at, event_rows, arm_of, part_of, part_row, is_taken, taken_row, taken_rows, or_rows, delayed_rows, forbids, is_within, absence_rows, top_of, SameTop, next_row, Passed, least_start, is_wanted, pair_of, pair_row, right_from, pairs_of, left_from, pair_rows, latest_start, near_from, near_to, is_later_row, rival_end, limit_by, nearest_pairs, nearest_of, nearest_rows, added_rows};
 ghost use Rattle.closing.specs.Closed.{Closable, closed_rows, closed_count, closed_table};
 
 use chart::operator::Kind;
 use chart::{Chart, Entry};
 use interval::{Edges, Ending, LengthTest, Nearest, Relation};
 use state::WatchState;
-use std::ops::Range;
 use table::Row;
 
 // Where rows of an entry are appended: the rows before `first` end before the instant that is closed; those from there to before `end` end
@@ -63,18 +62,11 @@ struct Made {
     next: i32,
 }
 
-// What a length test asks of a row.
+// Which rows of one operand make a row: all of them, or those that last so long.
 #[derive(Clone, Copy)]
-struct Lasting {
-    test: LengthTest,
-    length: u32,
-}
-
-// As which operand a row refers to another one, where it refers to one only.
-#[derive(Clone, Copy)]
-enum Arm {
-    Left,
-    Right,
+enum Taken {
+    All,
+    Lasting(LengthTest, u32),
 }
 
 // What an `after` waits for: its operand, its length, and the instant from which its entry counts.
@@ -104,106 +96,162 @@ struct Sought {
     to: usize,
 }
 
-// Appends a row, if it starts no earlier than its entry counts: how many rows there are then, or None where there is no room for it.
-fn push_counted(t: &mut [i32], n: usize, f: Frame, row: Row) -> Option<usize>
+// Rows from one to before another.
+#[derive(Clone, Copy)]
+struct Span {
+    from: usize,
+    to: usize,
+}
+
+// Whether an event's code is k.
+fn has_code(code: u8, k: u32) -> bool
+    ensures { result ≡ eqb code k }
+{
+    code as u32 == k
+}
+
+// Appends a row, if it starts no earlier than its entry counts.
+fn push_counted(t: &mut [i32], n: usize, f: Frame, row: Row) -> usize
     requires { (Appendable f n t.old) × (le_z (pos 0) row.entry ≡ true) }
     ensures { Appended f n (model_row row ∷ []) t.old result t.new }
 {
-    if row.start < f.since {
-        return Some(n);
+    if f.since <= row.start {
+        return table::push_row(t, n, f.room, row).unwrap_or(f.room + 1);
     }
-    if n == f.room {
-        return None;
-    }
-    table::put_row(t, n, row);
-    Some(n + 1)
+    n
 }
 
-// A row for each row from `from` to before the frame's end of which `made`, given the row and its number, makes one. One look at each of them.
-fn rows_made<F: Fn(Row, usize) -> Option<Row>>(
-    t: &mut [i32],
-    n: usize,
-    f: Frame,
-    from: usize,
-    made: F,
-) -> Option<usize>
-    requires { Appendable f n t.old × Makes f (F.pre made) (F.post made) }
-    ensures { AppendedBy f n from (F.post made) t.old result t.new }
+fn push_event(t: &mut [i32], n: usize, f: Frame, serial: usize) -> usize
+    requires { (Appendable f n t.old) × (serial ≤ 1000000) }
+    ensures { Appended f n (serial_row (nat_abs f.entry) f.instant serial ∷ []) t.old result t.new }
 {
-    let mut count = n;
-    for i in from..f.end {
-        if let Some(row) = made(table::row_at(t, i), i) {
-            count = push_counted(t, count, f, row)?;
-        }
-    }
-    Some(count)
+    let row = Row {
+        entry: f.entry,
+        left: serial as i32,
+        right: -1,
+        start: f.instant,
+        end: f.instant,
+    };
+    push_counted(t, n, f, row)
 }
 
 // event: a row for each pending event of code k. One look at each event.
-fn event_rows(t: &mut [i32], n: usize, f: Frame, k: u32, p: Pending, codes: &[u8; 64]) -> Option<usize>
+fn event_rows(t: &mut [i32], n: usize, f: Frame, k: u32, p: Pending, codes: &[u8; 64]) -> usize
     requires { (Appendable f n t.old) × SerialsFit p }
     ensures { Appended f n (event_rows (nat_abs f.entry) f.instant k p codes.now) t.old result t.new }
 {
+    let room = f.room;
+    let pending = p.count;
     let mut count = n;
-    for j in 0..p.count {
-        if u32::from(codes[j]) == k {
-            let row = Row {
-                entry: f.entry,
-                left: (p.first + j) as i32,
-                right: -1,
-                start: f.instant,
-                end: f.instant,
-            };
-            count = push_counted(t, count, f, row)?;
+    let mut j: usize = 0;
+    while j < pending {
+        let at = j;
+        j += 1;
+        let code = codes[at];
+        if has_code(code, k) {
+            count = push_event(t, count, f, p.first + at);
+            if room < count {
+                return count;
+            }
         }
     }
-    Some(count)
+    count
 }
 
-// The row that refers to row i alone; `part` is that row. It ends at the instant, as the part does or, if it is delayed, later.
-fn part_of(f: Frame, part: Row, i: usize, arm: Arm) -> Row
+// The row that refers to row i alone, as its second operand or as its first; `part` is that row. It ends at the instant, as the part does
+// or, if it is delayed, later.
+fn part_of(f: Frame, part: Row, i: usize, second: bool) -> Row
     requires { i < 65535 }
-    ensures { result ≡ part_of (arm_of arm) f part i }
+    ensures { result ≡ part_of (arm_of second) f part i }
 {
-    let (left, right) = match arm {
-        Arm::Left => (i as i32, -1),
-        Arm::Right => (-1, i as i32),
-    };
-    Row {
-        entry: f.entry,
-        left,
-        right,
-        start: part.start,
-        end: f.instant,
+    let mut row = part;
+    row.entry = f.entry;
+    row.end = f.instant;
+    if second {
+        row.left = -1;
+        row.right = i as i32;
+        return row;
+    }
+    row.left = i as i32;
+    row.right = -1;
+    row
+}
+
+fn push_part(t: &mut [i32], n: usize, f: Frame, i: usize, second: bool) -> usize
+    requires { (Appendable f n t.old) × (i < n) }
+    ensures { Appended f n (part_row (arm_of second) (nat_abs f.entry) f.instant t.old i ∷ []) t.old result t.new }
+{
+    let part = table::row_at(t, i);
+    let row = part_of(f, part, i, second);
+    push_counted(t, n, f, row)
+}
+
+// Whether a row is one of the operand a and is taken.
+fn is_taken(a: i32, taken: Taken, row: Row) -> bool
+    ensures { result ≡ is_taken a taken row }
+{
+    if row.entry != a {
+        return false;
+    }
+    match taken {
+        Taken::All => true,
+        Taken::Lasting(test, d) => interval::has_length(test, d, row.start, row.end),
     }
 }
 
-// Whether a row is one of the operand a and, where a length is asked for, lasts so long.
-fn is_taken(a: i32, asked: Option<Lasting>, row: Row) -> bool
-    ensures { result ≡ is_taken a asked row }
+// The row of row i, if that is taken.
+fn push_taken(
+    t: &mut [i32],
+    n: usize,
+    f: Frame,
+    a: i32,
+    taken: Taken,
+    second: bool,
+    i: usize,
+) -> usize
+    requires { (Appendable f n t.old) × (i < n) }
+    ensures { Appended f n (taken_row (arm_of second) (nat_abs f.entry) f.instant a taken t.old i) t.old result t.new }
 {
-    row.entry == a && asked.is_none_or(|l| interval::has_length(l.test, l.length, row.start, row.end))
+    let row = table::row_at(t, i);
+    if is_taken(a, taken, row) {
+        return push_part(t, n, f, i, second);
+    }
+    n
 }
 
 // One arm of `or`, a length test, or a delay: a row for each of the frame's rows that is one of the operand and taken. One look at each of them.
-fn taken_rows(t: &mut [i32], n: usize, f: Frame, a: i32, asked: Option<Lasting>, arm: Arm) -> Option<usize>
+fn taken_rows(t: &mut [i32], n: usize, f: Frame, a: i32, taken: Taken, second: bool) -> usize
     requires { Appendable f n t.old }
-    ensures { Appended f n (taken_rows (arm_of arm) (nat_abs f.entry) f.instant a asked f.first f.end t.old) t.old result t.new }
+    ensures { Appended f n (taken_rows (arm_of second) (nat_abs f.entry) f.instant a taken f.first f.end t.old) t.old result t.new }
 {
-    rows_made(t, n, f, f.first, |row, i| is_taken(a, asked, row).then_some(part_of(f, row, i, arm)))
+    let end = f.end;
+    let room = f.room;
+    let mut count = n;
+    let mut i = f.first;
+    while i < end {
+        count = push_taken(t, count, f, a, taken, second, i);
+        if room < count {
+            return count;
+        }
+        i += 1;
+    }
+    count
 }
 
 // or: the left arm first. Two looks at each new row.
-fn or_rows(t: &mut [i32], n: usize, f: Frame, a: i32, b: i32) -> Option<usize>
+fn or_rows(t: &mut [i32], n: usize, f: Frame, a: i32, b: i32) -> usize
     requires { Appendable f n t.old }
     ensures { Appended f n (or_rows (nat_abs f.entry) f.instant a b f.first f.end t.old) t.old result t.new }
 {
-    let count = taken_rows(t, n, f, a, None, Arm::Left)?;
-    taken_rows(t, count, f, b, None, Arm::Right)
+    let count = taken_rows(t, n, f, a, Taken::All, false);
+    if f.room < count {
+        return count;
+    }
+    taken_rows(t, count, f, b, Taken::All, true)
 }
 
 // after: a row for each row of a that ended d before the instant, also an old one. Two binary searches, and one look at each row that ended then.
-fn delayed_rows(t: &mut [i32], n: usize, f: Frame, a: i32, d: u32) -> Option<usize>
+fn delayed_rows(t: &mut [i32], n: usize, f: Frame, a: i32, d: u32) -> usize
     requires { Appendable f n t.old }
     ensures { Appended f n (delayed_rows (nat_abs f.entry) f.instant a d f.end t.old) t.old result t.new }
 {
@@ -211,9 +259,12 @@ fn delayed_rows(t: &mut [i32], n: usize, f: Frame, a: i32, d: u32) -> Option<usi
     let waited = Frame {
         first: table::ending_before(t, f.end, from),
         end: table::ending_by(t, f.end, from),
-        ..f
+        room: f.room,
+        entry: f.entry,
+        instant: f.instant,
+        since: f.since,
     };
-    taken_rows(t, n, waited, a, None, Arm::Left)
+    taken_rows(t, n, waited, a, Taken::All, false)
 }
 
 // The end of a wait of d that row i began, or the limit where that is no later.
@@ -221,7 +272,8 @@ fn due_of(t: &[i32], i: usize, d: u32, limit: i32) -> i32
     requires { i * 5 + 5 ≤ length t.now }
     ensures { result ≡ least (cell t.now i 4 +ℤ pos d) limit }
 {
-    interval::least_delayed(table::row_at(t, i).end, d, limit)
+    let row = table::row_at(t, i);
+    interval::least_delayed(row.end, d, limit)
 }
 
 // Whether row i is waited for: it is one of the operand and starts no earlier than the entry counts.
@@ -230,7 +282,10 @@ fn is_waited(t: &[i32], i: usize, w: Wait) -> bool
     ensures { result ≡ is_waited w.since w.operand t.now i }
 {
     let row = table::row_at(t, i);
-    row.entry == w.operand && w.since <= row.start
+    if row.entry != w.operand {
+        return false;
+    }
+    w.since <= row.start
 }
 
 // The first such row from row i on to before row e, or e. One look at each row up to it, and another at each one of the operand.
@@ -261,36 +316,42 @@ fn next_end(t: &[i32], n: usize, w: Wait, last: i32, limit: i32) -> i32
         return limit;
     }
     let due = due_of(t, first, d, limit);
-    if due == limit || is_waited(t, first, w) {
+    if is_waited(t, first, w) {
         return due;
+    }
+    if due == limit {
+        return limit;
     }
     let end = table::ending_before(t, n, interval::earlier_by(limit, d));
     let i = next_waited(t, first, end, w);
-    if i < end { due_of(t, i, d, limit) } else { limit }
-}
-
-// Whether a row s is one of entry b and forbids the interval of a row r.
-fn is_forbidding_row(b: i32, edges: Edges, r: Row, s: Row) -> bool
-    ensures { result ≡ is_forbidding_row edges b r.start r.end s }
-{
-    s.entry == b && interval::is_forbidding(edges, r.start, r.end, s.start, s.end)
-}
-
-// Whether one of the first `top` rows forbids the interval of row r. Looks back at those that end at its start or later, up to the first forbidding one.
-fn is_forbidden(t: &[i32], top: usize, b: i32, edges: Edges, r: Row) -> bool
-    requires { top * 5 ≤ length t.now }
-    ensures { result ≡ is_forbidden edges b r.start r.end t.now top }
-{
-    for j in (0..top).rev() {
-        let s = table::row_at(t, j);
-        if s.end < r.start {
-            return false;
-        }
-        if is_forbidding_row(b, edges, r, s) {
-            return true;
-        }
+    if end <= i {
+        return limit;
     }
-    false
+    due_of(t, i, d, limit)
+}
+
+// Whether row j is one of entry b and forbids the interval of row r.
+fn is_forbidding_row(t: &[i32], j: usize, b: i32, edges: Edges, r: Row) -> bool
+    requires { j * 5 + 5 ≤ length t.now }
+    ensures { result ≡ forbids edges b r.start r.end t.now j }
+{
+    let s = table::row_at(t, j);
+    if s.entry != b {
+        return false;
+    }
+    interval::is_forbidding(edges, r.start, r.end, s.start, s.end)
+}
+
+// Whether a row stands before place j that ends at start or later.
+fn is_within(t: &[i32], j: usize, start: i32) -> bool
+    requires { j * 5 ≤ length t.now }
+    ensures { result ≡ is_within start t.now j }
+{
+    if j == 0 {
+        return false;
+    }
+    let row = table::row_at(t, j - 1);
+    start <= row.end
 }
 
 // The place behind the last of the first n rows that is one of b, or 0. One look at each row behind it.
@@ -298,54 +359,84 @@ fn top_of(t: &[i32], n: usize, b: i32) -> usize
     requires { n * 5 ≤ length t.now }
     ensures { result ≡ top_of b n t.now }
 {
-    for j in (0..top_in_fours(t, n, b)).rev() {
-        if is_of(t, j, b) {
-            return j + 1;
+    let mut j = top_in_fours(t, n, b);
+    while 0 < j {
+        if is_of(t, j - 1, b) {
+            return j;
         }
+        j -= 1;
     }
-    0
+    j
 }
 
-// The same search, four rows to a turn, as in `pass_fours`: the place behind the last four of which one is of b, or up to three rows are left.
+// The same search, four rows to a turn, as in `pass_fours`; where none is found, up to three rows are left.
 fn top_in_fours(t: &[i32], n: usize, b: i32) -> usize
     requires { n * 5 ≤ length t.now }
     ensures { SameTop b n t.now result }
 {
-    for k in 0..n / 4 {
-        let j = n - k * 4;
-        if is_any_of(t, j - 4, b) {
+    let mut j = n;
+    while 4 <= j {
+        if is_of(t, j - 1, b) {
             return j;
         }
+        if is_of(t, j - 2, b) {
+            return j - 1;
+        }
+        if is_of(t, j - 3, b) {
+            return j - 2;
+        }
+        if is_of(t, j - 4, b) {
+            return j - 3;
+        }
+        j -= 4;
     }
-    n % 4
+    j
 }
 
 // -[] -][ -[[ -]]: the new rows of a that no row of b forbids. Where there is a new row of a, the rows behind the last one of b are passed once.
 // Each candidate then looks back at the rows that end at its start or later, up to the first forbidding one.
-fn absence_rows(t: &mut [i32], n: usize, f: Frame, edges: Edges, a: i32, b: i32) -> Option<usize>
+fn absence_rows(t: &mut [i32], n: usize, f: Frame, edges: Edges, a: i32, b: i32) -> usize
     requires { Appendable f n t.old }
     ensures { Appended f n (absence_rows edges (nat_abs f.entry) f.instant a b f.first f.end t.old) t.old result t.new }
 {
-    let first = first_of(t, f.first, f.end, a);
-    if f.end <= first {
-        return Some(n);
+    let end = f.end;
+    let room = f.room;
+    let mut i = first_of(t, f.first, end, a);
+    if end <= i {
+        return n;
     }
-    let top = top_of(t, f.end, b);
+    let top = top_of(t, end, b);
     let mut count = n;
-    for r in first..f.end {
-        let row = table::row_at(t, r);
-        if row.entry == a && !is_forbidden(t, top, b, edges, row) {
-            count = push_counted(t, count, f, part_of(f, row, r, Arm::Left))?;
+    'candidates: while i < end {
+        let r = i;
+        i += 1;
+        if is_of(t, r, a) {
+            let row = table::row_at(t, r);
+            let mut j = top;
+            while is_within(t, j, row.start) {
+                j -= 1;
+                if is_forbidding_row(t, j, b, edges, row) {
+                    continue 'candidates;
+                }
+            }
+            count = push_part(t, count, f, r, false);
+            if room < count {
+                return count;
+            }
         }
     }
-    Some(count)
+    count
 }
 
 // Whether a row is what is wanted.
 fn is_wanted(w: Wanted, s: Row) -> bool
     ensures { result ≡ is_wanted w s }
 {
-    s.entry == w.operand && interval::is_related(w.relation, w.start, w.end, s.start, s.end)
+    if s.entry != w.operand {
+        return false;
+    }
+    let c = w.relation;
+    interval::is_related(c, w.start, w.end, s.start, s.end)
 }
 
 // The row of a pair, of which the second row is row i, given as s.
@@ -353,42 +444,67 @@ fn pair_of(f: Frame, w: Wanted, s: Row, i: usize) -> Row
     requires { (w.left < 65535) × (i < 65535) }
     ensures { result ≡ pair_of f w s i }
 {
-    Row {
-        entry: f.entry,
-        left: w.left as i32,
-        right: i as i32,
-        start: w.start.min(s.start),
-        end: w.end.max(s.end),
-    }
+    let mut row = s;
+    row.entry = f.entry;
+    row.left = w.left as i32;
+    row.right = i as i32;
+    row.start = w.start.min(s.start);
+    row.end = w.end.max(s.end);
+    row
 }
 
-// What is wanted with row r, which is given as `left`.
-fn wanted_with(relation: Relation, operand: i32, r: usize, left: Row) -> Wanted
-    ensures { result ≡ wanted_with relation operand r left }
+// The row of a pair, row i being what is wanted.
+fn push_pair(t: &mut [i32], n: usize, f: Frame, w: Wanted, i: usize) -> usize
+    requires { (Appendable f n t.old) × (w.left < n) × (i < n) × (is_wanted w (stored_row t.old i) ≡ true) }
+    ensures { Appended f n (pair_row w.relation (nat_abs f.entry) w.operand w.left w.start w.end t.old i) t.old result t.new }
 {
-    Wanted {
-        relation,
-        operand,
-        left: r,
-        start: left.start,
-        end: left.end,
-    }
+    let s = table::row_at(t, i);
+    let row = pair_of(f, w, s, i);
+    push_counted(t, n, f, row)
 }
 
 // Where the search for s begins, given r: old rows s are looked at only where s may end first and r is new.
 fn right_from(c: Relation, first: usize, r: usize) -> usize
     ensures { result ≡ right_from c first r }
 {
-    if interval::ending_of(c) == Ending::Either && first <= r { 0 } else { first }
+    let ending = interval::ending_of(c);
+    match ending {
+        Ending::Before => first,
+        Ending::Within => first,
+        Ending::Together => first,
+        Ending::Either => if first <= r { 0 } else { first },
+    }
 }
 
 // The pairs of row r. One look at each new row; at all rows where s may be old and r is new.
-fn pairs_with(t: &mut [i32], n: usize, f: Frame, c: Relation, b: i32, r: usize) -> Option<usize>
+fn pairs_with(t: &mut [i32], n: usize, f: Frame, c: Relation, b: i32, r: usize) -> usize
     requires { (Appendable f n t.old) × (r < f.end) }
     ensures { Appended f n (pairs_of c (nat_abs f.entry) b f.first f.end t.old r) t.old result t.new }
 {
-    let w = wanted_with(c, b, r, table::row_at(t, r));
-    rows_made(t, n, f, right_from(c, f.first, r), |s, i| is_wanted(w, s).then_some(pair_of(f, w, s, i)))
+    let left = table::row_at(t, r);
+    let w = Wanted {
+        relation: c,
+        operand: b,
+        left: r,
+        start: left.start,
+        end: left.end,
+    };
+    let end = f.end;
+    let room = f.room;
+    let mut count = n;
+    let mut s = right_from(c, f.first, r);
+    while s < end {
+        let i = s;
+        s += 1;
+        let row = table::row_at(t, i);
+        if is_wanted(w, row) {
+            count = push_pair(t, count, f, w, i);
+            if room < count {
+                return count;
+            }
+        }
+    }
+    count
 }
 
 // The next row of entry a from row i on, or n, where many rows may lie between: at once where i is n, as it mostly is, no partner being new.
@@ -400,7 +516,8 @@ fn next_of(t: &[i32], i: usize, n: usize, a: i32) -> usize
     if n <= i {
         return i;
     }
-    first_of(t, pass_fours(t, i, n, a), n, a)
+    let r = pass_fours(t, i, n, a);
+    first_of(t, r, n, a)
 }
 
 // The same search row by row, which is quicker where few rows are left.
@@ -408,34 +525,38 @@ fn first_of(t: &[i32], i: usize, n: usize, a: i32) -> usize
     requires { (i ≤ n) × (n * 5 ≤ length t.now) }
     ensures { result ≡ next_row a i n t.now }
 {
-    for r in i..n {
+    let mut r = i;
+    while r < n {
         if is_of(t, r, a) {
             return r;
         }
+        r += 1;
     }
-    n
+    r
 }
 
-// The same search, four rows to a turn, which spares the steps of the loop: the first four of which one is of a, or up to three rows are left.
+// The same search, four rows to a turn, which spares the steps of the loop; where none is found, up to three rows are left.
 fn pass_fours(t: &[i32], i: usize, n: usize, a: i32) -> usize
     requires { (i ≤ n) × (n * 5 ≤ length t.now) }
     ensures { Passed a i n t.now result }
 {
-    for k in 0..(n - i) / 4 {
-        let r = i + k * 4;
-        if is_any_of(t, r, a) {
+    let mut r = i;
+    while r + 4 <= n {
+        if is_of(t, r, a) {
             return r;
         }
+        if is_of(t, r + 1, a) {
+            return r + 1;
+        }
+        if is_of(t, r + 2, a) {
+            return r + 2;
+        }
+        if is_of(t, r + 3, a) {
+            return r + 3;
+        }
+        r += 4;
     }
-    n - (n - i) % 4
-}
-
-// Whether one of the four rows from row i on is one of entry a. Joined by `|`: as cheap as the branches that would spare a look.
-fn is_any_of(t: &[i32], i: usize, a: i32) -> bool
-    requires { i * 5 + 20 ≤ length t.now }
-    ensures { result ≡ eq_z (cell t.now i 0) a || (eq_z (cell t.now (i + 1) 0) a || (eq_z (cell t.now (i + 2) 0) a || eq_z (cell t.now (i + 3) 0) a)) }
-{
-    is_of(t, i, a) | (is_of(t, i + 1, a) | (is_of(t, i + 2, a) | is_of(t, i + 3, a)))
+    r
 }
 
 // Whether row i is one of entry a.
@@ -443,7 +564,8 @@ fn is_of(t: &[i32], i: usize, a: i32) -> bool
     requires { i * 5 + 5 ≤ length t.now }
     ensures { result ≡ eq_z (cell t.now i 0) a }
 {
-    t[i * 5] == a
+    let row = table::row_at(t, i);
+    row.entry == a
 }
 
 // The least start of the rows of b from row s, which is one, to before row n. One look at each of these rows.
@@ -451,9 +573,12 @@ fn least_start(t: &[i32], s: usize, n: usize, b: i32) -> i32
     requires { (s < n) × (n * 5 ≤ length t.now) }
     ensures { result ≡ least_start b s n t.now }
 {
-    let mut least = table::row_at(t, s).start;
-    for i in s..n {
+    let first = table::row_at(t, s);
+    let mut least = first.start;
+    let mut i = s;
+    while i < n {
         let row = table::row_at(t, i);
+        i += 1;
         if row.entry == b {
             least = least.min(row.start);
         }
@@ -468,33 +593,51 @@ fn left_from(t: &[i32], f: Frame, c: Relation, b: i32) -> usize
     requires { (f.first ≤ f.end) × (f.end * 5 ≤ length t.now) × Ordered f.first t.now }
     ensures { result ≡ left_from (ending_of c) b f.first f.end t.now }
 {
+    let end = f.end;
     let ending = interval::ending_of(c);
-    let s = next_of(t, f.first, f.end, b);
-    if f.end <= s {
-        return if ending == Ending::Either { f.first } else { f.end };
-    }
+    let s = next_of(t, f.first, end, b);
     match ending {
-        Ending::Before | Ending::Either => 0,
-        Ending::Within => table::ending_before(t, f.first, least_start(t, s, f.end, b)),
-        Ending::Together => f.first,
+        Ending::Before => if s < end { 0 } else { end },
+        Ending::Within => if s < end {
+            reaching_from(t, f, b, s)
+        } else {
+            end
+        },
+        Ending::Together => if s < end { f.first } else { end },
+        Ending::Either => if s < end { 0 } else { f.first },
     }
+}
+
+// The first row that ends at the least start of the new rows of b or later. One look at each new row, and a binary search.
+fn reaching_from(t: &[i32], f: Frame, b: i32, s: usize) -> usize
+    requires { (s < f.end) × (f.first ≤ f.end) × (f.end * 5 ≤ length t.now) × Ordered f.first t.now }
+    ensures { result ≡ ending_before f.first (least_start b s f.end t.now) t.now }
+{
+    let least = least_start(t, s, f.end, b);
+    table::ending_before(t, f.first, least)
 }
 
 // seq, and, meets, overlaps, starts, during, finishes, equals: the pairs of which one row or both are new. One look at each row from where the
 // search for r begins, and for each that is one of a, one at each new row; `and` looks at all rows for each new row of a. For meets, overlaps,
 // starts and during the search begins at the first row that ends at the least start of the new rows of b or later, found by a binary search;
 // for finishes and equals at the new rows. Where no row of b is new, one look at each new row and no more, but for `and`.
-fn pair_rows(t: &mut [i32], n: usize, f: Frame, c: Relation, a: i32, b: i32) -> Option<usize>
+fn pair_rows(t: &mut [i32], n: usize, f: Frame, c: Relation, a: i32, b: i32) -> usize
     requires { Appendable f n t.old }
     ensures { Appended f n (pair_rows c (nat_abs f.entry) a b f.first f.end t.old) t.old result t.new }
 {
+    let end = f.end;
+    let room = f.room;
     let mut count = n;
-    let mut r = next_of(t, left_from(t, f, c, b), f.end, a);
-    while r < f.end {
-        count = pairs_with(t, count, f, c, b, r)?;
-        r = next_of(t, r + 1, f.end, a);
+    let first = left_from(t, f, c, b);
+    let mut r = next_of(t, first, end, a);
+    while r < end {
+        count = pairs_with(t, count, f, c, b, r);
+        if room < count {
+            return count;
+        }
+        r = next_of(t, r + 1, end, a);
     }
-    Some(count)
+    count
 }
 
 // The latest of x and the starts of the rows of b from row i to before row e. One look at each of these rows, the last first, up to one that ends no
@@ -504,7 +647,9 @@ fn latest_start(t: &[i32], i: usize, e: usize, b: i32, x: i32) -> i32
     ensures { result ≡ latest_start b x i e t.now }
 {
     let mut latest = x;
-    for j in (i..e).rev() {
+    let mut j = e;
+    while i < j {
+        j -= 1;
         let row = table::row_at(t, j);
         if row.end <= latest {
             return latest;
@@ -519,21 +664,29 @@ fn latest_start(t: &[i32], i: usize, e: usize, b: i32, x: i32) -> i32
 // Which rows can be r, row s being the first new row of b. An s' that starts after r ends and ends before s does is an old row, so that there is one
 // just where r ends before the latest start of the old rows of b. One look at the rows behind the last old row of b; what `latest_start` looks at, of
 // the old rows and of the new ones; two binary searches.
-fn between(t: &[i32], f: Frame, b: i32, s: usize) -> Range<usize>
+fn between(t: &[i32], f: Frame, b: i32, s: usize) -> Span
     requires { (s ≡ next_row b f.first f.end t.now) × (s < f.end) × (f.first ≤ f.end) × (f.end * 5 ≤ length t.now) × Ordered f.end t.now × Proper f.end t.now }
-    ensures { (result.start ≡ near_from b f.first t.now) × (result.end ≡ near_to b f.first f.end t.now) }
+    ensures { (result.from ≡ near_from b f.first t.now) × (result.to ≡ near_to b f.first f.end t.now) }
 {
     let top = top_of(t, f.first, b);
-    let old = latest_start(t, 0, top, b, table::row_at(t, 0).end);
-    let new = latest_start(t, s, f.end, b, table::row_at(t, s).start);
-    table::ending_before(t, f.first, old)..table::ending_before(t, f.first, new)
+    let earliest = table::row_at(t, 0);
+    let old = latest_start(t, 0, top, b, earliest.end);
+    let first = table::row_at(t, s);
+    let new = latest_start(t, s, f.end, b, first.start);
+    Span {
+        from: table::ending_before(t, f.first, old),
+        to: table::ending_before(t, f.first, new),
+    }
 }
 
 // Whether a row is one of a that starts no earlier than r and ends later.
 fn is_later_row(a: i32, r: Row, row: Row) -> bool
     ensures { result ≡ is_later_row a r row }
 {
-    row.entry == a && (r.start <= row.start && r.end < row.end)
+    if row.entry != a {
+        return false;
+    }
+    r.start <= row.start && r.end < row.end
 }
 
 // The end of the first such row from row i to before row e, or x if there is none. One look at each row up to it.
@@ -541,161 +694,238 @@ fn rival_end(t: &[i32], i: usize, e: usize, a: i32, r: Row, x: i32) -> i32
     requires { e * 5 ≤ length t.now }
     ensures { result ≡ rival_end a r x i e t.now }
 {
-    for j in i..e {
+    let mut j = i;
+    while j < e {
         let row = table::row_at(t, j);
         if is_later_row(a, r, row) {
             return row.end;
         }
+        j += 1;
     }
     x
 }
 
 // The pairs of a row r with the new rows that are what is wanted and start at the limit or before. One look at each new row.
-fn nearest_pairs(t: &mut [i32], n: usize, f: Frame, w: Wanted, limit: i32) -> Option<usize>
+fn nearest_pairs(t: &mut [i32], n: usize, f: Frame, w: Wanted, limit: i32) -> usize
     requires { (Appendable f n t.old) × (w.left < n) }
     ensures { Appended f n (nearest_pairs (nat_abs f.entry) w limit f.first f.end t.old) t.old result t.new }
 {
-    rows_made(t, n, f, f.first, |s, i| (s.start <= limit && is_wanted(w, s)).then_some(pair_of(f, w, s, i)))
+    let end = f.end;
+    let room = f.room;
+    let mut count = n;
+    let mut s = f.first;
+    while s < end {
+        let i = s;
+        s += 1;
+        let row = table::row_at(t, i);
+        if row.start <= limit {
+            if is_wanted(w, row) {
+                count = push_pair(t, count, f, w, i);
+                if room < count {
+                    return count;
+                }
+            }
+        }
+    }
+    count
 }
 
 // The pairs of row r: for change, only with an s that starts no later than the first rival of r ends. What `nearest_pairs` looks at, and for change
 // the rows behind r up to its first rival.
-fn nearest_with(t: &mut [i32], n: usize, f: Frame, k: Sought, r: usize) -> Option<usize>
+fn nearest_with(t: &mut [i32], n: usize, f: Frame, k: Sought, r: usize) -> usize
     requires { (Appendable f n t.old) × (r < f.end) × (k.to ≤ f.end) }
     ensures { Appended f n (nearest_of k (nat_abs f.entry) f.instant f.first f.end t.old r) t.old result t.new }
 {
     let left = table::row_at(t, r);
-    let limit = match k.nearest {
+    let w = Wanted {
+        relation: Relation::Seq,
+        operand: k.b,
+        left: r,
+        start: left.start,
+        end: left.end,
+    };
+    let nearest = k.nearest;
+    let limit = match nearest {
         Nearest::Cut => f.instant,
         Nearest::Change => rival_end(t, r + 1, k.to, k.a, left, f.instant),
     };
-    nearest_pairs(t, n, f, wanted_with(Relation::Seq, k.b, r, left), limit)
+    nearest_pairs(t, n, f, w, limit)
 }
 
 // cut, change: the pairs of an r with a new s of which none has a rival. Where no row of b is new, one look at each new row and no more. Otherwise what
 // `between` looks at; one look at each row r between the two places that it finds, which are mostly few; and for each of them that is one of a, what
 // `nearest_with` looks at.
-fn nearest_rows(t: &mut [i32], n: usize, f: Frame, nearest: Nearest, a: i32, b: i32) -> Option<usize>
+fn nearest_rows(t: &mut [i32], n: usize, f: Frame, c: Nearest, a: i32, b: i32) -> usize
     requires { (Appendable f n t.old) × Proper f.end t.old }
-    ensures { Appended f n (nearest_rows nearest (nat_abs f.entry) f.instant a b f.first f.end t.old) t.old result t.new }
+    ensures { Appended f n (nearest_rows c (nat_abs f.entry) f.instant a b f.first f.end t.old) t.old result t.new }
 {
-    let s = first_of(t, f.first, f.end, b);
-    if f.end <= s {
-        return Some(n);
+    let end = f.end;
+    let s = first_of(t, f.first, end, b);
+    if end <= s {
+        return n;
     }
     let rows = between(t, f, b, s);
-    let to = rows.end;
-    if to <= rows.start {
-        return Some(n);
+    let to = rows.to;
+    if to <= rows.from {
+        return n;
     }
-    let k = Sought { nearest, a, b, to };
+    let k = Sought {
+        nearest: c,
+        a,
+        b,
+        to,
+    };
+    let room = f.room;
     let mut count = n;
-    let mut r = first_of(t, rows.start, to, a);
+    let mut r = first_of(t, rows.from, to, a);
     while r < to {
-        count = nearest_with(t, count, f, k, r)?;
+        count = nearest_with(t, count, f, k, r);
+        if room < count {
+            return count;
+        }
         r = first_of(t, r + 1, to, a);
     }
-    Some(count)
+    count
 }
 
 // The rows of an `after`, and the first end behind the instant that it makes, or `next` if none is before it. Costs what `next_end` and `delayed_rows` cost.
-fn after_rows(t: &mut [i32], f: Frame, a: i32, d: u32, next: i32) -> Option<Made>
+fn after_rows(t: &mut [i32], f: Frame, a: i32, d: u32, next: i32) -> Made
     requires { Appendable f f.end t.old × Settled (f.instant +ℤ pos 1) f.end t.old × (lt_z f.instant next ≡ true) × (le_z (pos 0) a ≡ true) }
-    ensures rows { Appended f f.end (delayed_rows (nat_abs f.entry) f.instant a d f.end t.old) t.old (rows_of result) t.new }
-    ensures next { IfSome result (λ m. NextDue (delayed_ends f.since (rows_in f.end t.old) (after (nat_abs a) d)) (f.instant +ℤ pos 1) next m.next) }
+    ensures { Appended f f.end (delayed_rows (nat_abs f.entry) f.instant a d f.end t.old) t.old result.rows t.new × NextDue (delayed_ends f.since (rows_in f.end t.old) (after (nat_abs a) d)) (f.instant +ℤ pos 1) next result.next }
 {
     let w = Wait {
         operand: a,
         length: d,
         since: f.since,
     };
-    let next = next_end(t, f.end, w, f.instant, next);
-    let rows = delayed_rows(t, f.end, f, a, d)?;
-    Some(Made { rows, next })
+    Made {
+        next: next_end(t, f.end, w, f.instant, next),
+        rows: delayed_rows(t, f.end, f, a, d),
+    }
 }
 
 // The rows of one entry, by its operator; only a delay makes an end behind the instant, and `next` is the first of these so far, or the mark. Costs what
-// that operator's function costs.
-fn entry_rows(t: &mut [i32], f: Frame, e: Entry, p: Pending, codes: &[u8; 64], next: i32) -> Option<Made>
+// that operator's function costs. The structs are written out in the arms: made by a function, they take a mark some instructions more at each entry.
+fn entry_rows(t: &mut [i32], f: Frame, e: Entry, p: Pending, codes: &[u8; 64], next: i32) -> Made
     requires { Appendable f f.end t.old × SerialsFit p × (entry_fits (nat_abs f.entry) e ≡ true) × Settled (f.instant +ℤ pos 1) f.end t.old × (lt_z f.instant next ≡ true) }
-    ensures rows { Appended f f.end (added_rows (entry_operator e) (nat_abs f.entry) f.instant p codes.now f.first f.end t.old) t.old (rows_of result) t.new }
-    ensures next { IfSome result (λ m. NextDue (delayed_ends f.since (rows_in f.end t.old) (entry_operator e)) (f.instant +ℤ pos 1) next m.next) }
+    ensures { Appended f f.end (added_rows (entry_operator e) (nat_abs f.entry) f.instant p codes.now f.first f.end t.old) t.old result.rows t.new × NextDue (delayed_ends f.since (rows_in f.end t.old) (entry_operator e)) (f.instant +ℤ pos 1) next result.next }
 {
-    let (n, a, b) = (f.end, e.a, e.b);
-    let rows = match chart::operator::kind_of(e.op) {
-        Kind::Event => event_rows(t, n, f, a, p, codes)?,
-        Kind::Or => or_rows(t, n, f, a as i32, b as i32)?,
-        Kind::Pair(c) => pair_rows(t, n, f, c, a as i32, b as i32)?,
-        Kind::Absence(edges) => absence_rows(t, n, f, edges, a as i32, b as i32)?,
-        Kind::Length(test) => taken_rows(t, n, f, a as i32, Some(Lasting { test, length: b }), Arm::Left)?,
-        Kind::After => return after_rows(t, f, a as i32, b, next),
-        Kind::Nearest(c) => nearest_rows(t, n, f, c, a as i32, b as i32)?,
-        Kind::Unknown => n,
-    };
-    Some(Made { rows, next })
+    let a = e.a;
+    let b = e.b;
+    let kind = chart::operator::kind_of(e.op);
+    match kind {
+        Kind::Event => Made {
+            rows: event_rows(t, f.end, f, a, p, codes),
+            next,
+        },
+        Kind::Or => Made {
+            rows: or_rows(t, f.end, f, a as i32, b as i32),
+            next,
+        },
+        Kind::Pair(c) => Made {
+            rows: pair_rows(t, f.end, f, c, a as i32, b as i32),
+            next,
+        },
+        Kind::Absence(edges) => Made {
+            rows: absence_rows(t, f.end, f, edges, a as i32, b as i32),
+            next,
+        },
+        Kind::Length(test) => Made {
+            rows: taken_rows(t, f.end, f, a as i32, Taken::Lasting(test, b), false),
+            next,
+        },
+        Kind::After => after_rows(t, f, a as i32, b, next),
+        Kind::Nearest(c) => Made {
+            rows: nearest_rows(t, f.end, f, c, a as i32, b as i32),
+            next,
+        },
+        Kind::Unknown => Made { rows: f.end, next },
+    }
 }
 
 // The rows of all entries that end at the instant, in the entries' order, each entry's put in order before the next one refers to them; and when the next
 // delayed row is due, behind the instant and before the mark. Costs what the entries' functions cost, and what `ordering::later_start_first` costs
 // for each entry's rows; an entry that makes none, as most do at a mark, is passed with one comparison.
 fn all_rows(
-    chart: &Chart,
+    chart: Chart,
     since: &[i32; 32],
     t: &mut [i32],
     rows: usize,
     jump: Jump,
     p: Pending,
     codes: &[u8; 64],
-) -> Option<Made>
-    requires { (is_usable chart.now ≡ true) × Settled jump.instant rows t.old × (rows ≤ jump.room) × (jump.room ≡ capacity (length t.old)) × SerialsFit p × (p.count ≤ length codes.now) × (lt_z jump.instant jump.mark ≡ true) }
-    ensures rows { Tried jump.room rows (drop rows (close_rows jump.instant (events_at jump.instant p codes.now) (operators_of chart.now) since.now (rows_in rows t.old))) t.old (rows_of result) t.new }
-    ensures next { IfSome result (λ m. Settled (jump.instant +ℤ pos 1) m.rows t.new × NextDue (due_ends [] (operators_of chart.now) since.now (rows_in m.rows t.new)) (jump.instant +ℤ pos 1) jump.mark m.next) }
+) -> Made
+    requires { (is_usable chart ≡ true) × Settled jump.instant rows t.old × (rows ≤ jump.room) × (jump.room ≡ capacity (length t.old)) × SerialsFit p × (p.count ≤ length codes.now) × (lt_z jump.instant jump.mark ≡ true) }
+    ensures { Tried jump.room rows (drop rows (close_rows jump.instant (events_at jump.instant p codes.now) (operators_of chart) since.now (rows_in rows t.old))) t.old result.rows t.new × (result.rows ≤ jump.room → Settled (jump.instant +ℤ pos 1) result.rows t.new × NextDue (due_ends [] (operators_of chart) since.now (rows_in result.rows t.new)) (jump.instant +ℤ pos 1) jump.mark result.next) }
 {
-    let mut made = Made {
-        rows,
-        next: jump.mark,
-    };
-    for i in 0..chart.count {
-        let first = made.rows;
+    let count = chart.count;
+    let room = jump.room;
+    let mut n = rows;
+    let mut next = jump.mark;
+    let mut i: usize = 0;
+    while i < count {
+        let e = chart.entries[i];
+        let first = n;
         let f = Frame {
             first: rows,
             end: first,
-            room: jump.room,
+            room,
             entry: i as i32,
             instant: jump.instant,
             since: since[i],
         };
-        made = entry_rows(t, f, chart.entries[i], p, codes, made.next)?;
-        if first < made.rows {
-            ordering::later_start_first(t, first, made.rows);
+        let made = entry_rows(t, f, e, p, codes, next);
+        n = made.rows;
+        next = made.next;
+        i += 1;
+        if first < n {
+            if room < n {
+                return Made { rows: n, next };
+            }
+            ordering::later_start_first(t, first, n);
         }
     }
-    Some(made)
+    Made { rows: n, next }
 }
 
 // The rows that end before the mark: those of the open instant, to which the pending events belong, and then those of each later instant at which
-// one is due. Each costs what `all_rows` costs, and each later one brings a row at least; the instants between cost nothing.
-fn due_rows(chart: &Chart, state: &WatchState, mark: i32, t: &mut [i32], room: usize) -> Option<usize>
-    requires { Closable chart.now state.now mark t.old × (room ≡ capacity (length t.old)) }
-    ensures { Tried room state.now.rows (drop state.now.rows (closed_rows chart.now state.now mark t.old)) t.old result t.new }
+// one is due; `codes` and `since` are the state's, taken out of it to be lent. Each costs what `all_rows` costs, and each later one brings a row at least; the
+// instants between cost nothing.
+fn due_rows(
+    chart: Chart,
+    state: WatchState,
+    codes: [u8; 64],
+    since: [i32; 32],
+    mark: i32,
+    t: &mut [i32],
+    room: usize,
+) -> usize
+    requires { Closable chart state mark t.old × (codes ≡ state.codes) × (since ≡ state.since) × (room ≡ capacity (length t.old)) }
+    ensures { Tried room state.rows (drop state.rows (closed_rows chart state mark t.old)) t.old result t.new }
 {
     let first = state.events - state.pending + 1;
-    let mut count = state.pending;
+    let mut pending = state.pending;
     let mut instant = state.instant;
     let mut n = state.rows;
     while instant < mark {
-        let p = Pending { first, count };
+        let p = Pending {
+            first,
+            count: pending,
+        };
         let jump = Jump {
             instant,
             mark,
             room,
         };
-        let closed = all_rows(chart, &state.since, t, n, jump, p, &state.codes)?;
+        let closed = all_rows(chart, &since, t, n, jump, p, &codes);
         n = closed.rows;
+        if room < n {
+            return n;
+        }
         instant = closed.next;
-        count = 0;
+        pending = 0;
     }
-    Some(n)
+    n
 }
 
 // Closes every instant from the open one to before the mark: appends, end by end and in each entry by entry, the rows that end there; hands back how
@@ -707,9 +937,12 @@ pub fn close(chart: Chart, state: WatchState, mark: i32, table: &mut [i32]) -> O
     ensures { (result ≡ closed_count chart state mark table.old) × (table.new ≡ closed_table chart state mark table.old) }
 {
     let room = table::rows_that_fit(table.len());
-    let rows = due_rows(&chart, &state, mark, table, room);
-    if rows.is_none() {
-        table::zero_part(table, state.rows * 5, room * 5);
+    let codes = state.codes;
+    let since = state.since;
+    let n = due_rows(chart, state, codes, since, mark, table, room);
+    if n <= room {
+        return Some(n);
     }
-    rows
+    table::zero_part(table, state.rows * 5, room * 5);
+    None
 }

@@ -1,6 +1,6 @@
-// Instants and lengths, in tenths of a millisecond, which clock marks and forgets are refused, and the conditions on intervals. The lowest crate:
-// every other crate goes by these contracts and by the laws of `proofs/Laws.antt`, and looks at no inequality itself. Every function takes constant
-// time and accepts every input. Comparisons are joined by `&` and `|`: each is as cheap as the branch that would spare it.
+// Instants and lengths, in tenths of a millisecond, which clock marks and forgets are refused, and the conditions on intervals. Every other crate goes by
+// these contracts and by the laws of `proofs/Laws.antt`. Every function takes constant time and accepts every input. Comparisons are joined by `&` and `|`:
+// each is as cheap as the branch that would spare it.
 #![tactic(auto)]
 
 ghost use Rattle.std.specs.Prelude.{◌≡◌, ℤ, pos, ◌+ℤ◌, ◌-ℤ◌};

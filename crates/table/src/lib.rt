@@ -121,7 +121,7 @@ pub fn ending_by<T: Tenths>(table: &[i32], rows: usize, e: T) -> usize
     stored_rows(table, rows).partition_point(|row| i64::from(row[4]) <= e)
 }
 
-// The first rows, five numbers each.
+// The first rows, five numbers each. One division by 5, which compilers make a multiplication.
 fn stored_rows(table: &[i32], rows: usize) -> &[[i32; 5]]
     requires { rows * 5 ≤ length table.now }
     ensures { result.now ≡ first_chunks 5 rows table.now }

@@ -49,6 +49,7 @@ pub fn write_tree(chart: Chart, table: &[i32], rows: usize, i: usize, out: &mut 
 }
 
 // What is left of a limit behind the bytes of a reference z: one for -1, else the tree of row z.
+#[tactic(auto, using(decimal::proofs::Laws::integer_length_most))]
 fn rest_behind(arities: &[u8; 32], table: &[i32], z: i32, limit: usize) -> Option<usize>
     requires { Followable arities.now table.now z }
     ensures { result ≡ rest_of limit (length (reference_bytes (tree_over arities.now table.now) z)) }
@@ -106,6 +107,7 @@ fn node_at(arities: &[u8; 32], table: &[i32], z: i32) -> Node
     node_by(arities[row.entry as usize], row.left, row.right)
 }
 
+// The same from its numbers.
 fn node_by(arity: u8, left: i32, right: i32) -> Node
     ensures { result ≡ node_by arity left right }
 {

@@ -13,9 +13,6 @@ returns-then-z-lt0 t c =
     let z : to_z w32 (of_z w32 c.args.z) ≡ c.args.z = search rules in
     rw (minus_length c.args.arities.now c.args.table.now c.args.z (rw z at c.if-z-lt0.true)) (rest_is c.args.limit 1 _ c.checked_sub.ensures)
 
-pub overflow_add-integer_length : goal.overflow_add-integer_length
-overflow_add-integer_length t c = let h = integer_length_most (to_z w32 (of_z w32 c.in-Event.serial)) (search rules) in search rules
-
 pub returns-in-Event : goal.returns-in-Event
 returns-in-Event t c =
     let serial : to_z w32 (of_z w32 c.in-Event.serial) ≡ c.in-Event.serial = search rules in

@@ -16,7 +16,7 @@ use Rattle.model.specs.Order.{Row, row}
 use Rattle.model.specs.RowSteps.{row_at, is_late, moved}
 use Rattle.table.specs.Table.{cell, table_row, rows_in, put_row}
 use Rattle.table.proofs.Rows.{rows_none, rows_snoc, length_rows, row_at_lem, length_put, rows_put, drop_put}
-use Rattle.forgetting.specs.Walk.{shift_at, place_at, plain, plain_rows, marked, with_references, moved_row, kept_by, RowsReady, AllLate, Markable, Movable, Sifted}
+use Rattle.forgetting.specs.Walk.{shift_at, place_at, plain, plain_rows, marked, with_references, moved_row, kept_by, RowsReady, AllLate, Movable, Sifted}
 use Rattle.forgetting.proofs.References.{references_same, references_id}
 use Rattle.forgetting.proofs.Places.{keep_pass, keep_fail, placed_pass, placed_fail, placed_le, placed_grows, placed_still}
 use Rattle.forgetting.proofs.Marks.{low_of, plain_low, plain_references, pos_above, set_head, set_own, set_cell, set_rows, Goes, put_marks}
@@ -101,18 +101,10 @@ module _ {event : ℕ → Bool} (f : ℤ) {rows : ℕ} {t₀ : List ℤ} (ok : R
     small : nat_abs (cell t i 0) < 32
     small = rw (cells 0) (ok.each i h).below
 
-    -- the mark is 32 times the rows dropped
+    -- the mark, 32 times the rows dropped, and the table with it
     abbrev m : ℕ
     m = (i - p) * 32
 
-    pub walk_marks : Markable i m t
-    walk_marks = record {
-      entry = record { few = omega (arith, ok.few); fit = omega (arith, ok.fit, w.size); above = rw (cells 0) (ok.each i h).above };
-      most = omega arith;
-      below = small;
-    }
-
-    -- the mark, and the table with it
     abbrev mark : ℤ
     mark = pos (nat_abs (cell t i 0) + m)
 
@@ -131,9 +123,6 @@ module _ {event : ℕ → Bool} (f : ℤ) {rows : ℕ} {t₀ : List ℤ} (ok : R
         go : Dec (j ≡ i) → Goes after j (moved f (rows_in rows t₀) j)
         go (yes q) = rw (q, own_mark) (pos_above (nat_abs (cell t i 0) + m), omega (arith, w.count, w.low, small))
         go (no d) = rw (set_cell t i mark j 0 (omega arith) d) (w.marks j (omega arith))
-
-    pub walk_small : (e : ℕ) → e ≡ nat_abs (cell t i 0) → e < 32
-    walk_small e x = rw x small
 
     pub walk_asks : (e : ℕ) (b : Bool) (u : List ℤ) → e ≡ nat_abs (cell t i 0) → b ≡ event e → u ≡ after → Movable b i p e u
     walk_asks e b u x q y = rw (q, x, y) (record {

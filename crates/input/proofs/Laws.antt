@@ -5,26 +5,29 @@ use mathlib.Core.Path.{◌≡◌, refl, sym, ap, ◌∙◌, subst}
 use mathlib.Core.Bool.{true, false}
 use mathlib.Core.List.{List, [], ◌∷◌, ◌++◌, append_assoc, append-nil}
 use lib.IntN.{ℤ}
-use lib.ListN.{length, take, drop}
-use lib.Seq.{length-take-le, take-add, take-length}
+use lib.ListN.{length, take, drop, length-append}
+use lib.Seq.{length-take-le, take-add, take-length, take-append_seam}
 use Rattle.std.specs.Prelude.{Option, None, Some, Result, Ok, Err, IsErr, IfSome}
 use Rattle.std.specs.declared.io.Error.{Error}
-use Rattle.std.specs.Io.KnownBytes.{Keeps, Appends, Consumes, IsAtEnd}
+use Rattle.std.specs.Io.KnownBytes.{Appends, Consumes, IsAtEnd}
+use Rattle.std.proofs.lemmas.Grind.{common_steps}
 use Rattle.interval.proofs.Signed.{never}
 use Rattle.text.specs.Output.{rest_length, rest_moved}
+use Rattle.text.proofs.Written.{output_room}
 use Rattle.text.proofs.Moved.{rest_front}
+use Rattle.printing.specs.Listing.{written_where}
 use Rattle.model.proofs.Capacity.{capacity_fits, capacity_all}
 use Rattle.table.specs.Table.{room_in}
 use Rattle.program.specs.Outcomes.{printed_for}
 use Rattle.program.specs.Runs.{Progress, start_run, Between, fed, finished, finished_run, printed_length, printed_output, after_bytes, kept_of, is_refused, Printable}
 use Rattle.text.specs.Text.{joined}
-use Rattle.program.specs.Statements.{fed_run, whole_run, bytes_for}
+use Rattle.program.specs.Statements.{fed_run, whole_run, bytes_for, has_room, whole_count, whole_output}
 use Rattle.program.specs.declared.Format.{Format}
 use Rattle.program.specs.declared.Run.{Run}
 use Rattle.program.proofs.Pieces.{Stopped, between, line_stopped, end_stopped, bytes_stopped, fed_nothing, fed_one, fed_more}
 use Rattle.program.proofs.Reading.{finished_run_lem}
 use Rattle.program.proofs.Theorems.{whole_printable}
-use Rattle.program.proofs.Whole.{one_run, has_room_lem, whole_none, whole_all, whole_front}
+use Rattle.program.proofs.Whole.{one_run, has_room_lem, whole_none, whole_all}
 use Rattle.reading.specs.Readings.{Hands}
 use Rattle.input.specs.Inputs.{held, OfReader, OfInput, PrintsInput, Printout}
 
@@ -38,44 +41,10 @@ unfolding joined
 joined_more [] x = append-nil x
 joined_more (p ∷ ps) x = ap (λ s. p ++ s) (joined_more ps x) ∙ sym (append_assoc p (joined ps) x)
 
--- what is known of a reader's bytes, taken in two parts, and all of them
-takes_more : (a b c : Option (List ℕ)) (x y : List ℕ) → Consumes a b x → Consumes b c y → Consumes a c (x ++ y)
-takes_more None b c x y h k = tt
-takes_more (Some p) None c x y h k = absurd h
-takes_more (Some p) (Some q) None x y h k = absurd k
-takes_more (Some p) (Some q) (Some r) x y h k = h ∙ ap (λ s. x ++ s) k ∙ sym (append_assoc x y r)
-
--- known bytes of which none were taken
-takes_none : (a b : Option (List ℕ)) → Keeps a b → Consumes a b []
-takes_none None b h = tt
-takes_none (Some p) None h = absurd h
-takes_none (Some p) (Some q) h = sym h
-
-keeps_same : (a : Option (List ℕ)) → Keeps a a
-keeps_same None = tt
-keeps_same (Some p) = refl
-
-all_taken : (a b : Option (List ℕ)) (x : List ℕ) → Consumes a b x → IsAtEnd b → IfSome a (λ s. s ≡ x)
-all_taken None b x h k = tt
-all_taken (Some p) None x h k = absurd h
-all_taken (Some p) (Some q) x h k = h ∙ ap (λ s. x ++ s) k ∙ append-nil x
-
 -- the bytes that are left, where they are known
 left_of : Option (List ℕ) → List ℕ
 left_of None = []
 left_of (Some q) = q
-
-with_left : (a b : Option (List ℕ)) (x : List ℕ) → Consumes a b x → IfSome a (λ s. s ≡ x ++ left_of b)
-unfolding left_of
-with_left None b x h = tt
-with_left (Some p) None x h = absurd h
-with_left (Some p) (Some q) x h = h
-
-takes_kept : (a b c : Option (List ℕ)) (x : List ℕ) → Consumes a b x → Keeps b c → Consumes a c x
-takes_kept None b c x h k = tt
-takes_kept (Some p) None c x h k = absurd h
-takes_kept (Some p) (Some q) None x h k = absurd k
-takes_kept (Some p) (Some q) (Some r) x h k = h ∙ ap (λ s. x ++ s) (sym k)
 
 -- what the loop has after some pieces
 pub record Fed (before after : Option (List ℕ)) (t : List ℤ) (b : Between) : Type 0 where
@@ -87,7 +56,7 @@ pub fed_none : (before : Option (List ℕ)) (t : List ℤ) (r : Run) (buf : List
 unfolding joined
 fed_none before t r buf e = record {
   pieces = [];
-  taken = takes_none before before (keeps_same before);
+  taken = grind (arith, common_steps);
   same = ap (λ x. held x t 0 buf) e ∙ sym (fed_nothing _);
 }
 
@@ -96,7 +65,7 @@ module _ {before between : Option (List ℕ)} {t : List ℤ} {b : Between} (f : 
   pub fed_piece : (piece : List ℕ) → Consumes between after piece → Fed before after t (fed b piece)
   fed_piece piece h = record {
     pieces = f.pieces ++ (piece ∷ []);
-    taken = subst (λ s. Consumes before after s) (sym (joined_more f.pieces piece)) (takes_more before between after (joined f.pieces) piece f.taken h);
+    taken = let k = f.taken in rw (joined_more f.pieces piece) (grind (arith, common_steps));
     same = ap (λ x. fed x piece) f.same ∙ sym (fed_more _ f.pieces piece);
   }
 
@@ -104,16 +73,8 @@ module _ {before between : Option (List ℕ)} {t : List ℤ} {b : Between} (f : 
   pub fed_end : Consumes between after [] → Fed before after t b
   fed_end h = record {
     pieces = f.pieces;
-    taken = subst (λ s. Consumes before after s) (append-nil (joined f.pieces)) (takes_more before between after (joined f.pieces) [] f.taken h);
+    taken = let k = f.taken in grind (arith, common_steps);
     same = f.same;
-  }
-
-  -- reading failed
-  pub fed_failed : Keeps between after → (e : Error) → OfInput before after t (Err e) b.progress.table
-  fed_failed h e = record {
-    pieces = f.pieces;
-    from = record { whole = λ y. never (sym y); front = λ y. takes_kept before between after (joined f.pieces) f.taken h };
-    same = ap (λ x. x.progress.table) f.same;
   }
 
 -- the same in another buffer that keeps the bytes
@@ -137,7 +98,7 @@ stopped_more t pieces x e =
 pub ended : {before after : Option (List ℕ)} {t u : List ℤ} {r : Run} {kept : ℕ} (buf : List ℕ) → Fed before after t (held r u kept buf) → kept ≤ length buf → IsAtEnd after → OfInput before after t (Ok (finished_run r kept)) u
 ended {before} {after} {t} {u} {r} {kept} buf f h e = record {
   pieces = f.pieces;
-  from = record { whole = λ y. all_taken before after (joined f.pieces) f.taken e; front = λ y. never y };
+  from = record { whole = λ y. let k = f.taken in grind (arith, common_steps); front = λ y. never y };
   same =
     ap (λ n. record { run = finished_run r n; table = u }) (sym (length-take-le kept buf h))
     ∙ sym (finished_run_lem (record { run = r; table = u }) (take kept buf))
@@ -146,12 +107,13 @@ ended {before} {after} {t} {u} {r} {kept} buf f h e = record {
 
 -- the run is refused
 pub refused : {before after : Option (List ℕ)} {t u : List ℤ} {r : Run} {b : Between} → Fed before after t b → record { run = r; table = u } ≡ b.progress → is_refused r.stage ≡ true → OfInput before after t (Ok r) u
+unfolding left_of
 refused {before} {after} {t} {u} {r} f d e =
     let stopped : Stopped (fed_run t f.pieces).progress = ap (λ x. is_refused x.progress.run.stage) (sym f.same) ∙ ap (λ x. is_refused x.run.stage) (sym d) ∙ e in
     record {
       pieces = f.pieces ++ (left_of after ∷ []);
       from = record {
-        whole = λ y. subst (λ x. IfSome before (λ k. k ≡ x)) (sym (joined_more f.pieces (left_of after))) (with_left before after (joined f.pieces) f.taken);
+        whole = λ y. let k = f.taken in rw (joined_more f.pieces (left_of after)) (grind (arith, common_steps));
         front = λ y. never y;
       };
       same =
@@ -183,7 +145,7 @@ played_printable f before after t u r q = subst (λ x. Printable f x.run x.table
 
 -- what is printed for an input
 module _ (f : Format) (before after : Option (List ℕ)) (t : List ℤ) (out : List ℕ) where
-  pub no_room : length out < bytes_for f (room_in t) → PrintsInput f before after t out (Ok 0) t out
+  pub no_room : length out < bytes_for f (room_in t) → PrintsInput f before after t out (Ok None) t out
   unfolding joined
   no_room h = let g = whole_none (joined (known before)) t f out h in record { pieces = known before; from = of_known before; room = λ z. never z; length = g.0; table = g.1; output = g.2 }
     where
@@ -196,37 +158,51 @@ module _ (f : Format) (before after : Option (List ℕ)) (t : List ℤ) (out : L
       of_known (Some s) = record { whole = λ z. sym (joined_one s); front = λ z. never z }
 
   module _ (room : bytes_for f (room_in t) ≤ length out) (u : List ℤ) where
-    pub not_printed : (e : Error) (r : Result ℕ Error) → OfInput before after t (Err e) u → IsErr r → PrintsInput f before after t out r u out
+    pub not_printed : (e : Error) (r : Result (Option ℕ) Error) → OfInput before after t (Err e) u → IsErr r → PrintsInput f before after t out r u out
     not_printed e (Err x) q h = record { pieces = q.pieces; from = q.from; room = λ y. has_room_lem f t out room; length = tt; table = q.same; output = refl }
     not_printed e (Ok n) q h = never h
 
-    pub is_printed : (r : Run) (n : ℕ) (written : List ℕ) → OfInput before after t (Ok r) u → n ≡ printed_length f r u out → written ≡ printed_output f r u out → PrintsInput f before after t out (Ok n) u written
+    pub is_printed : (r : Run) (n : Option ℕ) (written : List ℕ) → OfInput before after t (Ok r) u → n ≡ printed_length f r u out → written ≡ printed_output f r u out → PrintsInput f before after t out (Ok n) u written
     is_printed r n written q e o =
         let g = whole_all (joined q.pieces) t f out room _ (one_run t q.pieces ∙ sym q.same) in
         record { pieces = q.pieces; from = q.from; room = λ y. never y; length = e ∙ g.0; table = g.1; output = o ∙ g.2 }
 
-  -- what stands at the front of the output
-  text_shown : (n : ℕ) (u : List ℤ) (written : List ℕ) → (q : PrintsInput f before after t out (Ok n) u written) → bytes_for f (room_in t) ≤ length out → (n ≤ length written) × (take n written ≡ printed_for f (room_in t) (joined q.pieces))
-  text_shown n u written q h = let front = whole_front (joined q.pieces) t f out h in (rw (q.length, q.output) front.0, rw (q.length, q.output) front.1)
+  -- What stands at the front of the output, with the 3,000 rows that the programs have.
+  module _ (m : Option ℕ) (u : List ℤ) (written : List ℕ) (q : PrintsInput f before after t out (Ok m) u written) (e : length t ≡ 15000) (h : bytes_for f 3000 ≤ length out) where
+    abbrev text : List ℕ
+    text = printed_for f 3000 (joined q.pieces)
 
-  -- the same with the 3,000 rows that the programs have
-  rows_3000 : length t ≡ 15000 → room_in t ≡ 3000
-  rows_3000 e = omega (arith, e, capacity_fits (length t), capacity_all (length t) 3000 (omega (arith, e)) (omega arith))
+    rows_3000 : room_in t ≡ 3000
+    rows_3000 = omega (arith, e, capacity_fits (length t), capacity_all (length t) 3000 (omega (arith, e)) (omega arith))
 
-  module _ (n : ℕ) (u : List ℤ) (written : List ℕ) (q : PrintsInput f before after t out (Ok n) u written) (e : length t ≡ 15000) (h : bytes_for f 3000 ≤ length out) where
-    text_3000 : (n ≤ length written) × (take n written ≡ printed_for f 3000 (joined q.pieces))
-    text_3000 = let rows = rows_3000 e in subst (λ m. (n ≤ length written) × (take n written ≡ printed_for f m (joined q.pieces))) rows (text_shown n u written q (rw rows h))
+    room : has_room f t out ≡ true
+    room = has_room_lem f t out (rw rows_3000 h)
 
-    pub shown_3000 : (n ≤ length written) × Printout f 3000 (take n written)
-    shown_3000 = (text_3000.0, record { pieces = q.pieces; same = text_3000.1 })
+    pub counted_3000 : m ≡ Some (length text)
+    unfolding whole_count written_where
+    counted_3000 = q.length ∙ rw (room, rows_3000)
 
-    -- and where all of it is handed over, that is what is printed for the reader's bytes
-    pub handed_3000 : (a b : Option (List ℕ)) → Hands a b (take n written) true → IfSome before (λ s. Appends a b (printed_for f 3000 s))
-    handed_3000 a b d = go before (q.from.whole refl)
-      where
-        all_handed : Appends a b (take n written)
-        all_handed = subst (λ x. Appends a b x) (ap (λ m. take m (take n written)) (d.all refl) ∙ take-length (take n written)) d.front
+    written_3000 : written ≡ text ++ drop (length text) out
+    unfolding whole_output
+    written_3000 = q.output ∙ output_room (has_room f t out) _ out room ∙ rw rows_3000
 
-        go : (k : Option (List ℕ)) → IfSome k (λ s. s ≡ joined q.pieces) → IfSome k (λ s. Appends a b (printed_for f 3000 s))
-        go None w = tt
-        go (Some s) w = subst (λ x. Appends a b x) (text_3000.1 ∙ ap (λ x. printed_for f 3000 x) (sym w)) all_handed
+    module _ (n : ℕ) (k : m ≡ Some n) where
+      size : n ≡ length text
+      size = let c = counted_3000 in cc
+
+      shown : take n written ≡ text
+      shown = rw (size, written_3000) (take-append_seam text (drop (length text) out))
+
+      pub shown_3000 : (n ≤ length written) × Printout f 3000 (take n written)
+      shown_3000 = (omega (arith, size, ap length written_3000, length-append text (drop (length text) out)), record { pieces = q.pieces; same = shown })
+
+      -- and where all of it is handed over, that is what is printed for the reader's bytes
+      pub handed_3000 : (a b : Option (List ℕ)) → Hands a b (take n written) true → IfSome before (λ s. Appends a b (printed_for f 3000 s))
+      handed_3000 a b d = go before (q.from.whole refl)
+        where
+          all_handed : Appends a b (take n written)
+          all_handed = subst (λ x. Appends a b x) (ap (λ m. take m (take n written)) (d.all refl) ∙ take-length (take n written)) d.front
+
+          go : (k : Option (List ℕ)) → IfSome k (λ s. s ≡ joined q.pieces) → IfSome k (λ s. Appends a b (printed_for f 3000 s))
+          go None w = tt
+          go (Some s) w = subst (λ x. Appends a b x) (shown ∙ ap (λ x. printed_for f 3000 x) (sym w)) all_handed

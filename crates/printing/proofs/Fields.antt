@@ -16,9 +16,11 @@ Told s l n k o = (k ≡ n + length s) × (o ≡ sets l n s)
 pub behind : (s t l : List ℕ) (n : ℕ) {k m : ℕ} {o p : List ℕ} → Told s l n k o → Told t o k m p → Told (s ++ t) l n m p
 behind s t l n f g = (omega (arith, f.0, g.0, length-append s t), rw (g.1, f.1, f.0, sets_append l n s t))
 
+-- the number of a refusal
 pub short_digits_most : (n : ℕ) → n < 2 ^ 32 → length (spelled_number n) ≤ 10
 short_digits_most n h = number_digits_most 9 n (omega arith)
 
+-- for a row, and for the other lines
 pub ruleset few_bytes = (ints, wide_digits_most, integer_length_most, written_instant_few)
 
 pub ruleset fields = (common_steps, sets_append, short_digits_most, wide_digits_most)

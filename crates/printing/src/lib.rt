@@ -29,7 +29,8 @@ pub const REFUSAL_SIZE: usize = 40;
 pub fn write_listing(table: &[i32], rows: usize, out: &mut [u8]) -> Option<usize>
     ensures { (result ≡ listing_length rows table.now out.old) × (out.new ≡ listing_output rows table.now out.old) }
 {
-    if table.len() / 5 < rows || out.len().checked_sub(TITLE_SIZE)? / ROW_SIZE < rows {
+    let room = out.len().checked_sub(TITLE_SIZE)?;
+    if table.len() / 5 < rows || room / ROW_SIZE < rows {
         return None;
     }
     let mut at = text::write_bytes(b"row\tentry\tleft\tright\tstart\tend\n", out, 0);
@@ -58,7 +59,8 @@ pub fn write_refusal(number: u32, line: u64, out: &mut [u8]) -> Option<usize>
 pub fn write_report(tallies: &[usize], total: usize, out: &mut [u8]) -> Option<usize>
     ensures { (result ≡ report_length tallies.now total out.old) × (out.new ≡ report_output tallies.now total out.old) }
 {
-    if out.len().checked_sub(TOTAL_SIZE)? / TALLY_SIZE < tallies.len() {
+    let room = out.len().checked_sub(TOTAL_SIZE)?;
+    if room / TALLY_SIZE < tallies.len() {
         return None;
     }
     let mut at = 0;

@@ -2,7 +2,7 @@
 use Prim.Native.Nat.{ℕ, zero, suc, ◌-◌, ◌≤◌}
 use native.Mathlib.Omega.{arith}
 use mathlib.Core.Path.{◌≡◌, refl, sym, ap, ap₂, ◌∙◌}
-use mathlib.Core.Bool.{true, ◌&&◌, and-true, and_assoc}
+use mathlib.Core.Bool.{true}
 use mathlib.Core.List.{List, [], ◌∷◌, ◌++◌, append_assoc}
 use lib.IntN.{ℤ, pos}
 use lib.ListN.{length, take, drop, replicate, length-append, length-take, length-drop, length-replicate, take-append-drop}
@@ -11,11 +11,6 @@ use Rattle.interval.specs.Instants.{eq_z}
 use Rattle.interval.proofs.Signed.{and_first, and_second, eq_true}
 use Rattle.model.specs.Lists.{every}
 use Rattle.table.specs.Table.{are_zeros, zeroed}
-
--- one number more
-pub zeros_more : (xs : List ℤ) (x : ℤ) → every (λ z. eq_z z (pos 0)) (xs ++ (x ∷ [])) ≡ (every (λ z. eq_z z (pos 0)) xs && eq_z x (pos 0))
-zeros_more [] x = and-true (eq_z x (pos 0))
-zeros_more (y ∷ xs) x = ap (λ b. eq_z y (pos 0) && b) (zeros_more xs x) ∙ sym (and_assoc (eq_z y (pos 0)) _ _)
 
 every_zero : (n : ℕ) → every (λ z. eq_z z (pos 0)) (replicate n (pos 0)) ≡ true
 every_zero zero = refl

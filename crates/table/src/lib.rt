@@ -63,13 +63,17 @@ pub fn row_at(t: &[i32], i: usize) -> Row
     }
 }
 
-// Writes row i.
+// Writes row i. Five stores: where an array of the five is copied, it is made first, which takes half as long again.
 pub fn put_row(t: &mut [i32], i: usize, row: Row)
     requires { (i * 5 + 5 ≤ length t.old) × (le_z (pos 0) row.entry ≡ true) }
     ensures { t.new ≡ put_row i (model_row row) t.old }
 {
     let at = i * 5;
-    t[at..at + 5].copy_from_slice(&[row.entry, row.left, row.right, row.start, row.end]);
+    t[at] = row.entry;
+    t[at + 1] = row.left;
+    t[at + 2] = row.right;
+    t[at + 3] = row.start;
+    t[at + 4] = row.end;
 }
 
 // Appends a row to the n there are, where there is room for it: how many there are then. Without room nothing is written.

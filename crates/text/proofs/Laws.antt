@@ -1,27 +1,21 @@
 -- Laws of lines and fields: the first byte 10 or tab cuts off the first line or field. Upper crates go by these and open no definition.
 use Prim.Native.Nat.{ℕ, zero, suc, ◌+◌, ◌-◌, ◌≤◌, ◌<◌, min}
 use native.Mathlib.Omega.{arith}
-use native.Mathlib.Nat.{le_of_eq}
 use mathlib.Core.Path.{◌≡◌, refl, sym, ap, ap₂, ◌∙◌}
 use mathlib.Core.Bool.{Bool, true, false, cond}
 use mathlib.Core.Logic.{◌⊎◌, inl, inr, ⊎_elim}
 use mathlib.Core.List.{List, [], ◌∷◌, ◌++◌, append-nil, append_assoc}
-use borrow.Author.Tests.{eq-eqb, eqb-true, lt-ltb, le-ltb, ltb-true, ltb-false}
-use lib.Dec.{eqb, ltb}
+use borrow.Author.Tests.{eq-eqb, eqb-true, lt-ltb, le-ltb, ltb-true}
+use lib.Dec.{eqb}
 use lib.ListN.{length, take, drop, length-take, length-drop}
 use lib.Seq.{take_all, length-take-le, drop-drop}
 use Rattle.std.specs.Prelude.{Option, Some, None}
+pub use Rattle.std.proofs.lemmas.Bool.{cases_lt as lt_or_le}
+use Rattle.std.proofs.lemmas.List.{take_rest}
 use Rattle.std.proofs.lemmas.Option.{cond_some, none-some}
 use Rattle.std.specs.List.{position, position_or_len}
 use Rattle.std.proofs.lemmas.List.Recursion.{is_position_or_len}
 use Rattle.text.specs.Text.{index_of, found_at, split, in_front, Line, whole, broken, ended, lines, is_record, line_size}
-
-pub lt_or_le : (a b : ℕ) → (a < b) ⊎ (b ≤ a)
-lt_or_le a b = go (ltb a b) refl
-  where
-    go : (t : Bool) → ltb a b ≡ t → (a < b) ⊎ (b ≤ a)
-    go true e = inl (ltb-true a b e)
-    go false e = inr (ltb-false a b e)
 
 -- a search goes no further than the length, and is the same in a part at the front where it finds something there
 pub index_le : (x : ℕ) (s : List ℕ) → index_of x s ≤ length s
@@ -253,7 +247,7 @@ first_broken (b ∷ s) h e = go (lt_or_le m (suc (length s)))
 
 -- the part of a slice from k on, as code lends it
 pub part_from : (k : ℕ) (s : List ℕ) → take (length s - k) (drop k s) ≡ drop k s
-part_from k s = take_all (length s - k) (drop k s) (le_of_eq (length-drop k s))
+part_from k s = take_rest s k
 
 -- the first x by std's words
 pub index_position : (x : ℕ) (s : List ℕ) → index_of x s ≡ position_or_len (λ b. eqb b x) s
@@ -276,13 +270,6 @@ module _ (x : ℕ) (s : List ℕ) where
 
   pub none_told : found_at x s ≡ None → index_of x s ≡ length s
   none_told e = ⊎_elim (λ h. absurd (none-some _ (sym e ∙ found_some h))) (λ h. omega (arith, h, index_le x s)) (lt_or_le (index_of x s) (length s))
-
-  -- the parts then
-  pub found_split : (i : ℕ) → found_at x s ≡ Some i → split x s ≡ take i s ∷ split x (drop (suc i) s)
-  found_split i e = let t = found_told i e in rw (← t.0) (split_cut x s (omega (arith, t.0, t.1)))
-
-  pub none_split : found_at x s ≡ None → split x s ≡ s ∷ []
-  none_split e = split_none x s (none_told e)
 
 -- a search piece by piece: p, from place `at` on, is looked at by std's `position`
 module _ (x : ℕ) (s : List ℕ) (at n : ℕ) (passed : at + index_of x (drop at s) ≡ index_of x s) (h : at + n ≤ length s) {p : List ℕ} (e : p ≡ take n (drop at s)) {r : Option ℕ} (d : r ≡ position (λ b. eqb b x) p) where

@@ -3,7 +3,7 @@ use Prim.Native.Nat.{ℕ, zero, suc, ◌+◌, ◌-◌, ◌≤◌, ◌<◌}
 use native.Mathlib.Omega.{arith}
 use mathlib.Core.Path.{◌≡◌, refl, sym, ◌∙◌}
 use mathlib.Core.Bool.{Bool, true, false, cond}
-use mathlib.Core.List.{List, [], ◌∷◌, ◌++◌, map}
+use mathlib.Core.List.{List, [], ◌∷◌, ◌++◌}
 use Rattle.std.specs.Prelude.{Option, Some, None}
 use Rattle.std.specs.Option.{SomeIff}
 use lib.Dec.{leb}
@@ -11,12 +11,9 @@ use lib.IntN.{ℤ, pos, negsuc}
 use lib.ListN.{length, length-append}
 use lib.Signed.{lt_z}
 use borrow.Author.Tests.{ltb-true, leb-true, leb-false, le-leb, lt-leb}
-use Rattle.decimal.specs.Spelling.{spelled}
 use Rattle.decimal.proofs.Laws.{spelled_length_least}
-use Rattle.model.specs.Recognitions.{Operator}
 use Rattle.table.specs.Table.{cell}
-use Rattle.table.specs.Operators.{arity_of}
-use Rattle.tree.specs.Tree.{arity_at, row_bytes, reference_bytes, tree_within, tree_over, tree_bytes, length_within}
+use Rattle.tree.specs.Tree.{arity_at, row_bytes, reference_bytes, tree_within, tree_over, length_within}
 use Rattle.tree.specs.Following.{rest_of}
 
 row_some : (a : ℕ) (s : ℤ) (l r : List ℕ) → 2 ≤ length (row_bytes a s l r)
@@ -25,14 +22,10 @@ row_some zero s l r = omega (arith, spelled_length_least s)
 row_some (suc zero) s l r = simp length-append (omega arith)
 row_some (suc (suc a)) s l r = simp length-append (omega arith)
 
--- a tree has at least two bytes, and a reference one
+-- a tree has at least two bytes, and so a reference one
 over_some : (arities : List ℕ) (t : List ℤ) (i : ℕ) → 2 ≤ length (tree_over arities t i)
 unfolding tree_within
 over_some arities t i = row_some (arity_at arities t i) (cell t i 1) _ _
-
-pub tree_some : (ops : List Operator) (t : List ℤ) (i : ℕ) → 2 ≤ length (tree_bytes ops t i)
-unfolding tree_bytes
-tree_some ops t i = over_some (map arity_of ops) t i
 
 pub reference_some : (arities : List ℕ) (t : List ℤ) (z : ℤ) → 1 ≤ length (reference_bytes (tree_over arities t) z)
 unfolding reference_bytes
@@ -51,7 +44,7 @@ one_length l = omega (arith, length-append l (62 ∷ []))
 pub two_length : (l r : List ℕ) → length (60 ∷ l ++ (44 ∷ r ++ 62 ∷ [])) ≡ 3 + length l + length r
 two_length l r = omega (arith, length-append l (44 ∷ r ++ 62 ∷ []), length-append r (62 ∷ []))
 
--- A length within a limit: none says that the bytes are more, and a number how many they are.
+-- A length within a limit.
 module _ (limit : ℕ) (s : List ℕ) where
   pub is_over : limit < length s → length_within limit s ≡ None
   unfolding length_within
@@ -60,22 +53,6 @@ module _ (limit : ℕ) (s : List ℕ) where
   pub is_within_lem : length s ≤ limit → length_within limit s ≡ Some (length s)
   unfolding length_within
   is_within_lem h = rw (le-leb (length s) limit h)
-
-  pub over_told : length_within limit s ≡ None → limit < length s
-  unfolding length_within
-  over_told = go (leb (length s) limit) refl
-    where
-      go : (b : Bool) → leb (length s) limit ≡ b → cond b (Some (length s)) None ≡ None → limit < length s
-      go true e h = cc
-      go false e h = leb-false (length s) limit e
-
-  pub within_told : (n : ℕ) → length_within limit s ≡ Some n → (n ≡ length s) × (length s ≤ limit)
-  unfolding length_within
-  within_told n = go (leb (length s) limit) refl
-    where
-      go : (b : Bool) → leb (length s) limit ≡ b → cond b (Some (length s)) None ≡ Some n → (n ≡ length s) × (length s ≤ limit)
-      go true e h = (cc, leb-true (length s) limit e)
-      go false e h = cc
 
 -- What is left of a limit behind n bytes.
 module _ (limit n : ℕ) where

@@ -1,5 +1,7 @@
 -- `push_counted` meets its contract where the row does not count: nothing is appended.
-use mathlib.Core.Path.{refl}
+use mathlib.Core.Path.{◌≡◌, refl}
+use mathlib.Core.Bool.{false}
+use lib.Signed.{le_z}
 use mir.Syntax.{w32}
 use mir.Val.{SFits}
 use Rattle.std.proofs.Common.{rules}
@@ -11,4 +13,5 @@ pub returns : goal.returns
 returns c =
     let since : SFits w32 c.args.f.since = search rules in
     let start : SFits w32 c.args.row.start = search rules in
-    rw (simp (same32, since, start) at c.if-f-row.false, fill_none) (refl, refl)
+    let late : le_z c.args.f.since c.args.row.start ≡ false = simp (same32, since, start) at c.if-f-row.false in
+    rw (late, fill_none) (refl, refl)

@@ -27,42 +27,43 @@ pub returns-then-n-eq0 : goal.returns-then-n-eq0
 returns-then-n-eq0 g c =
     let v = c.loop.invariant in
     let into = c.read_more.new.buf in
-    let r = c.in_ok-n.ensures in
+    let came = rw c.in_ok-n.was at c.read_more.ensures.bytes in
     let size : length into ≡ 65536 = omega (arith, c.read_more.auto.buf, v.whole) in
-    let end = r.bytes.1 c.if-n-eq0.true (omega (arith, length-drop c.loop.kept into, size, v.few)) in
-    let f = fed_end (fed_same c.loop.kept c.loop.buf into r.same v.fed) _ (rw c.if-n-eq0.true at r.bytes.0) in
+    let end = came.1 c.if-n-eq0.true (omega (arith, length-drop c.loop.kept into, size, v.few)) in
+    let f = fed_end (fed_same c.loop.kept c.loop.buf into c.read_more.ensures.same v.fed) _ (rw c.if-n-eq0.true at came.0) in
     rw c.finish.ensures (ended into f (omega (arith, size, v.few)) end)
 
--- what is fed, and what has come of the reader then
+-- what is fed is no more than the buffer has
 inside : (kept n : ℕ) (into buf : List ℕ) → length into ≡ length buf → length buf ≡ 65536 → kept + n ≤ length buf → length (take (kept + n) into) ≤ 65536
 inside kept n into buf e h k = omega (arith, length-take-le (kept + n) into (omega (arith, e, k)), k, h)
 
 pub feed-fed-requires : goal.feed-fed-requires
 feed-fed-requires g c =
     let v = c.loop.invariant in
-    let few = inside c.loop.kept c.in_ok-n.n c.read_more.new.buf c.loop.buf c.read_more.auto.buf v.whole c.in_ok-n.ensures.inside in
+    let few = inside c.loop.kept c.in_ok-n.n c.read_more.new.buf c.loop.buf c.read_more.auto.buf v.whole (rw c.in_ok-n.was at c.read_more.ensures.inside) in
     (v.reached, lines_of _ _ (λ z. omega (arith, v.lines, c.loop-test.true, few)))
 
 pub returns-then-is_refused : goal.returns-then-is_refused
 returns-then-is_refused g c =
     let v = c.loop.invariant in
     let into = c.read_more.new.buf in
-    let r = c.in_ok-n.ensures in
-    let f = fed_piece (fed_same c.loop.kept c.loop.buf into r.same v.fed) _ _ r.bytes.0 in
+    let came = rw c.in_ok-n.was at c.read_more.ensures.bytes in
+    let f = fed_piece (fed_same c.loop.kept c.loop.buf into c.read_more.ensures.same v.fed) _ _ came.0 in
     refused f (c.feed-fed.ensures.0 ∙ piece_fed _ into c.loop.kept c.in_ok-n.n) (sym c.if-is_refused.ensures)
 
 pub loop-preserved : goal.loop-preserved
 loop-preserved g c =
     let v = c.loop.invariant in
     let into = c.read_more.new.buf in
-    let r = c.in_ok-n.ensures in
+    let came = rw c.in_ok-n.was at c.read_more.ensures.bytes in
+    let within = rw c.in_ok-n.was at c.read_more.ensures.inside in
     let e = c.feed-fed.ensures in
     let k = c.keep_rest-kept.ensures in
     let going : is_refused c.feed-fed.result.run.stage ≡ false = sym c.if-is_refused.ensures in
-    let fits : c.loop.kept + c.in_ok-n.n ≤ length into = omega (arith, r.inside, c.read_more.auto.buf) in
-    let few = inside c.loop.kept c.in_ok-n.n into c.loop.buf c.read_more.auto.buf v.whole r.inside in
+    let fits : c.loop.kept + c.in_ok-n.n ≤ length into = omega (arith, within, c.read_more.auto.buf) in
+    let few = inside c.loop.kept c.in_ok-n.n into c.loop.buf c.read_more.auto.buf v.whole within in
     let counted = bytes_counted _ _ (ap (λ x. is_refused x.run.stage) (sym e.0) ∙ going) in
-    let f = fed_piece (fed_same c.loop.kept c.loop.buf into r.same v.fed) _ _ r.bytes.0 in
+    let f = fed_piece (fed_same c.loop.kept c.loop.buf into c.read_more.ensures.same v.fed) _ _ came.0 in
     record {
       whole = omega (arith, c.keep_rest-kept.auto.buf, c.read_more.auto.buf, v.whole);
       reached = subst Reached (sym e.0) (bytes_on _ _ v.reached);

@@ -6,12 +6,12 @@ pub returns-then-out-bytes_for : goal.returns-then-out-bytes_for
 returns-then-out-bytes_for g c = no_room _ _ _ _ _ (rw (← c.bytes_for.ensures) c.if-out-bytes_for.true)
 
 pub returns-in_err-run : goal.returns-in_err-run
-returns-in_err-run g c = not_printed _ _ _ _ _ (rw (← c.bytes_for.ensures) c.if-out-bytes_for.false) _ _ _ c.in_err-run.ensures c.from_residual.ensures.0
+returns-in_err-run g c = not_printed _ _ _ _ _ (rw (← c.bytes_for.ensures) c.if-out-bytes_for.false) _ _ _ (rw c.in_err-run.was at c.play_input.ensures) c.from_residual.ensures.0
 
 pub print-requires : goal.print-requires
-print-requires g c = played_printable c.args.format _ _ _ _ _ c.in_ok-run.ensures
+print-requires g c = played_printable c.args.format _ _ _ _ _ (rw c.in_ok-run.was at c.play_input.ensures)
 
 pub returns : goal.returns
 returns g c =
     let p = c.print.ensures in
-    is_printed _ _ _ _ _ (rw (← c.bytes_for.ensures) c.if-out-bytes_for.false) _ _ _ _ c.in_ok-run.ensures p.0 p.1
+    is_printed _ _ _ _ _ (rw (← c.bytes_for.ensures) c.if-out-bytes_for.false) _ _ _ _ (rw c.in_ok-run.was at c.play_input.ensures) p.0 p.1

@@ -24,6 +24,16 @@ row_written i r l n a b d e f g =
     (behind (9 ∷ spelled_instant r.start) (9 ∷ spelled_instant r.end) _ _ f g)))))
     (refl, refl)
 
+-- the check finds these three alone, though near its limits
+pub write_field-end-requires : goal.write_field-end-requires
+write_field-end-requires c = grind (arith, few_bytes)
+
+pub bounds-out-end : goal.bounds-out-end
+bounds-out-end c = grind (arith, few_bytes)
+
+pub overflow_add-result : goal.overflow_add-result
+overflow_add-result c = grind (arith, few_bytes)
+
 pub returns : goal.returns
 returns c =
     let r = c.args.row in

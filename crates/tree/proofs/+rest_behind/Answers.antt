@@ -1,7 +1,6 @@
 -- `rest_behind` meets its contract: the references of a row are lower, so that the row's number falls; what is left behind a row is what is left behind its
 -- delimiters and its references.
 use Rattle.std.proofs.Common.{rules, ◌≡◌, ◌∙◌, sym, ap, ℕ, ◌+◌, List, length, ℤ, arith, w32, to_z, of_z}
-use Rattle.decimal.proofs.Laws.{integer_length_most}
 use Rattle.tree.specs.Tree.{reference_bytes, tree_over}
 use Rattle.tree.specs.Following.{rest_of}
 use Rattle.tree.proofs.References.{known}

@@ -34,7 +34,11 @@ pub fn tree_length(
     ensures { result ≡ length_within limit (tree_bytes (operators_of chart) table.now i) }
 {
     let arities = table::arities_of(chart);
-    let rest = rest_behind(&arities, table, i as i32, limit)?;
+    let trees = Trees {
+        arities: &arities,
+        table,
+    };
+    let rest = trees.rest_behind(i as i32, limit)?;
     Some(limit - rest)
 }
 
@@ -45,69 +49,82 @@ pub fn write_tree(chart: Chart, table: &[i32], rows: usize, i: usize, out: &mut 
     ensures { (result ≡ length (tree_bytes (operators_of chart) table.now i)) × (out.new ≡ tree_bytes (operators_of chart) table.now i ++ drop (length (tree_bytes (operators_of chart) table.now i)) out.old) }
 {
     let arities = table::arities_of(chart);
-    write_reference(&arities, table, i as i32, out, 0)
+    let trees = Trees {
+        arities: &arities,
+        table,
+    };
+    trees.write_reference(i as i32, out, 0)
 }
 
-// What is left of a limit behind the bytes of a reference z: one for -1, else the tree of row z.
-#[tactic(auto, using(decimal::proofs::Laws::integer_length_most))]
-fn rest_behind(arities: &[u8; 32], table: &[i32], z: i32, limit: usize) -> Option<usize>
-    requires { Followable arities.now table.now z }
-    ensures { result ≡ rest_of limit (length (reference_bytes (tree_over arities.now table.now) z)) }
-{
-    if z < 0 {
-        return limit.checked_sub(1);
-    }
-    match node_at(arities, table, z) {
-        Node::Event(serial) => limit.checked_sub(1 + decimal::integer_length(serial)),
-        Node::One(part) => rest_behind(arities, table, part, limit.checked_sub(2)?),
-        Node::Two(left, right) => {
-            let rest = rest_behind(arities, table, left, limit.checked_sub(3)?)?;
-            rest_behind(arities, table, right, rest)
+// What trees are read from: how many references the rows of each entry are written with, and the table.
+#[derive(Clone, Copy)]
+struct Trees<'a> {
+    arities: &'a [u8; 32],
+    table: &'a [i32],
+}
+
+impl Trees<'_> {
+    // What is left of a limit behind the bytes of a reference z: one for -1, else the tree of row z.
+    #[tactic(auto, using(decimal::proofs::Laws::integer_length_most))]
+    fn rest_behind(&self, z: i32, limit: usize) -> Option<usize>
+        requires { Followable self.now.arities.now self.now.table.now z }
+        ensures { result ≡ rest_of limit (length (reference_bytes (tree_over self.now.arities.now self.now.table.now) z)) }
+    {
+        if z < 0 {
+            return limit.checked_sub(1);
         }
+        match self.node_at(z) {
+            Node::Event(serial) => limit.checked_sub(1 + decimal::integer_length(serial)),
+            Node::One(part) => self.rest_behind(part, limit.checked_sub(2)?),
+            Node::Two(left, right) => {
+                let rest = self.rest_behind(left, limit.checked_sub(3)?)?;
+                self.rest_behind(right, rest)
+            }
+        }
+    }
+
+    // Writes a reference z at a place of the output and returns the place behind it.
+    fn write_reference(&self, z: i32, out: &mut [u8], at: usize) -> usize
+        requires { Followable self.now.arities.now self.now.table.now z × (at + length (reference_bytes (tree_over self.now.arities.now self.now.table.now) z) ≤ length out.old) }
+        ensures { (result ≡ at + length (reference_bytes (tree_over self.now.arities.now self.now.table.now) z)) × (out.new ≡ sets out.old at (reference_bytes (tree_over self.now.arities.now self.now.table.now) z)) }
+    {
+        if z < 0 {
+            out[at] = b'_';
+            return at + 1;
+        }
+        match self.node_at(z) {
+            Node::Event(serial) => {
+                out[at] = b'e';
+                decimal::write_at(serial, out, at + 1)
+            }
+            Node::One(part) => {
+                out[at] = b'<';
+                let n = self.write_reference(part, out, at + 1);
+                out[n] = b'>';
+                n + 1
+            }
+            Node::Two(left, right) => {
+                out[at] = b'<';
+                let n = self.write_reference(left, out, at + 1);
+                out[n] = b',';
+                let m = self.write_reference(right, out, n + 1);
+                out[m] = b'>';
+                m + 1
+            }
+        }
+    }
+
+    // What row z is made of. Constant time.
+    fn node_at(&self, z: i32) -> Node
+        requires { Followable self.now.arities.now self.now.table.now z × (le_z (pos 0) z ≡ true) }
+        ensures { result ≡ node_at self.now.arities.now self.now.table.now (nat_abs z) }
+    {
+        let row = table::row_at(self.table, z as usize);
+        node_by(self.arities[row.entry as usize], row.left, row.right)
     }
 }
 
-// Writes a reference z at a place of the output and returns the place behind it.
-fn write_reference(arities: &[u8; 32], table: &[i32], z: i32, out: &mut [u8], at: usize) -> usize
-    requires { Followable arities.now table.now z × (at + length (reference_bytes (tree_over arities.now table.now) z) ≤ length out.old) }
-    ensures { (result ≡ at + length (reference_bytes (tree_over arities.now table.now) z)) × (out.new ≡ sets out.old at (reference_bytes (tree_over arities.now table.now) z)) }
-{
-    if z < 0 {
-        out[at] = b'_';
-        return at + 1;
-    }
-    match node_at(arities, table, z) {
-        Node::Event(serial) => {
-            out[at] = b'e';
-            decimal::write_at(serial, out, at + 1)
-        }
-        Node::One(part) => {
-            out[at] = b'<';
-            let n = write_reference(arities, table, part, out, at + 1);
-            out[n] = b'>';
-            n + 1
-        }
-        Node::Two(left, right) => {
-            out[at] = b'<';
-            let n = write_reference(arities, table, left, out, at + 1);
-            out[n] = b',';
-            let m = write_reference(arities, table, right, out, n + 1);
-            out[m] = b'>';
-            m + 1
-        }
-    }
-}
-
-// What row z is made of. Constant time.
-fn node_at(arities: &[u8; 32], table: &[i32], z: i32) -> Node
-    requires { Followable arities.now table.now z × (le_z (pos 0) z ≡ true) }
-    ensures { result ≡ node_at arities.now table.now (nat_abs z) }
-{
-    let row = table::row_at(table, z as usize);
-    node_by(arities[row.entry as usize], row.left, row.right)
-}
-
-// The same from its numbers.
+// What a row is made of, from its numbers.
 fn node_by(arity: u8, left: i32, right: i32) -> Node
     ensures { result ≡ node_by arity left right }
 {

@@ -7,11 +7,11 @@ use Rattle.tree.specs.Tree.{reference_bytes, tree_over}
 use Rattle.tree.proofs.References.{known}
 use Rattle.tree.proofs.Lengths.{reference_some, one_length, two_length}
 use Rattle.tree.proofs.Written.{byte_written, row_opened, row_closed, none_written}
-use Rattle.tree.proofs.+write_reference.Goals.{After-write_reference-n, After-write_reference-n-in-Two, After-write_reference-m}
-use Rattle.tree.proofs.+write_reference.Goals as goal
+use Rattle.tree.proofs.Trees.+write_reference.Goals.{After-write_reference-n, After-write_reference-n-in-Two, After-write_reference-m}
+use Rattle.tree.proofs.Trees.+write_reference.Goals as goal
 
 -- what is left to write behind the reference of a row of one
-one_left : (t : ℕ) (c : After-write_reference-n t) → Remaining c.args.out.now c.args.at (reference_bytes (tree_over c.args.arities.now c.args.table.now) c.args.z) c.write_reference-n.new.out c.write_reference-n.result (62 ∷ [])
+one_left : (t : ℕ) (c : After-write_reference-n t) → Remaining c.args.out.now c.args.at (reference_bytes (tree_over c.args.self.now.arities.now c.args.self.now.table.now) c.args.z) c.write_reference-n.new.out c.write_reference-n.result (62 ∷ [])
 one_left t c =
     let part : to_z w32 (of_z w32 c.in-One.part) ≡ c.in-One.part = search rules in
     let one = known _ _ _ c.requires.0 c.ranges.z c.if-z-lt0.false _ c.in-One.ensures in
@@ -20,7 +20,7 @@ one_left t c =
 
 -- behind the first reference of a row of two, and behind the second
 first_left :
-    (t : ℕ) (c : After-write_reference-n-in-Two t) → let R = reference_bytes (tree_over c.args.arities.now c.args.table.now) in
+    (t : ℕ) (c : After-write_reference-n-in-Two t) → let R = reference_bytes (tree_over c.args.self.now.arities.now c.args.self.now.table.now) in
     Remaining c.args.out.now c.args.at (R c.args.z) c.write_reference-n-in-Two.new.out c.write_reference-n-in-Two.result (44 ∷ R c.in-Two.right ++ 62 ∷ [])
 first_left t c =
     let left : to_z w32 (of_z w32 c.in-Two.left) ≡ c.in-Two.left = search rules in
@@ -29,7 +29,7 @@ first_left t c =
     remaining_less (row_opened c.args.out.now c.args.at _ _ _ two.0) _ _ refl e.0 e.1
 
 second_left :
-    (t : ℕ) (c : After-write_reference-m t) → let R = reference_bytes (tree_over c.args.arities.now c.args.table.now) in
+    (t : ℕ) (c : After-write_reference-m t) → let R = reference_bytes (tree_over c.args.self.now.arities.now c.args.self.now.table.now) in
     Remaining c.args.out.now c.args.at (R c.args.z) c.write_reference-n-in-Two.new.out c.write_reference-n-in-Two.result (44 ∷ R c.in-Two.right ++ 62 ∷ []) →
     Remaining c.args.out.now c.args.at (R c.args.z) c.write_reference-m.new.out c.write_reference-m.result (62 ∷ [])
 second_left t c w =
@@ -39,7 +39,7 @@ second_left t c w =
 
 -- a reference has a byte, and there is room for it
 pub bounds-out-at : goal.bounds-out-at
-bounds-out-at t c = omega (arith, reference_some c.args.arities.now c.args.table.now c.args.z)
+bounds-out-at t c = omega (arith, reference_some c.args.self.now.arities.now c.args.self.now.table.now c.args.z)
 
 pub returns-then-z-lt0 : goal.returns-then-z-lt0
 returns-then-z-lt0 t c =
@@ -47,7 +47,7 @@ returns-then-z-lt0 t c =
     none_written _ _ _ _ c.args.z (rw z at c.if-z-lt0.true)
 
 pub bounds-out-at-in-Event : goal.bounds-out-at-in-Event
-bounds-out-at-in-Event t c = omega (arith, reference_some c.args.arities.now c.args.table.now c.args.z)
+bounds-out-at-in-Event t c = omega (arith, reference_some c.args.self.now.arities.now c.args.self.now.table.now c.args.z)
 
 pub write_at-requires : goal.write_at-requires
 write_at-requires t c =
@@ -63,14 +63,14 @@ returns-in-Event t c =
     remaining_last w e.0 e.1
 
 pub bounds-out-at-in-One : goal.bounds-out-at-in-One
-bounds-out-at-in-One t c = omega (arith, reference_some c.args.arities.now c.args.table.now c.args.z)
+bounds-out-at-in-One t c = omega (arith, reference_some c.args.self.now.arities.now c.args.self.now.table.now c.args.z)
 
 pub write_reference-n-requires : goal.write_reference-n-requires
 write_reference-n-requires t c =
     let part : to_z w32 (of_z w32 c.in-One.part) ≡ c.in-One.part = search rules in
     let one = known _ _ _ c.requires.0 c.ranges.z c.if-z-lt0.false _ c.in-One.ensures in
     let w = row_opened c.args.out.now c.args.at _ _ _ one.0 in
-    let R : ℤ → List ℕ = reference_bytes (tree_over c.args.arities.now c.args.table.now) in
+    let R : ℤ → List ℕ = reference_bytes (tree_over c.args.self.now.arities.now c.args.self.now.table.now) in
     rw part (omega (arith, one.1.0, c.decreases), (one.1.1, omega (arith, w.same, ap length one.0, one_length (R c.in-One.part))))
 
 pub bounds-out-n : goal.bounds-out-n
@@ -83,14 +83,14 @@ pub returns-in-One : goal.returns-in-One
 returns-in-One t c = row_closed (one_left t (goal.at.returns-in-One t c).After-write_reference-n)
 
 pub bounds-out-at-in-Two : goal.bounds-out-at-in-Two
-bounds-out-at-in-Two t c = omega (arith, reference_some c.args.arities.now c.args.table.now c.args.z)
+bounds-out-at-in-Two t c = omega (arith, reference_some c.args.self.now.arities.now c.args.self.now.table.now c.args.z)
 
 pub write_reference-n-requires-in-Two : goal.write_reference-n-requires-in-Two
 write_reference-n-requires-in-Two t c =
     let left : to_z w32 (of_z w32 c.in-Two.left) ≡ c.in-Two.left = search rules in
     let two = known _ _ _ c.requires.0 c.ranges.z c.if-z-lt0.false _ c.in-Two.ensures in
     let w = row_opened c.args.out.now c.args.at _ _ _ two.0 in
-    let R : ℤ → List ℕ = reference_bytes (tree_over c.args.arities.now c.args.table.now) in
+    let R : ℤ → List ℕ = reference_bytes (tree_over c.args.self.now.arities.now c.args.self.now.table.now) in
     rw left (omega (arith, two.1.0, c.decreases), (two.1.1, omega (arith, w.same, ap length two.0, two_length (R c.in-Two.left) (R c.in-Two.right))))
 
 pub bounds-out-n-in-Two : goal.bounds-out-n-in-Two
@@ -104,7 +104,7 @@ write_reference-m-requires t c =
     let right : to_z w32 (of_z w32 c.in-Two.right) ≡ c.in-Two.right = search rules in
     let two = known _ _ _ c.requires.0 c.ranges.z c.if-z-lt0.false _ c.in-Two.ensures in
     let w = byte_written (first_left t (goal.at.write_reference-m-requires t c).After-write_reference-n-in-Two) in
-    let R : ℤ → List ℕ = reference_bytes (tree_over c.args.arities.now c.args.table.now) in
+    let R : ℤ → List ℕ = reference_bytes (tree_over c.args.self.now.arities.now c.args.self.now.table.now) in
     rw right (omega (arith, two.2.0, c.decreases), (two.2.1, omega (arith, w.same, w.ends, length-append (R c.in-Two.right) (62 ∷ []))))
 
 pub bounds-out-m : goal.bounds-out-m

@@ -1,5 +1,5 @@
 use Rattle.tree.specs.Following.{rows_to}
-use Rattle.tree.proofs.+rest_behind.Given as goal
+use Rattle.tree.proofs.Trees.+rest_behind.Given as goal
 
 -- how many rows there are up to the one that is named
 abbrev pub decreases-rest_behind : goal.decreases-rest_behind

@@ -5,12 +5,12 @@ use Rattle.tree.specs.Tree.{reference_bytes, tree_over}
 use Rattle.tree.specs.Following.{rest_of}
 use Rattle.tree.proofs.References.{known}
 use Rattle.tree.proofs.Lengths.{one_length, two_length, none_told, some_told, rest_none, rest_is, rest_more, minus_length}
-use Rattle.tree.proofs.+rest_behind.Goals as goal
+use Rattle.tree.proofs.Trees.+rest_behind.Goals as goal
 
 pub returns-then-z-lt0 : goal.returns-then-z-lt0
 returns-then-z-lt0 t c =
     let z : to_z w32 (of_z w32 c.args.z) ≡ c.args.z = search rules in
-    rw (minus_length c.args.arities.now c.args.table.now c.args.z (rw z at c.if-z-lt0.true)) (rest_is c.args.limit 1 _ c.checked_sub.ensures)
+    rw (minus_length c.args.self.now.arities.now c.args.self.now.table.now c.args.z (rw z at c.if-z-lt0.true)) (rest_is c.args.limit 1 _ c.checked_sub.ensures)
 
 pub returns-in-Event : goal.returns-in-Event
 returns-in-Event t c =
@@ -20,7 +20,7 @@ returns-in-Event t c =
 
 pub returns-in_err-checked_sub-in-One : goal.returns-in_err-checked_sub-in-One
 returns-in_err-checked_sub-in-One t c =
-    let R : ℤ → List ℕ = reference_bytes (tree_over c.args.arities.now c.args.table.now) in
+    let R : ℤ → List ℕ = reference_bytes (tree_over c.args.self.now.arities.now c.args.self.now.table.now) in
     let one = known _ _ _ c.requires c.ranges.z c.if-z-lt0.false _ c.in-One.ensures in
     c.from_residual.ensures ∙ sym (rest_none _ _ (omega (arith, ap length one.0, one_length (R c.in-One.part), c.in_err-checked_sub-in-One.ensures)))
 
@@ -38,7 +38,7 @@ returns-in_ok-checked_sub-in-One t c =
 
 pub returns-in_err-checked_sub-in-Two : goal.returns-in_err-checked_sub-in-Two
 returns-in_err-checked_sub-in-Two t c =
-    let R : ℤ → List ℕ = reference_bytes (tree_over c.args.arities.now c.args.table.now) in
+    let R : ℤ → List ℕ = reference_bytes (tree_over c.args.self.now.arities.now c.args.self.now.table.now) in
     let two = known _ _ _ c.requires c.ranges.z c.if-z-lt0.false _ c.in-Two.ensures in
     c.from_residual-in_err-checked_sub-in-Two.ensures ∙ sym (rest_none _ _ (omega (arith, ap length two.0, two_length (R c.in-Two.left) (R c.in-Two.right), c.in_err-checked_sub-in-Two.ensures)))
 
@@ -50,7 +50,7 @@ rest_behind-requires-in-Two t c =
 
 pub returns-in_err-rest-in-Two : goal.returns-in_err-rest-in-Two
 returns-in_err-rest-in-Two t c =
-    let R : ℤ → List ℕ = reference_bytes (tree_over c.args.arities.now c.args.table.now) in
+    let R : ℤ → List ℕ = reference_bytes (tree_over c.args.self.now.arities.now c.args.self.now.table.now) in
     let left : to_z w32 (of_z w32 c.in-Two.left) ≡ c.in-Two.left = search rules in
     let two = known _ _ _ c.requires c.ranges.z c.if-z-lt0.false _ c.in-Two.ensures in
     let over = none_told _ _ (sym (rw left at c.in_err-rest-in-Two.ensures)) in

@@ -1,5 +1,5 @@
 use Rattle.tree.specs.Following.{rows_to}
-use Rattle.tree.proofs.+write_reference.Given as goal
+use Rattle.tree.proofs.Trees.+write_reference.Given as goal
 
 -- how many rows there are up to the one that is named
 abbrev pub decreases-write_reference : goal.decreases-write_reference

@@ -100,9 +100,9 @@ ended {before} {after} {t} {u} {r} {kept} buf f h e = record {
   pieces = f.pieces;
   from = record { whole = λ y. let k = f.taken in grind (arith, common_steps); front = λ y. never y };
   same =
-    ap (λ n. record { run = finished_run r n; table = u }) (sym (length-take-le kept buf h))
-    ∙ sym (finished_run_lem (record { run = r; table = u }) (take kept buf))
-    ∙ ap (λ b. finished b.progress b.kept) f.same;
+      ap (λ n. record { run = finished_run r n; table = u }) (sym (length-take-le kept buf h))
+      ∙ sym (finished_run_lem (record { run = r; table = u }) (take kept buf))
+      ∙ ap (λ b. finished b.progress b.kept) f.same;
 }
 
 -- the run is refused
@@ -117,9 +117,9 @@ refused {before} {after} {t} {u} {r} f d e =
         front = λ y. never y;
       };
       same =
-        d ∙ ap (λ x. x.progress) f.same
-        ∙ sym (finished_stopped (fed_run t f.pieces).progress (fed_run t f.pieces).kept stopped)
-        ∙ sym (stopped_more t f.pieces (left_of after) stopped);
+          d ∙ ap (λ x. x.progress) f.same
+          ∙ sym (finished_stopped (fed_run t f.pieces).progress (fed_run t f.pieces).kept stopped)
+          ∙ sym (stopped_more t f.pieces (left_of after) stopped);
     }
 
 -- a piece in a buffer, behind the bytes kept: the run over both, and what is moved to the front

@@ -52,7 +52,12 @@ fn write<W: Write, E: Write>(
     ensures silent { result ≡ true → Keeps (E.contents errors.old) (E.contents errors.new) }
 {
     if let Err(e) = reading::write_whole(writer, text) {
-        reading::say(errors, name, b": standard output could not be written", Some(e));
+        reading::say(
+            errors,
+            name,
+            b": standard output could not be written",
+            Some(e),
+        );
         return false;
     }
     true

@@ -1,46 +1,41 @@
 -- Lines added to a chart: what the answer is, that the entries fit and so that a chart which a watch may use stays one, and what is left to answer
 -- behind a line.
-use Prim.Native.Nat.{ℕ, zero, suc, ◌+◌, ◌-◌, ◌≤◌, ◌<◌}
-use native.Mathlib.Omega.{arith}
-use native.Mathlib.Nat.{add-zero}
-use native.Mathlib.Decide.{ℕ_discrete}
-use mathlib.Core.Path.{◌≡◌, refl, sym, ap, ap₂, ◌∙◌}
+use Rattle.std.proofs.Common.{ℕ, zero, suc, ◌+◌, ◌-◌, ◌≤◌, ◌<◌, ◌≡◌, refl, sym, ap, ◌∙◌, true, cond, eqb, List, [], ◌∷◌, length, get_or, drop, arith}
+use mathlib.Core.Path.{ap₂}
 use mathlib.Core.Logic.{⊎_elim}
-use mathlib.Core.Bool.{true, cond}
-use mathlib.Core.List.{List, [], ◌∷◌}
-use borrow.Author.Tests.{eq-eqb, ne_eqb}
-use lib.Dec.{eqb}
-use lib.ListN.{length, get_or, drop}
-use Rattle.text.specs.Text.{Line, lines, line_size}
+use borrow.Author.Tests.{ne_eqb}
+use Rattle.std.specs.Prelude.{Result, Ok, Err}
+use Rattle.refusal.specs.Numbers.{number_of}
+use Rattle.refusal.specs.declared.Refusal.{Refusal}
+use Rattle.text.specs.Text.{Line, lines}
 use Rattle.text.proofs.Laws.{lines_none, lt_or_le}
-use Rattle.chart.specs.Records.{entry, answer_to, line_answer}
+use Rattle.chart.specs.Records.{entry, answer_to, first_answer}
 use Rattle.chart.specs.Charts.{taken_chart, with_entry, verdict, fault_in, entries_of, added_verdict, with_entries, read_added, entry_fits, entry_at, is_usable}
 use Rattle.chart.specs.declared.Entry.{Entry}
 use Rattle.chart.specs.declared.Chart.{Chart}
 use Rattle.chart.specs.declared.ChartAnswer.{ChartAnswer}
 use Rattle.chart.specs.declared.Verdict.{Verdict}
-use Rattle.chart.specs.declared.record.LineAnswer.{LineAnswer}
 use Rattle.chart.proofs.Below.{all_below_lem}
-use Rattle.chart.proofs.Charts.{first_line, usable}
+use Rattle.chart.proofs.Charts.{number_some, first_line, sized_ok, sized_err, usable}
 use Rattle.chart.proofs.Usable.{answer_fits, usable_fits}
 use Rattle.chart.proofs.Entries.{added_count, entry_kept, entry_added, added_none, added_one, added_twice}
 
 -- the verdict of lines by the first of them: where that is taken, and where it is refused
 module _ (n k : ℕ) (l : Line) (ls : List Line) where
-  pub fault_on : (answer_to n l).refusal ≡ 0 → fault_in n k (l ∷ ls) ≡ fault_in (n + 1) (k + 1) ls
+  pub fault_on : (e : Entry) → answer_to n l ≡ Ok e → fault_in n k (l ∷ ls) ≡ fault_in (n + 1) (k + 1) ls
   unfolding fault_in
-  fault_on z = rw (eq-eqb _ _ z)
+  fault_on e z = rw z
 
-  pub fault_here : ((answer_to n l).refusal ≡ 0 → ⊥) → fault_in n k (l ∷ ls) ≡ verdict (answer_to n l).refusal k
+  pub fault_here : (r : Refusal) → answer_to n l ≡ Err r → fault_in n k (l ∷ ls) ≡ verdict (number_of r) k
   unfolding fault_in
-  fault_here d = rw (ne_eqb _ _ d)
+  fault_here r z = rw z
 
-  pub fault_first : (fault_in n k (l ∷ ls)).refusal ≡ 0 → ((answer_to n l).refusal ≡ 0) × ((fault_in (n + 1) (k + 1) ls).refusal ≡ 0)
-  fault_first z = go (ℕ_discrete (answer_to n l).refusal 0)
+  pub fault_first : (fault_in n k (l ∷ ls)).refusal ≡ 0 → (e : Entry) × (answer_to n l ≡ Ok e) × ((fault_in (n + 1) (k + 1) ls).refusal ≡ 0)
+  fault_first z = go (answer_to n l) refl
     where
-      go : Dec ((answer_to n l).refusal ≡ 0) → ((answer_to n l).refusal ≡ 0) × ((fault_in (n + 1) (k + 1) ls).refusal ≡ 0)
-      go (yes e) = (e, ap (λ v. v.refusal) (sym (fault_on e)) ∙ z)
-      go (no d) = absurd (d (ap (λ v. v.refusal) (sym (fault_here d)) ∙ z))
+      go : (r : Result Entry Refusal) → answer_to n l ≡ r → (e : Entry) × (answer_to n l ≡ Ok e) × ((fault_in (n + 1) (k + 1) ls).refusal ≡ 0)
+      go (Ok e) h = (e, h, ap (λ v. v.refusal) (sym (fault_on e h)) ∙ z)
+      go (Err r) h = absurd (number_some r (ap (λ v. v.refusal) (sym (fault_here r h)) ∙ z))
 
 pub fault_end : (n k : ℕ) → fault_in n k [] ≡ verdict 0 0
 unfolding fault_in
@@ -49,20 +44,23 @@ fault_end n k = refl
 -- without a fault: the line is 0, the entries fit, and no 33rd is among them
 fault_none : (n k : ℕ) (ls : List Line) → (fault_in n k ls).refusal ≡ 0 → fault_in n k ls ≡ verdict 0 0
 fault_none n k [] z = fault_end n k
-fault_none n k (l ∷ ls) z = let f = fault_first n k l ls z in fault_on n k l ls f.0 ∙ fault_none (n + 1) (k + 1) ls f.1
+fault_none n k (l ∷ ls) z = let f = fault_first n k l ls z in fault_on n k l ls f.0 f.1 ∙ fault_none (n + 1) (k + 1) ls f.2
 
 fault_fits : (n k : ℕ) (ls : List Line) → (fault_in n k ls).refusal ≡ 0 → (i : ℕ) → i < length (entries_of n ls) → entry_fits (n + i) (get_or (entries_of n ls) i (entry 0 0 0)) ≡ true
 unfolding entries_of
 fault_fits n k [] z i h = absurd (omega arith)
-fault_fits n k (l ∷ ls) z zero h = ap (λ m. entry_fits m (answer_to n l).entry) (add-zero n) ∙ (answer_fits n l (fault_first n k l ls z).0).1
+fault_fits n k (l ∷ ls) z zero h =
+    let f = fault_first n k l ls z in
+    let e : n + 0 ≡ n = omega arith in
+    rw (e, f.1) (answer_fits n l f.0 f.1).1
 fault_fits n k (l ∷ ls) z (suc i) h =
     let e : n + suc i ≡ n + 1 + i = omega arith in
-    ap (λ m. entry_fits m (get_or (entries_of (n + 1) ls) i (entry 0 0 0))) e ∙ fault_fits (n + 1) (k + 1) ls (fault_first n k l ls z).1 i (omega arith)
+    rw e (fault_fits (n + 1) (k + 1) ls (fault_first n k l ls z).2 i (omega arith))
 
 fault_few : (n k : ℕ) (ls : List Line) → 0 < length ls → (fault_in n k ls).refusal ≡ 0 → n + length ls ≤ 32
 fault_few n k [] h z = absurd (omega arith)
-fault_few n k (l ∷ []) h z = let f = answer_fits n l (fault_first n k l [] z).0 in omega (arith, f.0)
-fault_few n k (l ∷ m ∷ ls) h z = omega (arith, fault_few (n + 1) (k + 1) (m ∷ ls) (omega arith) (fault_first n k l (m ∷ ls) z).1)
+fault_few n k (l ∷ []) h z = let f = fault_first n k l [] z in omega (arith, (answer_fits n l f.0 f.1).0)
+fault_few n k (l ∷ m ∷ ls) h z = omega (arith, fault_few (n + 1) (k + 1) (m ∷ ls) (omega arith) (fault_first n k l (m ∷ ls) z).2)
 
 pub entries_length : (n : ℕ) (ls : List Line) → length (entries_of n ls) ≡ length ls
 unfolding entries_of
@@ -101,15 +99,6 @@ module _ (c : Chart) (s : List ℕ) where
   pub added_number : (read_added c s).refusal ≡ (added_verdict c.count (lines s)).refusal
   unfolding read_added
   added_number = refl
-
-  pub added_line : (read_added c s).line ≡ (added_verdict c.count (lines s)).line
-  unfolding read_added
-  added_line = refl
-
-  -- refused: "the old chart" stays
-  pub added_refused : ((read_added c s).refusal ≡ 0 → ⊥) → (read_added c s).chart ≡ c
-  unfolding read_added
-  added_refused d = rw (ne_eqb _ _ d)
 
   pub added_taken : (read_added c s).refusal ≡ 0 → read_added c s ≡ taken_chart (with_entries c (entries_of c.count (lines s)))
   unfolding read_added
@@ -161,30 +150,38 @@ module _ (c d : Chart) (k : ℕ) where
   on_none h = rw (fault_end d.count k, added_none d h)
 
   module _ (l : Line) (ls : List Line) where
-    pub on_taken : (answer_to d.count l).refusal ≡ 0 → d.count < length d.entries → goes_on c d k (l ∷ ls) ≡ goes_on c (with_entry d (answer_to d.count l).entry) (k + 1) ls
+    pub on_taken : (e : Entry) → answer_to d.count l ≡ Ok e → d.count < length d.entries → goes_on c d k (l ∷ ls) ≡ goes_on c (with_entry d e) (k + 1) ls
     unfolding entries_of with_entry
-    on_taken z h =
-        let e = (answer_to d.count l).entry in
+    on_taken e z h =
         let es = entries_of (d.count + 1) ls in
-        ap₂ (λ v x. answer_by v x c) (fault_on d.count k l ls z) (sym (added_twice d (e ∷ []) es) ∙ ap (λ x. with_entries x es) (added_one d e h))
+        rw z (ap₂ (λ v x. answer_by v x c) (fault_on d.count k l ls e z) (sym (added_twice d (e ∷ []) es) ∙ ap (λ x. with_entries x es) (added_one d e h)))
 
-    pub on_refused : ((answer_to d.count l).refusal ≡ 0 → ⊥) → goes_on c d k (l ∷ ls) ≡ record { refusal = (answer_to d.count l).refusal; line = k; chart = c }
-    on_refused z = rw (fault_here d.count k l ls z, ne_eqb _ _ z)
+    pub on_refused : (r : Refusal) → answer_to d.count l ≡ Err r → goes_on c d k (l ∷ ls) ≡ record { refusal = number_of r; line = k; chart = c }
+    on_refused r z = rw (fault_here d.count k l ls r z, ne_eqb _ _ (number_some r))
 
 -- the same of a text, by its first line as the code finds it
-module _ (c d : Chart) (k : ℕ) (s : List ℕ) (g : 0 < length s) where
-  abbrev first : LineAnswer
-  first = line_answer d.count (line_size s) s
+module _ (c d : Chart) (k : ℕ) (s : List ℕ) where
+  pub record Step (e : Entry) (j : ℕ) : Type 0 where
+    pub room : d.count < 32
+    pub some : 0 < j
+    pub inside : j ≤ length s
+    pub goes : d.count < length d.entries → goes_on c d k (lines s) ≡ goes_on c (with_entry d e) (k + 1) (lines (drop j s))
 
-  pub step_taken : first.refusal ≡ 0 → d.count < length d.entries → goes_on c d k (lines s) ≡ goes_on c (with_entry d first.entry) (k + 1) (lines (drop (line_size s) s))
-  step_taken z h =
+  pub step_taken : 0 < length s → (e : Entry) (j : ℕ) → first_answer d.count s ≡ Ok (e, j) → Step e j
+  step_taken g e j z =
       let f = first_line d.count s g in
-      ap (goes_on c d k) f.cut ∙ on_taken c d k f.line f.rest (ap (λ a. a.refusal) f.answer ∙ z) h ∙ ap₂ (λ a ls. goes_on c (with_entry d a.entry) (k + 1) ls) f.answer (f.next z)
+      let a = sized_ok f.size (answer_to d.count f.line) e j (sym f.answer ∙ z) in
+      record {
+        room = (answer_fits d.count f.line e a.0).0;
+        some = omega (arith, f.some e a.0, a.1);
+        inside = omega (arith, f.inside e a.0, a.1);
+        goes = λ h. ap (goes_on c d k) f.cut ∙ on_taken c d k f.line f.rest e a.0 h ∙ ap (goes_on c (with_entry d e) (k + 1)) (f.next e a.0 ∙ ap (λ i. lines (drop i s)) a.1);
+      }
 
-  pub step_refused : (first.refusal ≡ 0 → ⊥) → goes_on c d k (lines s) ≡ record { refusal = first.refusal; line = k; chart = c }
-  step_refused z =
+  pub step_refused : 0 < length s → (r : Refusal) → first_answer d.count s ≡ Err r → goes_on c d k (lines s) ≡ record { refusal = number_of r; line = k; chart = c }
+  step_refused g r z =
       let f = first_line d.count s g in
-      ap (goes_on c d k) f.cut ∙ on_refused c d k f.line f.rest (λ e. z (ap (λ a. a.refusal) (sym f.answer) ∙ e)) ∙ ap (λ a. record { refusal = a.refusal; line = k; chart = c }) f.answer
+      ap (goes_on c d k) f.cut ∙ on_refused c d k f.line f.rest r (sized_err f.size (answer_to d.count f.line) r (sym f.answer ∙ z))
 
 lines_some : (s : List ℕ) → 0 < length s → 0 < length (lines s)
 lines_some s h = let f = first_line 0 s h in omega (arith, ap length f.cut)

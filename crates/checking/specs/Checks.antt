@@ -1,82 +1,100 @@
 -- Checking a log that comes in pieces, as the code does it: line by line, with what is left of the bytes kept for the next piece.
-use Rattle.std.specs.Prelude.{ℕ, zero, suc, ◌+◌, ◌-◌, Bool, true, false, cond, List, [], ◌∷◌, ◌++◌, eqb, leb, ℤ, pos, length, take, drop}
+use Rattle.std.specs.Prelude.{ℕ, zero, suc, ◌+◌, ◌-◌, cond, List, [], ◌∷◌, ◌++◌, eqb, leb, ℤ, length, take, drop, Option, Some, None, Result, Ok, Err}
+use Rattle.std.specs.Option.{option_map_or}
 use Rattle.interval.specs.Instants.{is_instant, is_mark_refused}
+use Rattle.refusal.specs.Numbers.{number_of}
+use Rattle.refusal.specs.declared.Refusal as why
+use Rattle.refusal.specs.declared.Refusal.TheVariants.{MalformedCall, InstantRefused, ForgetMerged}
 use Rattle.text.specs.Text.{line_size}
 use Rattle.log_line.specs.Log.{call_of}
 use Rattle.log_line.specs.declared.Call.{Call}
 use Rattle.log_line.specs.declared.Call.TheVariants as log
 use Rattle.logs.specs.Logs.{Refusal, refusal}
+use Rattle.checking.specs.declared.Instants.{Instants}
 use Rattle.checking.specs.declared.Check.{Check}
 use Rattle.checking.specs.declared.Fed.{Fed}
 
-abbrev pub check_of : ℕ → ℕ → Bool → ℤ → ℤ → Check
-check_of n line b o t = record { refusal = n; line = line; begun = b; opened = o; instant = t }
+-- a log's instants, none before its first line, or why it was refused
+abbrev pub State : Type 0
+State = Result (Option Instants) why.Refusal
+
+abbrev pub check_of : ℕ → State → Check
+check_of line state = record { line = line; state = state }
 
 -- before the first line
-unfoldable pub start_check : Check
-start_check = check_of 0 0 false (pos 0) (pos 0)
-
--- refused at the next line
-unfoldable pub refused_check : Check → ℕ → Check
-refused_check c n = check_of n (c.line + 1) c.begun c.opened c.instant
-
--- one line more, at instant t then
-unfoldable pub next_check : Check → ℤ → Check
-next_check c t = check_of 0 (c.line + 1) true c.opened t
+abbrev pub start_check : Check
+start_check = check_of 0 (Ok None)
 
 -- the first line
-unfoldable pub opened_check : Check → ℤ → Check
-opened_check c o = cond (is_instant o) (check_of 0 (c.line + 1) true o o) (refused_check c 8)
+abbrev pub opened_check : ℤ → Result Instants why.Refusal
+opened_check o = cond (is_instant o) (Ok (record { opened = o; reached = o })) (Err InstantRefused)
 
-unfoldable pub first_check : Check → Call → Check
-first_check c (log.Open o) = opened_check c o
-first_check c log.Malformed = refused_check c 7
-first_check c (log.Event k) = refused_check c 7
-first_check c (log.Clock t) = refused_check c 7
-first_check c (log.Forget f) = refused_check c 7
+abbrev pub first_check : Option Call → Result Instants why.Refusal
+first_check (Some (log.Open o)) = opened_check o
+first_check None = Err MalformedCall
+first_check (Some (log.Event k)) = Err MalformedCall
+first_check (Some (log.Clock t)) = Err MalformedCall
+first_check (Some (log.Forget f)) = Err MalformedCall
 
 -- every other line
-unfoldable pub mark_check : Check → ℤ → Check
-mark_check c t = cond (is_mark_refused c.instant t) (refused_check c 8) (next_check c t)
+abbrev pub mark_check : Instants → ℤ → Result Instants why.Refusal
+mark_check i t = cond (is_mark_refused i.reached t) (Err InstantRefused) (Ok (record { opened = i.opened; reached = t }))
 
-unfoldable pub later_check : Check → Call → Check
-later_check c (log.Open o) = refused_check c 7
-later_check c log.Malformed = refused_check c 7
-later_check c (log.Event k) = next_check c c.instant
-later_check c (log.Clock t) = mark_check c t
-later_check c (log.Forget f) = refused_check c 17
+abbrev pub later_check : Instants → Option Call → Result Instants why.Refusal
+later_check i (Some (log.Open o)) = Err MalformedCall
+later_check i None = Err MalformedCall
+later_check i (Some (log.Event k)) = Ok i
+later_check i (Some (log.Clock t)) = mark_check i t
+later_check i (Some (log.Forget f)) = Err ForgetMerged
 
 -- a line; a log that was refused stays so
-unfoldable pub check_call : Check → Call → Check
-check_call c d = cond (eqb c.refusal 0) (cond c.begun (later_check c d) (first_check c d)) c
+abbrev pub state_after : Option Instants → Option Call → Result Instants why.Refusal
+state_after None d = first_check d
+state_after (Some i) d = later_check i d
 
-unfoldable pub check_calls : Check → List Call → Check
+abbrev pub begun : Result Instants why.Refusal → State
+begun (Ok i) = Ok (Some i)
+begun (Err r) = Err r
+
+abbrev pub call_checked : ℕ → State → Option Call → Check
+call_checked line (Ok i) d = check_of (line + 1) (begun (state_after i d))
+call_checked line (Err r) d = check_of line (Err r)
+
+abbrev pub check_call : Check → Option Call → Check
+check_call c d = call_checked c.line c.state d
+
+unfoldable pub check_calls : Check → List (Option Call) → Check
 check_calls c [] = c
 check_calls c (d ∷ ds) = check_calls (check_call c d) ds
 
 -- no line comes any more
-unfoldable pub end_check : Check → Check
-end_check c = cond (eqb c.refusal 0) (cond c.begun c (refused_check c 7)) c
+abbrev pub ended_at : ℕ → State → Check
+ended_at line (Ok None) = check_of (line + 1) (Err MalformedCall)
+ended_at line (Ok (Some i)) = check_of line (Ok (Some i))
+ended_at line (Err r) = check_of line (Err r)
+
+abbrev pub end_check : Check → Check
+end_check c = ended_at c.line c.state
 
 -- Bytes as they come: each whole line; what is left when none is, kept, or refused where it has 64 bytes. The first number bounds the lines.
 abbrev pub fed_to : Check → ℕ → Fed
 fed_to c used = record { check = c; used = used }
 
 unfoldable pub fed_rest : Check → ℕ → List ℕ → Fed
-fed_rest c used s = cond (leb 64 (length s)) (fed_to (check_call c log.Malformed) (used + length s)) (fed_to c used)
+fed_rest c used s = cond (leb 64 (length s)) (fed_to (check_call c None) (used + length s)) (fed_to c used)
 
 unfoldable pub fed_from : ℕ → Check → ℕ → List ℕ → Fed
 fed_from zero c used s = fed_to c used
 fed_from (suc m) c used s =
-    cond (eqb (line_size s) 0) (fed_rest c used s)
-    (fed_from m (check_call c (call_of (take (line_size s - 1) s))) (used + line_size s) (drop (line_size s) s))
+    option_map_or (λ n. fed_from m (check_call c (call_of (take (n - 1) s))) (used + n) (drop n s)) (line_size s)
+    (fed_rest c used s)
 
 unfoldable pub fed_check : Check → List ℕ → Fed
 fed_check c s = fed_from (suc (length s)) c 0 s
 
 -- the end of the log with so many bytes kept: they are a line that lacks its byte 10
-unfoldable pub finished_check : Check → ℕ → Check
-finished_check c kept = cond (eqb kept 0) (end_check c) (check_call c log.Malformed)
+abbrev pub finished_check : Check → ℕ → Check
+finished_check c kept = cond (eqb kept 0) (end_check c) (check_call c None)
 
 -- A log that comes in pieces: what is kept between them, and the end.
 unfoldable pub fed_all : Check → List ℕ → List (List ℕ) → Check
@@ -86,5 +104,15 @@ fed_all c kept (piece ∷ pieces) =
     fed_all f.check (drop f.used (kept ++ piece)) pieces
 
 -- what a log that has ended was turned away for
-unfoldable pub verdict_of : Check → Refusal
-verdict_of c = cond (eqb c.refusal 0) (refusal 0 0) (refusal c.refusal c.line)
+abbrev pub turned_away : ℕ → State → Refusal
+turned_away line (Ok i) = refusal 0 0
+turned_away line (Err r) = refusal (number_of r) line
+
+abbrev pub verdict_of : Check → Refusal
+verdict_of c = turned_away c.line c.state
+
+-- the opening instant of a log that is open
+abbrev pub opened_of : State → Option ℤ
+opened_of (Ok None) = None
+opened_of (Ok (Some i)) = Some i.opened
+opened_of (Err r) = None

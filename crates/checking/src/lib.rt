@@ -4,196 +4,124 @@
 
 ghost use Rattle.std.specs.Prelude.{◌≡◌, ◌+◌, ◌<◌, ◌^◌, length};
 ghost use Rattle.log_line.specs.Log.{call_of};
-ghost use Rattle.checking.specs.Checks.{start_check, refused_check, next_check, opened_check, first_check, mark_check, later_check, check_call, end_check, fed_check, finished_check};
+ghost use Rattle.checking.specs.Checks.{start_check, first_check, later_check, check_call, end_check, fed_check, finished_check};
 
 use log_line::Call;
+use refusal::Refusal;
 
-// A log so far: the number of its refusal, 0 for none; how many lines it has, or the line refused; whether it was opened, and at which instant; the
-// instant reached.
-#[derive(Clone, Copy)]
-pub struct Check {
-    pub refusal: u32,
-    pub line: u64,
-    pub begun: bool,
+// The instants of a log that is open: that of its opening, and the one reached.
+#[derive(Clone, Copy, PartialEq, Eq)]
+pub struct Instants {
     pub opened: i64,
-    pub instant: i64,
+    pub reached: i64,
+}
+
+// A log so far: how many lines it has, or the line refused; and its instants, none before its first line, or why it was refused.
+#[derive(Clone, Copy, PartialEq, Eq)]
+pub struct Check {
+    pub line: u64,
+    pub state: Result<Option<Instants>, Refusal>,
 }
 
 // A log after some bytes, and how many of them it needs no more.
-#[derive(Clone, Copy)]
+#[derive(Clone, Copy, PartialEq, Eq)]
 pub struct Fed {
     pub check: Check,
     pub used: usize,
 }
 
-// The log before its first byte.
-pub fn start() -> Check
-    ensures { result ≡ start_check }
-{
-    Check {
-        refusal: 0,
-        line: 0,
-        begun: false,
-        opened: 0,
-        instant: 0,
+impl Check {
+    // The log before its first byte.
+    pub fn start() -> Check
+        ensures { result ≡ start_check }
+    {
+        Check {
+            line: 0,
+            state: Ok(None),
+        }
     }
-}
 
-// Takes further bytes: those kept and what came behind them. Each whole line is checked; what follows the last byte 10 is left, or refused when it
-// has 64 bytes. Each byte is looked at twice at most.
-pub fn feed(check: Check, s: &[u8]) -> Fed
-    requires { check.line + length s.now + 1 < 2 ^ 64 }
-    ensures { result ≡ fed_check check s.now }
-{
-    let n = s.len();
-    let mut next = check;
-    let mut at: usize = 0;
-    let mut size = text::line_size(s);
-    while size != 0 {
-        let end = at + size - 1;
-        next = check_line(next, &s[at..end]);
-        at += size;
-        size = text::line_size(&s[at..]);
+    // Takes further bytes: those kept and what came behind them. Each whole line is checked; what follows the last byte 10 is left, or refused when it
+    // has 64 bytes. Each byte is looked at twice at most.
+    pub fn feed(self, s: &[u8]) -> Fed
+        requires { self.line + length s.now + 1 < 2 ^ 64 }
+        ensures { result ≡ fed_check self s.now }
+    {
+        let mut check = self;
+        let mut rest = s;
+        while let Some(size) = text::line_size(rest) {
+            check = check.after(log_line::read_call(&rest[..size - 1]));
+            rest = &rest[size..];
+        }
+        if 64 <= rest.len() {
+            return Fed {
+                check: check.after(None),
+                used: s.len(),
+            };
+        }
+        Fed {
+            check,
+            used: s.len() - rest.len(),
+        }
     }
-    if 64 <= n - at {
-        let refused = check_call(next, Call::Malformed);
-        return Fed {
-            check: refused,
-            used: n,
+
+    // The end of the log, with so many bytes kept: no line comes any more, or one that lacks its byte 10. Constant time.
+    pub fn finish(self, kept: usize) -> Check
+        requires { self.line + 1 < 2 ^ 64 }
+        ensures { result ≡ finished_check self kept }
+    {
+        if kept == 0 && self.state != Ok(None) {
+            return self;
+        }
+        self.after(None)
+    }
+
+    // The log after one line more, by the call that it reads as, None where it is not of the form. Constant time, as in all below.
+    fn after(self, call: Option<Call>) -> Check
+        requires { self.line + 1 < 2 ^ 64 }
+        ensures { result ≡ check_call self call }
+    {
+        let Ok(instants) = self.state else {
+            return self;
         };
-    }
-    Fed {
-        check: next,
-        used: at,
+        let next = match instants {
+            None => opened_by(call),
+            Some(instants) => instants.after(call),
+        };
+        Check {
+            line: self.line + 1,
+            state: next.map(Some),
+        }
     }
 }
 
-// The end of the log, with so many bytes kept. Constant time.
-pub fn finish(check: Check, kept: usize) -> Check
-    requires { check.line + 1 < 2 ^ 64 }
-    ensures { result ≡ finished_check check kept }
-{
-    if kept != 0 {
-        return check_call(check, Call::Malformed);
-    }
-    end_check(check)
-}
-
-// No line comes any more: an opening is missing, or all is well.
-fn end_check(check: Check) -> Check
-    requires { check.line + 1 < 2 ^ 64 }
-    ensures { result ≡ end_check check }
-{
-    if check.refusal != 0 {
-        return check;
-    }
-    if check.begun {
-        return check;
-    }
-    refused_check(check, 7)
-}
-
-// A line without its byte 10. Each byte is looked at twice at most.
-fn check_line(check: Check, s: &[u8]) -> Check
-    requires { check.line + 1 < 2 ^ 64 }
-    ensures { result ≡ check_call check (call_of s.now) }
-{
-    let call = log_line::read_call(s);
-    check_call(check, call)
-}
-
-// A line as the call that it reads as. Constant time, as in all below.
-fn check_call(check: Check, call: Call) -> Check
-    requires { check.line + 1 < 2 ^ 64 }
-    ensures { result ≡ check_call check call }
-{
-    if check.refusal != 0 {
-        return check;
-    }
-    if check.begun {
-        return later_call(check, call);
-    }
-    first_call(check, call)
-}
-
-// The first line.
-fn first_call(check: Check, call: Call) -> Check
-    requires { check.line + 1 < 2 ^ 64 }
-    ensures { result ≡ first_check check call }
+// The instants after the first line.
+fn opened_by(call: Option<Call>) -> Result<Instants, Refusal>
+    ensures { result ≡ first_check call }
 {
     match call {
-        Call::Open(o) => opened_check(check, o),
-        Call::Malformed => refused_check(check, 7),
-        Call::Event(_) => refused_check(check, 7),
-        Call::Clock(_) => refused_check(check, 7),
-        Call::Forget(_) => refused_check(check, 7),
+        Some(Call::Open(o)) if interval::is_instant(o) => Ok(Instants {
+            opened: o,
+            reached: o,
+        }),
+        Some(Call::Open(_)) => Err(Refusal::InstantRefused),
+        _ => Err(Refusal::MalformedCall),
     }
 }
 
-fn opened_check(check: Check, o: i64) -> Check
-    requires { check.line + 1 < 2 ^ 64 }
-    ensures { result ≡ opened_check check o }
-{
-    if !interval::is_wide_instant(o) {
-        return refused_check(check, 8);
-    }
-    Check {
-        refusal: 0,
-        line: check.line + 1,
-        begun: true,
-        opened: o,
-        instant: o,
-    }
-}
-
-// Every other line.
-fn later_call(check: Check, call: Call) -> Check
-    requires { check.line + 1 < 2 ^ 64 }
-    ensures { result ≡ later_check check call }
-{
-    match call {
-        Call::Event(_) => next_check(check, check.instant),
-        Call::Clock(t) => mark_check(check, t),
-        Call::Forget(_) => refused_check(check, 17),
-        Call::Malformed => refused_check(check, 7),
-        Call::Open(_) => refused_check(check, 7),
-    }
-}
-
-fn mark_check(check: Check, t: i64) -> Check
-    requires { check.line + 1 < 2 ^ 64 }
-    ensures { result ≡ mark_check check t }
-{
-    if interval::is_wide_mark_refused(check.instant, t) {
-        return refused_check(check, 8);
-    }
-    next_check(check, t)
-}
-
-// The log, refused at its next line.
-fn refused_check(check: Check, refusal: u32) -> Check
-    requires { check.line + 1 < 2 ^ 64 }
-    ensures { result ≡ refused_check check refusal }
-{
-    Check {
-        refusal,
-        line: check.line + 1,
-        begun: check.begun,
-        opened: check.opened,
-        instant: check.instant,
-    }
-}
-
-// The log with one line more.
-fn next_check(check: Check, t: i64) -> Check
-    requires { check.line + 1 < 2 ^ 64 }
-    ensures { result ≡ next_check check t }
-{
-    Check {
-        refusal: 0,
-        line: check.line + 1,
-        begun: true,
-        opened: check.opened,
-        instant: t,
+impl Instants {
+    // The instants after any other line.
+    fn after(self, call: Option<Call>) -> Result<Instants, Refusal>
+        ensures { result ≡ later_check self call }
+    {
+        match call {
+            Some(Call::Event(_)) => Ok(self),
+            Some(Call::Clock(t)) if interval::is_mark_refused(self.reached, t) => {
+                Err(Refusal::InstantRefused)
+            }
+            Some(Call::Clock(t)) => Ok(Instants { reached: t, ..self }),
+            Some(Call::Forget(_)) => Err(Refusal::ForgetMerged),
+            Some(Call::Open(_)) | None => Err(Refusal::MalformedCall),
+        }
     }
 }

@@ -18,6 +18,7 @@ use Rattle.chart.specs.Charts.{entry_at}
 use Rattle.chart.specs.declared.Chart.{Chart}
 use mir.Syntax.{w32}
 use mir.Val.{SFits}
+use Rattle.std.specs.Prelude.{None, Some}
 use Rattle.model.specs.Lists.{sort_stably}
 use Rattle.model.specs.Recognitions.{Event}
 use Rattle.model.specs.Order.{Row, since_of}
@@ -38,7 +39,7 @@ use Rattle.ordering.specs.Ordered.{ordered, Alike}
 use Rattle.ordering.proofs.Sorting.{length_sorted}
 use Rattle.ordering.proofs.Appended.{rows_alike, rows_ordered}
 use Rattle.closing.specs.Added.{pending_from, FilledBy, counted, Tried, added_rows}
-use Rattle.closing.specs.Closed.{closed_rows, closed_number, closed_table}
+use Rattle.closing.specs.Closed.{closed_rows, closed_count, closed_table}
 use Rattle.closing.proofs.Derived.{counted_is}
 use Rattle.closing.proofs.Grown.{Grown}
 use Rattle.closing.proofs.Growth.{Ending, grown_more, added_entry, added_ending}
@@ -254,38 +255,38 @@ module _ (chart : Chart) (w : WatchState) (x : ℤ) (t : List ℤ) where
 
   module _ (ready : Ready chart n t) (k : ℕ) (u : List ℤ) where
     abbrev Closed : Type 0
-    Closed = (k ≡ closed_number chart w x t) × (u ≡ closed_table chart w x t)
+    Closed = (Some k ≡ closed_count chart w x t) × (u ≡ closed_table chart w x t)
 
     abbrev Restored : Type 0
-    Restored = (k ≡ closed_number chart w x t) × (zeroed (n * 5) (room_in t * 5) u ≡ closed_table chart w x t)
+    Restored = (None ≡ closed_count chart w x t) × (zeroed (n * 5) (room_in t * 5) u ≡ closed_table chart w x t)
 
     -- all fit
     pub closed_fits : Tried (room_in t) n (drop n closed) t k u → k ≤ room_in t → Closed
-    unfolding closed_number closed_table
+    unfolding closed_count closed_table
     closed_fits (inl f) h =
         let l : leb (length closed) (room_in t) ≡ true = le-leb (length closed) (room_in t) (omega (arith, f.0, closed_length)) in
-        rw l (f.1 ∙ sym closed_length, f.2)
+        rw l (ap Some (f.1 ∙ sym closed_length), f.2)
     closed_fits (inr f) h = absurd (omega (arith, f.1))
 
     -- not all fit
     pub closed_full : Tried (room_in t) n (drop n closed) t k u → room_in t < k → Restored
-    unfolding closed_number closed_table
+    unfolding closed_count closed_table
     closed_full (inl f) h = absurd (omega (arith, f.0, f.1))
     closed_full (inr f) h =
         let room = room_in t in
         let l : leb (length closed) room ≡ false = lt-leb (length closed) room (omega (arith, f.0, closed_length)) in
-        rw l (f.1 ∙ sym (add-one room), zeroed_same (n * 5) (room * 5) u t f.2 f.3 ∙ zeroed_again (n * 5) (room * 5) t (omega (arith, ready.fit)) (capacity_fits (length t)) ready.zeros)
+        rw l (refl, zeroed_same (n * 5) (room * 5) u t f.2 f.3 ∙ zeroed_again (n * 5) (room * 5) t (omega (arith, ready.fit)) (capacity_fits (length t)) ready.zeros)
 
--- For callers: the rows after the closing, and the number and the table by whether they fit
+-- For callers: the rows after the closing, and the count and the table by whether they fit
 module _ (chart : Chart) (w : WatchState) (x : ℤ) (t : List ℤ) where
   pub closed_is : closed_rows chart w x t ≡ close_instants (instants_to w.instant x) w.instant (events_in w) (operators_of chart) w.since (rows_in w.rows t)
   unfolding closed_rows
   closed_is = refl
 
-  pub number_fits : length (closed_rows chart w x t) ≤ room_in t → (closed_number chart w x t ≡ length (closed_rows chart w x t)) × (closed_table chart w x t ≡ put_rows w.rows (drop w.rows (closed_rows chart w x t)) t)
-  unfolding closed_number closed_table
-  number_fits h = rw (le-leb (length (closed_rows chart w x t)) (room_in t) h) (refl, refl)
+  pub count_fits : length (closed_rows chart w x t) ≤ room_in t → (closed_count chart w x t ≡ Some (length (closed_rows chart w x t))) × (closed_table chart w x t ≡ put_rows w.rows (drop w.rows (closed_rows chart w x t)) t)
+  unfolding closed_count closed_table
+  count_fits h = rw (le-leb (length (closed_rows chart w x t)) (room_in t) h) (refl, refl)
 
-  pub number_over : room_in t < length (closed_rows chart w x t) → (closed_number chart w x t ≡ room_in t + 1) × (closed_table chart w x t ≡ t)
-  unfolding closed_number closed_table
-  number_over h = rw (lt-leb (length (closed_rows chart w x t)) (room_in t) h) (refl, refl)
+  pub count_over : room_in t < length (closed_rows chart w x t) → (closed_count chart w x t ≡ None) × (closed_table chart w x t ≡ t)
+  unfolding closed_count closed_table
+  count_over h = rw (lt-leb (length (closed_rows chart w x t)) (room_in t) h) (refl, refl)

@@ -1,6 +1,6 @@
 -- What closing instants leaves: how many rows there are, and the table.
--- `closed_rows` has to be believed: the clock call cites it. `closed_number`, `closed_table` and `Closable` serve the proofs.
-use Rattle.std.specs.Prelude.{ℕ, suc, ◌+◌, ◌-◌, ◌≤◌, ◌≡◌, true, cond, List, leb, ℤ, length, take, drop}
+-- `closed_rows` has to be believed: the clock call cites it. `closed_count`, `closed_table` and `Closable` serve the proofs.
+use Rattle.std.specs.Prelude.{ℕ, suc, ◌-◌, ◌≤◌, ◌≡◌, true, cond, List, leb, ℤ, length, take, drop, Option, None, Some}
 use Rattle.std.specs.Int.Signed.{lt_z}
 use Rattle.chart.specs.declared.Chart.{Chart}
 use Rattle.model.specs.Order.{Row}
@@ -15,10 +15,10 @@ use Rattle.table.specs.Table.{rows_in, put_rows, room_in}
 unfoldable pub closed_rows : Chart → WatchState → ℤ → List ℤ → List Row
 closed_rows chart w x t = close_instants (instants_to w.instant x) w.instant (numbered w.instant (suc (w.events - w.pending)) (take w.pending w.codes)) (operators_of chart) w.since (rows_in w.rows t)
 
--- "12 table full: the due rows, old and new together, exceed the rows the table can hold": then one more than it holds, and the table as it was.
+-- "12 table full: the due rows, old and new together, exceed the rows the table can hold": then there is no number, and the table is as it was.
 -- "Closing alters only the new rows"
-unfoldable pub closed_number : Chart → WatchState → ℤ → List ℤ → ℕ
-closed_number chart w x t = cond (leb (length (closed_rows chart w x t)) (room_in t)) (length (closed_rows chart w x t)) (room_in t + 1)
+unfoldable pub closed_count : Chart → WatchState → ℤ → List ℤ → Option ℕ
+closed_count chart w x t = cond (leb (length (closed_rows chart w x t)) (room_in t)) (Some (length (closed_rows chart w x t))) None
 
 unfoldable pub closed_table : Chart → WatchState → ℤ → List ℤ → List ℤ
 closed_table chart w x t = cond (leb (length (closed_rows chart w x t)) (room_in t)) (put_rows w.rows (drop w.rows (closed_rows chart w x t)) t) t

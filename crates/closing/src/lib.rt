@@ -17,7 +17,7 @@ ghost use Rattle.table.specs.Table.{cell, stored_row, model_row, rows_in};
 ghost use Rattle.table.specs.Ends.{Ordered, ending_before};
 ghost use Rattle.table.specs.Operators.{operators_of, entry_operator};
 ghost use Rattle.closing.specs.Added.{Appendable, Proper, Settled, Appended, Tried, is_waited, FirstWaited, SerialsFit, serial_row, events_at, event_rows, arm_of, part_of, part_row, is_taken, taken_row, taken_rows, or_rows, delayed_rows, forbids, is_within, absence_rows, top_of, SameTop, next_row, Passed, least_start, is_wanted, pair_of, pair_row, right_from, pairs_of, left_from, pair_rows, latest_start, near_from, near_to, is_later_row, rival_end, limit_by, nearest_pairs, nearest_of, nearest_rows, added_rows};
-ghost use Rattle.closing.specs.Closed.{Closable, closed_rows, closed_number, closed_table};
+ghost use Rattle.closing.specs.Closed.{Closable, closed_rows, closed_count, closed_table};
 
 use chart::operator::Kind;
 use chart::{Chart, Entry};
@@ -115,8 +115,8 @@ fn push_counted(t: &mut [i32], n: usize, f: Frame, row: Row) -> usize
     requires { (Appendable f n t.old) × (le_z (pos 0) row.entry ≡ true) }
     ensures { Appended f n (model_row row ∷ []) t.old result t.new }
 {
-    if interval::is_no_later(f.since, row.start) {
-        return table::push_row(t, n, f.room, row);
+    if f.since <= row.start {
+        return table::push_row(t, n, f.room, row).unwrap_or(f.room + 1);
     }
     n
 }
@@ -257,8 +257,8 @@ fn delayed_rows(t: &mut [i32], n: usize, f: Frame, a: i32, d: u32) -> usize
 {
     let from = interval::earlier_by(f.instant, d);
     let waited = Frame {
-        first: table::count_ending(t, f.end, from, false),
-        end: table::count_ending(t, f.end, from, true),
+        first: table::ending_before(t, f.end, from),
+        end: table::ending_by(t, f.end, from),
         room: f.room,
         entry: f.entry,
         instant: f.instant,
@@ -285,7 +285,7 @@ fn is_waited(t: &[i32], i: usize, w: Wait) -> bool
     if row.entry != w.operand {
         return false;
     }
-    interval::is_no_later(w.since, row.start)
+    w.since <= row.start
 }
 
 // The first such row from row i on to before row e, or e. One look at each row up to it, and another at each one of the operand.
@@ -311,7 +311,7 @@ fn next_end(t: &[i32], n: usize, w: Wait, last: i32, limit: i32) -> i32
     ensures { NextDue (delayed_ends w.since (rows_in n t.now) (after (nat_abs w.operand) w.length)) (last +ℤ pos 1) limit result }
 {
     let d = w.length;
-    let first = table::count_ending(t, n, interval::earlier_by(last, d), true);
+    let first = table::ending_by(t, n, interval::earlier_by(last, d));
     if n <= first {
         return limit;
     }
@@ -319,10 +319,10 @@ fn next_end(t: &[i32], n: usize, w: Wait, last: i32, limit: i32) -> i32
     if is_waited(t, first, w) {
         return due;
     }
-    if interval::is_same(due, limit) {
+    if due == limit {
         return limit;
     }
-    let end = table::count_ending(t, n, interval::earlier_by(limit, d), false);
+    let end = table::ending_before(t, n, interval::earlier_by(limit, d));
     let i = next_waited(t, first, end, w);
     if end <= i {
         return limit;
@@ -351,7 +351,7 @@ fn is_within(t: &[i32], j: usize, start: i32) -> bool
         return false;
     }
     let row = table::row_at(t, j - 1);
-    interval::is_no_later(start, row.end)
+    start <= row.end
 }
 
 // The place behind the last of the first n rows that is one of b, or 0. One look at each row behind it.
@@ -448,8 +448,8 @@ fn pair_of(f: Frame, w: Wanted, s: Row, i: usize) -> Row
     row.entry = f.entry;
     row.left = w.left as i32;
     row.right = i as i32;
-    row.start = interval::least_start(w.start, s.start);
-    row.end = interval::greatest_end(w.end, s.end);
+    row.start = w.start.min(s.start);
+    row.end = w.end.max(s.end);
     row
 }
 
@@ -580,7 +580,7 @@ fn least_start(t: &[i32], s: usize, n: usize, b: i32) -> i32
         let row = table::row_at(t, i);
         i += 1;
         if row.entry == b {
-            least = interval::least_start(least, row.start);
+            least = least.min(row.start);
         }
     }
     least
@@ -651,11 +651,11 @@ fn latest_start(t: &[i32], i: usize, e: usize, b: i32, x: i32) -> i32
     while i < j {
         j -= 1;
         let row = table::row_at(t, j);
-        if interval::is_no_later(row.end, latest) {
+        if row.end <= latest {
             return latest;
         }
         if row.entry == b {
-            latest = interval::greatest_end(latest, row.start);
+            latest = latest.max(row.start);
         }
     }
     latest
@@ -686,7 +686,7 @@ fn is_later_row(a: i32, r: Row, row: Row) -> bool
     if row.entry != a {
         return false;
     }
-    interval::is_no_later(r.start, row.start) && interval::is_before(r.end, row.end)
+    r.start <= row.start && r.end < row.end
 }
 
 // The end of the first such row from row i to before row e, or x if there is none. One look at each row up to it.
@@ -718,7 +718,7 @@ fn nearest_pairs(t: &mut [i32], n: usize, f: Frame, w: Wanted, limit: i32) -> us
         let i = s;
         s += 1;
         let row = table::row_at(t, i);
-        if interval::is_no_later(row.start, limit) {
+        if row.start <= limit {
             if is_wanted(w, row) {
                 count = push_pair(t, count, f, w, i);
                 if room < count {
@@ -907,7 +907,7 @@ fn due_rows(
     let mut pending = state.pending;
     let mut instant = state.instant;
     let mut n = state.rows;
-    while interval::is_before(instant, mark) {
+    while instant < mark {
         let p = Pending {
             first,
             count: pending,
@@ -929,20 +929,20 @@ fn due_rows(
 }
 
 // Closes every instant from the open one to before the mark: appends, end by end and in each entry by entry, the rows that end there; hands back how
-// many rows there are then, or one more than the table holds where they do not fit, and then the table is as it was. Costs what
-// `due_rows` costs, and where the rows do not fit, one store for each number behind the old rows. Where no event is pending and no delayed
-// row is due, no row is looked at, but those that `next_end` looks at for a delay.
-pub fn close(chart: Chart, state: WatchState, mark: i32, table: &mut [i32]) -> usize
+// many rows there are then, or None where they do not fit, and then the table is as it was. Costs what `due_rows` costs, and where the rows do not fit,
+// one store for each number behind the old rows. Where no event is pending and no delayed row is due, no row is looked at, but those that `next_end`
+// looks at for a delay.
+pub fn close(chart: Chart, state: WatchState, mark: i32, table: &mut [i32]) -> Option<usize>
     requires { Closable chart state mark table.old }
-    ensures { (result ≡ closed_number chart state mark table.old) × (table.new ≡ closed_table chart state mark table.old) }
+    ensures { (result ≡ closed_count chart state mark table.old) × (table.new ≡ closed_table chart state mark table.old) }
 {
     let room = table::rows_that_fit(table.len());
     let codes = state.codes;
     let since = state.since;
     let n = due_rows(chart, state, codes, since, mark, table, room);
     if n <= room {
-        return n;
+        return Some(n);
     }
     table::zero_part(table, state.rows * 5, room * 5);
-    n
+    None
 }

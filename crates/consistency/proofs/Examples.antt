@@ -6,6 +6,7 @@ use Prim.Native.String.{String}
 use mathlib.Core.Path.{◌≡◌, refl}
 use mathlib.Core.Bool.{Bool, true, false, cond}
 use mathlib.Core.List.{List, [], ◌∷◌, ◌++◌, map}
+use Rattle.std.specs.Prelude.{Option, Some, None}
 use lib.IntN.{ℤ, pos, neg_ℤ}
 use lib.Dec.{eqb}
 use lib.ListN.{length, get_or, drop, replicate}
@@ -14,8 +15,7 @@ use Rattle.interval.specs.Conditions.{is_related, has_length}
 use Rattle.text.specs.Text.{split, lines}
 use Rattle.text.specs.Quoted.{bytes, tabbed, unended, text}
 use Rattle.decimal.specs.Spelling.{is_digit, all_digits, value_from, has_leading_zero, is_number, number_of, milliseconds_of, in_tenths, has_point, length_of}
-use Rattle.decimal.specs.declared.Number.{Number}
-use Rattle.chart.specs.Operators.{words, same_bytes, place_of, operator_of, edges_of, relation_of, length_test_of, kind_of, in_range, are_lower}
+use Rattle.chart.specs.Operators.{words, place_of, operator_of, edges_of, relation_of, length_test_of, kind_of, in_range, are_lower}
 use Rattle.chart.specs.Records.{with_code, event_line, with_operands, second_of, second_operand, operands_line, by_operator, operator_line, numbered, parsed_line, checked_entry, checked_line, answer_to}
 use Rattle.chart.specs.Charts.{no_entries, with_entry, refused_chart, read_lines, or_no_line, read_chart, all_below}
 use Rattle.chart.specs.declared.Chart.{Chart}
@@ -32,9 +32,9 @@ abbrev pub chart_of : List String → Chart
 chart_of ls = (read_chart (text ls)).chart
 
 -- a table, from its rows' numbers, of which start and end are tenths
-abbrev pub number_in : Number → ℤ
-number_in (Number.Value n) = pos n
-number_in Number.Malformed = pos 0
+abbrev pub number_in : Option ℕ → ℤ
+number_in (Some n) = pos n
+number_in None = pos 0
 
 abbrev pub integer_in : List ℕ → ℤ
 integer_in s = cond (eqb (get_or s 0 0) 45) (neg_ℤ (number_in (number_of (drop 1 s)))) (number_in (number_of s))
@@ -215,5 +215,5 @@ unfoldable pub cases : List Case
 cases = watches ++ sizes ++ entries ++ rows
 
 pub examples : map (λ (c : Case). are_consistent c.chart c.state c.table) cases ≡ map (λ (c : Case). c.consistent) cases
-unfolding cases is_instant is_length first_floor is_related has_length split lines bytes tabbed unended text is_digit all_digits value_from has_leading_zero is_number number_of milliseconds_of in_tenths has_point length_of words same_bytes place_of operator_of edges_of relation_of length_test_of kind_of in_range are_lower with_code event_line with_operands second_of second_operand operands_line by_operator operator_line numbered parsed_line checked_entry checked_line answer_to no_entries with_entry refused_chart read_lines or_no_line read_chart all_below capacity is_rising rows_in are_zeros operator_by operators_of is_watch_in_range is_table_row_consistent are_consistent
+unfolding cases is_instant is_length first_floor is_related has_length split lines bytes tabbed unended text is_digit all_digits value_from has_leading_zero is_number number_of milliseconds_of in_tenths has_point length_of words place_of operator_of edges_of relation_of length_test_of kind_of in_range are_lower with_code event_line with_operands second_of second_operand operands_line by_operator operator_line numbered parsed_line checked_entry checked_line answer_to no_entries with_entry refused_chart read_lines or_no_line read_chart all_below capacity is_rising rows_in are_zeros operator_by operators_of is_watch_in_range is_table_row_consistent are_consistent
 examples = refl

@@ -1,4 +1,3 @@
-pub mod Tests
 pub mod Rows
 pub mod Ready
 pub mod Theorems

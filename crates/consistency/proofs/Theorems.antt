@@ -30,8 +30,7 @@ use Rattle.table.specs.Ready.{Ready, EndBefore}
 use Rattle.table.proofs.Rows.{row_at_lem}
 use Rattle.table.proofs.Operators.{length_operators}
 use Rattle.consistency.specs.Consistency.{are_instants_in_range, are_counts_in_range, are_entries_in_range, is_watch_in_range, is_table_row_consistent, are_consistent}
-use Rattle.consistency.proofs.Tests.{is_after_last}
-use Rattle.consistency.proofs.Rows.{and_group, no_operator, row_told}
+use Rattle.consistency.proofs.Rows.{is_after_last, and_group, no_operator, row_told}
 use Rattle.consistency.proofs.Ready.{Shape, shape_at}
 
 le_same : (a : ℤ) → le_z a a ≡ true

@@ -1,7 +1,8 @@
 -- The tests of one row as the code makes them, over the numbers of the table. Nothing here has to be believed: proofs/Rows.antt shows
 -- that they are the model's tests of that row.
--- t is the table, i the row's number and r the row; k is its entry's kind, a and b are the entry's operands.
-use Rattle.std.specs.Prelude.{ℕ, zero, suc, ◌+◌, ◌*◌, ◌<◌, ◌≤◌, ◌≡◌, Bool, true, cond, ◌&&◌, ◌||◌, List, eqb, ltb, leb, ℤ, pos, negsuc, nat_abs, ◌+ℤ◌, length}
+-- r is the row and `lower` the part of the table before it; k is its entry's kind, a and b are the entry's operands.
+use Rattle.std.specs.Prelude.{ℕ, zero, suc, ◌+◌, ◌*◌, Bool, true, false, cond, ◌&&◌, ◌||◌, Option, Some, None, List, ltb, leb, ℤ, pos, negsuc, nat_abs, ◌+ℤ◌, length}
+use Rattle.std.specs.Option.{option_map_or}
 use Rattle.std.specs.Int.Signed.{le_z, lt_z}
 use Rattle.interval.specs.Instants.{eq_z, least, greatest}
 use Rattle.interval.specs.Conditions.{is_related, has_length}
@@ -30,20 +31,19 @@ last_end t (suc i) = cell t i 4
 abbrev pub limits_of : WatchState → ℤ → ℤ → Limits
 limits_of w since last = record { instant = w.instant; floor = w.floor; since = since; last = last; events = w.events }
 
--- row i lies in the table, and the entries of the rows before it are no negative numbers
-pub record Reached (i : ℕ) (t : List ℤ) : Type 0 where
-  pub fits : i * 5 + 5 ≤ length t
-  pub above : (j : ℕ) → j < i → le_z (pos 0) (cell t j 0) ≡ true
-
 abbrev pub exchanged : Row → Row
 exchanged r = record { entry = r.entry; left = r.right; right = r.left; start = r.start; end = r.end }
 
--- the row that z refers to, where that is a lower row of entry a; otherwise i
-unfoldable pub part_at : List ℤ → ℕ → ℤ → ℕ → ℕ
-part_at t i z a = cond (le_z (pos 0) z && (ltb (nat_abs z) i && eqb (nat_abs (cell t (nat_abs z) 0)) a)) (nat_abs z) i
+-- the entry of a row, where it is one of so many
+unfoldable pub entry_of : Row → ℕ → Option ℕ
+entry_of r count = cond (le_z (pos 0) r.entry && ltb (nat_abs r.entry) count) (Some (nat_abs r.entry)) None
+
+-- the row that z refers to, where that is one of the rows before and of entry a
+unfoldable pub part_at : List ℤ → ℤ → ℕ → Option Row
+part_at lower z a = cond (le_z (pos 0) z && (leb (nat_abs z * 5 + 5) (length lower) && eq_z (cell lower (nat_abs z) 0) (pos a))) (Some (stored_row lower (nat_abs z))) None
 
 unfoldable pub is_within : Limits → Row → Bool
-is_within l r = le_z l.floor r.start && (le_z l.since r.start && (lt_z r.end l.instant && le_z l.last r.end))
+is_within l r = le_z l.floor r.start && le_z l.since r.start && lt_z r.end l.instant && le_z l.last r.end
 
 unfoldable pub is_event_row : ℕ → Row → Bool
 is_event_row events r = le_z (pos 1) r.left && (leb (nat_abs r.left) events && (eq_z r.right none && eq_z r.start r.end))
@@ -60,41 +60,42 @@ meets_condition (Nearest c) b p q = is_related Seq p.start p.end q.start q.end
 meets_condition Unknown b p q = true
 
 -- start and end are those of the one part p; or the end is d later
-unfoldable pub spans_part : Row → Row → Bool
+abbrev pub spans_part : Row → Row → Bool
 spans_part r p = eq_z r.start p.start && eq_z r.end p.end
 
-unfoldable pub waits_for : ℕ → Row → Row → Bool
+abbrev pub waits_for : ℕ → Row → Row → Bool
 waits_for d r p = eq_z r.start p.start && eq_z r.end (p.end +ℤ pos d)
 
 -- start and end are those of p and q together
-unfoldable pub spans_parts : Row → Row → Row → Bool
+abbrev pub spans_parts : Row → Row → Row → Bool
 spans_parts r p q = eq_z r.start (least p.start q.start) && eq_z r.end (greatest p.end q.end)
 
-unfoldable pub is_single_row : Kind → ℕ → ℕ → List ℤ → ℕ → Row → Bool
-is_single_row k a b t i r =
-    let p = part_at t i r.left a in
-    meets_condition k b r r && (eq_z r.right none && (ltb p i && spans_part r (stored_row t p)))
+-- a row of one part, on the left and of entry a, of which f holds
+abbrev pub has_one : (Row → Bool) → ℕ → List ℤ → Row → Bool
+has_one f a lower r = eq_z r.right none && option_map_or f (part_at lower r.left a) false
 
-unfoldable pub is_delayed_row : ℕ → ℕ → List ℤ → ℕ → Row → Bool
-is_delayed_row a d t i r =
-    let p = part_at t i r.left a in
-    eq_z r.right none && (ltb p i && waits_for d r (stored_row t p))
+unfoldable pub is_left_row : ℕ → List ℤ → Row → Bool
+is_left_row a lower r = has_one (spans_part r) a lower r
 
-unfoldable pub is_arm_row : Kind → ℕ → ℕ → List ℤ → ℕ → Row → Bool
-is_arm_row k a b t i r = is_single_row k a b t i r || is_single_row k b b t i (exchanged r)
+unfoldable pub is_single_row : Kind → ℕ → ℕ → List ℤ → Row → Bool
+is_single_row k a b lower r = meets_condition k b r r && is_left_row a lower r
 
-unfoldable pub is_pair_row : Kind → ℕ → ℕ → List ℤ → ℕ → Row → Bool
-is_pair_row k a b t i r =
-    let p = part_at t i r.left a in
-    let q = part_at t i r.right b in
-    ltb p i && (ltb q i && (spans_parts r (stored_row t p) (stored_row t q) && meets_condition k b (stored_row t p) (stored_row t q)))
+unfoldable pub is_delayed_row : ℕ → ℕ → List ℤ → Row → Bool
+is_delayed_row a d lower r = has_one (waits_for d r) a lower r
 
-unfoldable pub agrees_by : Shape → Kind → ℕ → ℕ → ℕ → List ℤ → ℕ → Row → Bool
-agrees_by Leaf k a b events t i r = is_event_row events r
-agrees_by Single k a b events t i r = is_single_row k a b t i r
-agrees_by Arms k a b events t i r = is_arm_row k a b t i r
-agrees_by Double k a b events t i r = is_pair_row k a b t i r
-agrees_by Delayed k a b events t i r = is_delayed_row a b t i r
+unfoldable pub is_arm_row : ℕ → ℕ → List ℤ → Row → Bool
+is_arm_row a b lower r = is_left_row a lower r || is_left_row b lower (exchanged r)
 
-unfoldable pub is_row_of : Entry → Limits → List ℤ → ℕ → Row → Bool
-is_row_of e l t i r = is_within l r && agrees_by (shape_of (kind_of e.op)) (kind_of e.op) e.a e.b l.events t i r
+unfoldable pub is_pair_row : Kind → ℕ → ℕ → List ℤ → Row → Bool
+is_pair_row k a b lower r =
+    option_map_or (λ p. option_map_or (λ q. spans_parts r p q && meets_condition k b p q) (part_at lower r.right b) false) (part_at lower r.left a) false
+
+unfoldable pub agrees_by : Shape → Kind → ℕ → ℕ → ℕ → List ℤ → Row → Bool
+agrees_by Leaf k a b events lower r = is_event_row events r
+agrees_by Single k a b events lower r = is_single_row k a b lower r
+agrees_by Arms k a b events lower r = is_arm_row a b lower r
+agrees_by Double k a b events lower r = is_pair_row k a b lower r
+agrees_by Delayed k a b events lower r = is_delayed_row a b lower r
+
+unfoldable pub is_row_of : Entry → Limits → List ℤ → Row → Bool
+is_row_of e l lower r = is_within l r && agrees_by (shape_of (kind_of e.op)) (kind_of e.op) e.a e.b l.events lower r

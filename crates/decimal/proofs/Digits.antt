@@ -1,13 +1,16 @@
 -- Digits and the spelling of a number: its unfolding by tens, its value, its bytes, its first byte and its length.
 use mathlib.Core.Path.{◌≡◌, refl, sym, ap, ◌∙◌}
-use mathlib.Core.Bool.{Bool, true, false}
+use mathlib.Core.Bool.{Bool, true, false, cond}
 use mathlib.Core.List.{List, [], ◌∷◌, ◌++◌}
-use Prim.Native.Nat.{ℕ, zero, suc, ◌+◌, ◌*◌, ◌-◌, ◌/◌, ◌%◌, ◌^◌, ◌<◌, ◌≤◌}
+use Prim.Native.Nat.{ℕ, zero, suc, ◌+◌, ◌*◌, ◌-◌, ◌/◌, ◌%◌, ◌^◌, ◌<◌, ◌≤◌, max}
 use native.Mathlib.Omega.{arith}
 use native.Mathlib.Nat.{add-zero, add-suc, suc-add, pow-suc, one-le-pow}
 use lib.Dec.{leb, ltb}
-use lib.ListN.{length, get_or, length-append, get_or-append}
-use borrow.Author.Tests.{lt-ltb, le-ltb, le-leb, lt-leb, ne_eqb, ltb-true, ltb-false, leb-true}
+use lib.ListN.{length, get_or, drop, length-append, get_or-append, drop_of_length-le}
+use lib.Seq.{drop-cons}
+use native.Mathlib.Numerals.{add-one}
+use Rattle.std.proofs.Common.{Option, Some, None}
+use borrow.Author.Tests.{lt-ltb, le-ltb, le-leb, ne_eqb, ltb-true, ltb-false, leb-true}
 use Rattle.interval.proofs.Signed.{and_first, and_second}
 use Rattle.text.proofs.Laws.{lacks}
 use Rattle.decimal.specs.Spelling.{is_digit, all_digits, value_from, digits_value, digit, digits_within, spelled_number}
@@ -67,18 +70,22 @@ pub digit_most : (b : ℕ) → is_digit b ≡ true → b ≤ 57
 unfolding is_digit
 digit_most b e = leb-true b 57 (and_second (leb 48 b) (leb b 57) e)
 
--- What the tests of a byte in the code tell.
-pub below_digits : (b : ℕ) → b < 48 → is_digit b ≡ false
-unfolding is_digit
-below_digits b h = simp (lt-leb 48 b h)
+-- What digits after a value n give: a byte that is no digit, one digit more, and none left.
+abbrev pub carried : ℕ → List ℕ → Option ℕ
+carried n s = cond (all_digits s) (Some (value_from n s)) None
 
-pub above_digits : (b : ℕ) → 48 ≤ b → 57 < b → is_digit b ≡ false
-unfolding is_digit
-above_digits b h l = simp (le-leb 48 b h, lt-leb b 57 l)
+module _ (s : List ℕ) (i n : ℕ) (h : i < length s) where
+  pub carried_none : is_digit (get_or s i 0) ≡ false → carried n (drop i s) ≡ None
+  unfolding all_digits
+  carried_none e = rw (drop-cons s i 0 h, e)
 
-pub in_digits : (b : ℕ) → 48 ≤ b → b ≤ 57 → is_digit b ≡ true
-unfolding is_digit
-in_digits b h l = simp (le-leb 48 b h, le-leb b 57 l)
+  pub carried_more : is_digit (get_or s i 0) ≡ true → carried n (drop i s) ≡ carried (n * 10 + (get_or s i 0 - 48)) (drop (i + 1) s)
+  unfolding all_digits value_from
+  carried_more e = rw (add-one i, drop-cons s i 0 h, e)
+
+pub carried_all : (s : List ℕ) (i n : ℕ) → length s ≤ i → carried n (drop i s) ≡ Some n
+unfolding all_digits value_from
+carried_all s i n h = rw (drop_of_length-le s h)
 
 -- One digit more at the end.
 value_more : (n : ℕ) (s : List ℕ) (b : ℕ) → value_from n (s ++ (b ∷ [])) ≡ value_from n s * 10 + (b - 48)
@@ -143,6 +150,18 @@ length_least zero n h = spelled_nonempty n
 length_least (suc k) n h =
     let l : 10 ≤ n = omega (arith, pow-suc 10 k, one-le-pow k 10 (omega arith)) in
     omega (arith, length_large n l, length_least k (n / 10) (omega (arith, pow-suc 10 k)))
+
+pub length_between : (k n : ℕ) → 10 ^ k ≤ max n 1 → max n 1 < 10 * 10 ^ k → k + 1 ≡ length (spelled_number n)
+length_between zero n h l = omega (arith, spelled_nonempty n, length_most 0 n (omega arith))
+length_between (suc k) n h l =
+    let more : 10 ^ suc k ≤ n = omega (arith, pow-suc 10 k, one-le-pow k 10 (omega arith)) in
+    omega (arith, length_least (suc k) n more, length_most (suc k) n (omega (arith, pow-suc 10 (suc k))))
+
+pub one_digit_below : (n : ℕ) → length (spelled_number n) ≤ 1 → n < 10
+one_digit_below n h = grind (arith, length_least 1 n)
+
+pub more_digits_least : (n : ℕ) → 1 < length (spelled_number n) → 10 ≤ n
+more_digits_least n h = grind (arith, length_most 0 n)
 
 -- Digits keep a value below the power of ten of their number.
 pub digit_below : (i m d : ℕ) → m < 10 ^ i → d < 10 → m * 10 + d < 10 ^ suc i

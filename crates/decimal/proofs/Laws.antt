@@ -1,24 +1,24 @@
 -- Laws of specs/Spelling.antt for plain numbers and for signs: a number is read back from its spelling, it has no other spelling, how large both can be,
--- and what is written of a spelling. Lengths and instants are in Tenths.antt.
+-- and what C is told of what is written. Lengths and instants are in Tenths.antt.
 use mathlib.Core.Path.{◌≡◌, refl, sym, ap, ◌∙◌}
 use mathlib.Core.Bool.{Bool, true, false, not, cond, ◌&&◌, and-false}
 use mathlib.Core.List.{List, [], ◌∷◌, ◌++◌, append-nil}
-use mathlib.Core.Logic.{⊎_elim}
+use Rattle.std.proofs.Common.{Some, None}
+use Rattle.std.specs.Option.{unwrap_or}
 use Prim.Native.Nat.{ℕ, zero, suc, ◌+◌, ◌*◌, ◌-◌, ◌/◌, ◌%◌, ◌^◌, ◌<◌, ◌≤◌}
 use native.Mathlib.Omega.{arith}
 use native.Mathlib.Nat.{zero-add, lt_of_lt_of_le, pow-le-pow_right}
 use lib.Dec.{eqb, leb, ltb}
-use lib.Signed.{le_z, nat_abs-le}
+use lib.Signed.{nat_abs-le}
 use lib.IntN.{ℤ, pos, negsuc, nat_abs}
-use lib.ListN.{length, get_or, drop}
+use lib.ListN.{length, get_or}
 use lib.Seq.{append_snoc}
 use mir.Syntax.{w32}
 use mir.Val.{SFits}
-use borrow.Author.Tests.{lt-ltb, le-leb, lt-leb, ne_eqb, ltb-true, leb-true, leb-false, eqb-false, not-true}
-use Rattle.interval.proofs.Signed.{never, and_first, and_second}
-use Rattle.text.proofs.Laws.{lt_or_le, lacks}
-use Rattle.decimal.specs.declared.Number.{Number}
-use Rattle.decimal.specs.Spelling.{is_digit, all_digits, value_from, digits_value, has_leading_zero, is_number, number_of, digit, spelled_number, signed, spelled, written_length, written_output}
+use borrow.Author.Tests.{lt-ltb, le-leb, ne_eqb, ltb-true, leb-true, eqb-false, not-true}
+use Rattle.interval.proofs.Signed.{and_first, and_second}
+use Rattle.text.proofs.Laws.{lacks}
+use Rattle.decimal.specs.Spelling.{is_digit, all_digits, value_from, digits_value, has_leading_zero, is_number, number_of, digit, spelled_number, signed, spelled, written, written_length}
 use Rattle.decimal.proofs.Digits.{digit_least, digit_most, digits_lack, spelled_small, spelled_large, spelled_value, spelled_digits, spelled_nonempty, spelled_first, length_most, value_below}
 
 -- What a number's spelling tells.
@@ -29,11 +29,11 @@ record Numeral (s : List ℕ) (n : ℕ) : Type 0 where
   digits : all_digits s ≡ true
   value : digits_value s ≡ n
 
-numeral : (s : List ℕ) (n : ℕ) → number_of s ≡ Number.Value n → Numeral s n
+numeral : (s : List ℕ) (n : ℕ) → number_of s ≡ Some n → Numeral s n
 unfolding number_of is_number
 numeral s n e = at (is_number s) refl e
   where
-    at : (t : Bool) → is_number s ≡ t → cond t (Number.Value (digits_value s)) Number.Malformed ≡ Number.Value n → Numeral s n
+    at : (t : Bool) → is_number s ≡ t → cond t (Some (digits_value s)) None ≡ Some n → Numeral s n
     at true p q =
         let rest = leb (length s) 10 && (not (has_leading_zero s) && all_digits s) in
         let p₁ = and_second (ltb 0 (length s)) rest p in
@@ -45,29 +45,29 @@ numeral s n e = at (is_number s) refl e
           digits = and_second (not (has_leading_zero s)) (all_digits s) p₂;
           value = cc;
         }
-    at false p q = let z : ◌≡◌ {A = ℕ} 0 1 = cc in absurd (omega arith)
+    at false p q = cc
 
 -- The number of a spelling is below the power of ten of its length, and so below the tenth.
-pub number_below_length : (s : List ℕ) (n : ℕ) → number_of s ≡ Number.Value n → n < 10 ^ length s
+pub number_below_length : (s : List ℕ) (n : ℕ) → number_of s ≡ Some n → n < 10 ^ length s
 number_below_length s n e =
     let f = numeral s n e in
     let below : digits_value s < 10 ^ length s = rw zero-add at (value_below 0 0 s (omega arith) f.digits) in
     rw (← f.value) below
 
-pub number_below : (s : List ℕ) (n : ℕ) → number_of s ≡ Number.Value n → n < 10 ^ 10
+pub number_below : (s : List ℕ) (n : ℕ) → number_of s ≡ Some n → n < 10 ^ 10
 number_below s n e = lt_of_lt_of_le (number_below_length s n e) (pow-le-pow_right {n = 10} (omega arith) (numeral s n e).few_bytes)
 
 -- It has 1 to 10 bytes, and lacks every byte below the digits.
-pub number_some : (s : List ℕ) (n : ℕ) → number_of s ≡ Number.Value n → 1 ≤ length s
+pub number_some : (s : List ℕ) (n : ℕ) → number_of s ≡ Some n → 1 ≤ length s
 number_some s n e = (numeral s n e).some_bytes
 
-pub number_few : (s : List ℕ) (n : ℕ) → number_of s ≡ Number.Value n → length s ≤ 10
+pub number_few : (s : List ℕ) (n : ℕ) → number_of s ≡ Some n → length s ≤ 10
 number_few s n e = (numeral s n e).few_bytes
 
-pub number_digits : (s : List ℕ) (n : ℕ) → number_of s ≡ Number.Value n → all_digits s ≡ true
+pub number_digits : (s : List ℕ) (n : ℕ) → number_of s ≡ Some n → all_digits s ≡ true
 number_digits s n e = (numeral s n e).digits
 
-pub number_lacks : (x : ℕ) → x < 48 → (s : List ℕ) (n : ℕ) → number_of s ≡ Number.Value n → lacks x s ≡ true
+pub number_lacks : (x : ℕ) → x < 48 → (s : List ℕ) (n : ℕ) → number_of s ≡ Some n → lacks x s ≡ true
 number_lacks x h s n e = digits_lack x s h (number_digits s n e)
 
 -- A number of at most ten digits is read back from its spelling.
@@ -76,7 +76,7 @@ unfolding has_leading_zero
 leading zero = rw (spelled_small 0 (omega arith))
 leading (suc n) = rw (ne_eqb (get_or (spelled_number (suc n)) 0 0) 48 (λ e. omega (arith, spelled_first (suc n) (omega arith)))) (and-false (ltb 1 (length (spelled_number (suc n)))))
 
-pub number_read_back : (n : ℕ) → n < 10 ^ 10 → number_of (spelled_number n) ≡ Number.Value n
+pub number_read_back : (n : ℕ) → n < 10 ^ 10 → number_of (spelled_number n) ≡ Some n
 unfolding number_of is_number
 number_read_back n h =
     simp (lt-ltb 0 (length (spelled_number n)) (spelled_nonempty n), le-leb (length (spelled_number n)) 10 (length_most 9 n h), leading n, spelled_digits n, spelled_value n)
@@ -115,23 +115,13 @@ spelled_again (b ∷ a ∷ s) h f e =
     let z : 0 < 0 * 10 + (b - 48) = omega (arith, eqb-false b 48 f₁) in
     from_digits (0 * 10 + (b - 48)) (a ∷ s) z (and_second (is_digit b) (is_digit a && all_digits s) e) ∙ rw (one_digit b d)
 
-pub number_one_spelling : (s : List ℕ) (n : ℕ) → number_of s ≡ Number.Value n → s ≡ spelled_number n
+pub number_one_spelling : (s : List ℕ) (n : ℕ) → number_of s ≡ Some n → s ≡ spelled_number n
 number_one_spelling s n e =
     let f = numeral s n e in
     sym (spelled_again s f.some_bytes f.first f.digits) ∙ ap spelled_number f.value
 
 -- The sign apart: a number below 0 has a minus and then its absolute value, however that is spelled.
 module _ (f : ℕ → List ℕ) where
-  pub signed_plain : (z : ℤ) → le_z (pos 0) z ≡ true → signed f z ≡ f (nat_abs z)
-  unfolding signed
-  signed_plain (pos n) e = refl
-  signed_plain (negsuc n) e = never e
-
-  pub signed_minus : (z : ℤ) → le_z (pos 0) z ≡ false → signed f z ≡ 45 ∷ f (nat_abs z)
-  unfolding signed
-  signed_minus (pos n) e = absurd (omega (arith, leb-false 0 n e))
-  signed_minus (negsuc n) e = refl
-
   pub signed_least : (k : ℕ) → ((n : ℕ) → k ≤ length (f n)) → (z : ℤ) → k ≤ length (signed f z)
   unfolding signed
   signed_least k h (pos n) = h n
@@ -171,26 +161,7 @@ integer_length_most z f = signed_most spelled_number 10 z (length_most 9 (nat_ab
 pub spelled_lacks : (x : ℕ) → x < 45 → (z : ℤ) → lacks x (spelled z) ≡ true
 spelled_lacks x h z = signed_lacks spelled_number x h (spelled_number_lacks x (omega arith)) z
 
--- What is written of a spelling: all of it where the output has room, else nothing.
-module _ (s out : List ℕ) where
-  pub written_length_all : length s ≤ length out → written_length s out ≡ length s
-  unfolding written_length
-  written_length_all h = rw (le-leb (length s) (length out) h)
-
-  pub written_output_all : length s ≤ length out → written_output s out ≡ s ++ drop (length s) out
-  unfolding written_output
-  written_output_all h = rw (le-leb (length s) (length out) h)
-
-  pub written_none : length out < length s → (0 ≡ written_length s out) × (out ≡ written_output s out)
-  unfolding written_length written_output
-  written_none h = rw (lt-leb (length s) (length out) h) (refl, refl)
-
-  pub written_length_most : written_length s out ≤ length out
-  written_length_most =
-      ⊎_elim (λ h. omega (arith, (written_none h).0)) (λ h. omega (arith, written_length_all h)) (lt_or_le (length out) (length s))
-
-  pub was_short : 1 ≤ length s → written_length s out ≡ 0 → length out < length s
-  was_short l e = ⊎_elim (λ h. h) (λ h. absurd (omega (arith, written_length_all h))) (lt_or_le (length out) (length s))
-
-  pub had_room : (written_length s out ≡ 0 → ⊥) → length s ≤ length out
-  had_room e = ⊎_elim (λ h. absurd (e (sym (written_none h).0))) (λ h. h) (lt_or_le (length out) (length s))
+-- What C is told of what is written: 0 where nothing is.
+pub written_or_none : (s out : List ℕ) → unwrap_or (written s out) 0 ≡ written_length s out
+unfolding written written_length
+written_or_none s out = elim (leb (length s) (length out)) as (λ t. unwrap_or (cond t (Some (length s)) None) 0 ≡ cond t (length s) 0) [ true ↦ refl | false ↦ refl ]

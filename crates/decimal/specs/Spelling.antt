@@ -2,11 +2,7 @@
 -- no leading zero, 1 to 10 digits; an instant may carry a minus, never before 0." Request N11: "Instants and lengths on paper may have a
 -- point and one digit, as `-0.5`; without a point they are whole milliseconds." Their values are tenths of a millisecond. A spelling is a
 -- list of bytes; the bytes 48 to 57 are the digits, 45 is the minus, 46 the point.
--- `parts_of`, `sign_size` and `spelled_in` alone serve the proofs.
-use Rattle.std.specs.Prelude.{ℕ, zero, suc, ◌+◌, ◌*◌, ◌-◌, ◌/◌, ◌%◌, Bool, true, not, cond, ◌&&◌, List, [], ◌∷◌, ◌++◌, eqb, leb, ltb, ℤ, pos, negsuc, neg_ℤ, length, get_or, take, drop}
-use Rattle.decimal.specs.declared.Number.{Number}
-use Rattle.decimal.specs.declared.Instant.{Instant}
-use Rattle.decimal.specs.declared.Parts.{Parts}
+use Rattle.std.specs.Prelude.{ℕ, zero, suc, ◌+◌, ◌*◌, ◌-◌, ◌/◌, ◌%◌, Bool, true, not, cond, ◌&&◌, List, [], ◌∷◌, ◌++◌, eqb, leb, ltb, ℤ, pos, negsuc, neg_ℤ, length, get_or, take, drop, Option, Some, None}
 
 -- whether a byte is a digit
 unfoldable pub is_digit : ℕ → Bool
@@ -35,48 +31,41 @@ unfoldable pub is_number : List ℕ → Bool
 is_number s = ltb 0 (length s) && (leb (length s) 10 && (not (has_leading_zero s) && all_digits s))
 
 -- the number that a spelling is
-unfoldable pub number_of : List ℕ → Number
-number_of s = cond (is_number s) (Number.Value (digits_value s)) Number.Malformed
+unfoldable pub number_of : List ℕ → Option ℕ
+number_of s = cond (is_number s) (Some (digits_value s)) None
 
 -- "1 to 9 digits of an instant or length stand before the point, or alone": the whole milliseconds
-unfoldable pub milliseconds_of : List ℕ → Number
-milliseconds_of s = cond (leb (length s) 9) (number_of s) Number.Malformed
+unfoldable pub milliseconds_of : List ℕ → Option ℕ
+milliseconds_of s = cond (leb (length s) 9) (number_of s) None
 
 -- whole milliseconds and the byte behind their point, in tenths
-unfoldable pub in_tenths : Number → ℕ → Number
-in_tenths (Number.Value n) b = cond (is_digit b) (Number.Value (n * 10 + (b - 48))) Number.Malformed
-in_tenths Number.Malformed b = Number.Malformed
+unfoldable pub in_tenths : Option ℕ → ℕ → Option ℕ
+in_tenths (Some n) b = cond (is_digit b) (Some (n * 10 + (b - 48))) None
+in_tenths None b = None
 
 -- "a point and one digit": the last byte but one is a point
 unfoldable pub has_point : List ℕ → Bool
 has_point s = ltb 1 (length s) && eqb (get_or s (length s - 2) 0) 46
 
 -- the length that a spelling is, in tenths: "without a point they are whole milliseconds", as if `.0` stood behind them
-unfoldable pub length_of : List ℕ → Number
+unfoldable pub length_of : List ℕ → Option ℕ
 length_of s =
     let pointed = in_tenths (milliseconds_of (take (length s - 2) s)) (get_or s (length s - 1) 0) in
     cond (has_point s) pointed (in_tenths (milliseconds_of s) 48)
 
 -- the instant of a length that carries no minus
-unfoldable pub without_minus : Number → Instant
-without_minus (Number.Value n) = Instant.Value (pos n)
-without_minus Number.Malformed = Instant.Malformed
+unfoldable pub without_minus : Option ℕ → Option ℤ
+without_minus (Some n) = Some (pos n)
+without_minus None = None
 
 -- the instant of a length that carries a minus: "A minus on the value zero stays malformed in every spelling."
-unfoldable pub with_minus : Number → Instant
-with_minus (Number.Value n) = cond (eqb n 0) Instant.Malformed (Instant.Value (neg_ℤ (pos n)))
-with_minus Number.Malformed = Instant.Malformed
+unfoldable pub with_minus : Option ℕ → Option ℤ
+with_minus (Some n) = cond (eqb n 0) None (Some (neg_ℤ (pos n)))
+with_minus None = None
 
 -- the instant that a spelling is, in tenths: "an instant may carry a minus"
-unfoldable pub instant_of : List ℕ → Instant
+unfoldable pub instant_of : List ℕ → Option ℤ
 instant_of s = cond (eqb (get_or s 0 0) 45) (with_minus (length_of (drop 1 s))) (without_minus (length_of s))
-
--- As the code takes them apart: a length's whole milliseconds, how many bytes they are, and the byte of its tenth; and how many bytes an instant's minus takes
-unfoldable pub parts_of : List ℕ → Parts
-parts_of s = cond (has_point s) (record { whole = length s - 2; tenth = get_or s (length s - 1) 0 }) (record { whole = length s; tenth = 48 })
-
-unfoldable pub sign_size : List ℕ → ℕ
-sign_size s = cond (eqb (get_or s 0 0) 45) 1 0
 
 -- the byte of a digit
 abbrev pub digit : ℕ → ℕ
@@ -110,11 +99,11 @@ spelled z = signed spelled_number z
 abbrev pub spelled_instant : ℤ → List ℕ
 spelled_instant z = signed spelled_length z
 
--- a number in either of these forms, with a point or without
-unfoldable pub spelled_in : Bool → ℕ → List ℕ
-spelled_in point n = cond point (spelled_length n) (spelled_number n)
+-- how many bytes of a spelling are written: all, where the output is not too short
+unfoldable pub written : List ℕ → List ℕ → Option ℕ
+written s out = cond (leb (length s) (length out)) (Some (length s)) None
 
--- how many bytes of a spelling are written: all, or none where the output is too short
+-- the same with 0 where it is too short, as C has it
 unfoldable pub written_length : List ℕ → List ℕ → ℕ
 written_length s out = cond (leb (length s) (length out)) (length s) 0
 

@@ -1,7 +1,5 @@
 -- What is claimed of lengths and instants on paper; no proof stands here. proofs/Tenths.antt proves it.
-use Rattle.std.specs.Prelude.{ℕ, ◌*◌, ◌<◌, ◌≤◌, ◌^◌, ◌≡◌, ◌⊎◌, List, [], ◌∷◌, ◌++◌, pos, neg_ℤ, nat_abs, length}
-use Rattle.decimal.specs.declared.Number.{Number}
-use Rattle.decimal.specs.declared.Instant.{Instant}
+use Rattle.std.specs.Prelude.{ℕ, ◌*◌, ◌<◌, ◌≤◌, ◌^◌, ◌≡◌, ◌⊎◌, List, [], ◌∷◌, ◌++◌, pos, neg_ℤ, nat_abs, length, Some}
 use Rattle.decimal.specs.Spelling.{number_of, length_of, instant_of, spelled_length, spelled_instant}
 
 -- `.0`
@@ -21,16 +19,16 @@ pub record SpellingsHold {A : Type 0} (Reads : List ℕ → A → Type 0) (HasRo
 
 -- "1 to 9 digits of an instant or length stand before the point": ten digits with the one behind it
 abbrev pub LengthsHold : Type 0
-LengthsHold = SpellingsHold (λ s n. length_of s ≡ Number.Value n) (λ n. n < 10 ^ 10) spelled_length
+LengthsHold = SpellingsHold (λ s n. length_of s ≡ Some n) (λ n. n < 10 ^ 10) spelled_length
 
 abbrev pub InstantsHold : Type 0
-InstantsHold = SpellingsHold (λ s z. instant_of s ≡ Instant.Value z) (λ z. nat_abs z < 10 ^ 10) spelled_instant
+InstantsHold = SpellingsHold (λ s z. instant_of s ≡ Some z) (λ z. nat_abs z < 10 ^ 10) spelled_instant
 
 -- "without a point they are whole milliseconds": what was a sound number of at most 9 digits before request N11 is a length and an instant still
 pub record WholeHolds (s : List ℕ) (n : ℕ) : Type 0 where
-  pub length : length_of s ≡ Number.Value (n * 10)
-  pub instant : instant_of s ≡ Instant.Value (pos (n * 10))
-  pub before : 0 < n → instant_of (45 ∷ s) ≡ Instant.Value (neg_ℤ (pos (n * 10)))
+  pub length : length_of s ≡ Some (n * 10)
+  pub instant : instant_of s ≡ Some (pos (n * 10))
+  pub before : 0 < n → instant_of (45 ∷ s) ≡ Some (neg_ℤ (pos (n * 10)))
 
 abbrev pub WholesHold : Type 0
-WholesHold = (s : List ℕ) (n : ℕ) → length s ≤ 9 → number_of s ≡ Number.Value n → WholeHolds s n
+WholesHold = (s : List ℕ) (n : ℕ) → length s ≤ 9 → number_of s ≡ Some n → WholeHolds s n

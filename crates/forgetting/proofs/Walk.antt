@@ -1,5 +1,5 @@
 -- The walk over the rows: before the first, one row more, past the last. No code here.
-use Prim.Native.Nat.{ℕ, zero, suc, ◌+◌, ◌*◌, ◌%◌, ◌≤◌, ◌<◌}
+use Prim.Native.Nat.{ℕ, zero, suc, ◌+◌, ◌-◌, ◌*◌, ◌%◌, ◌≤◌, ◌<◌}
 use native.Mathlib.Omega.{arith}
 use native.Mathlib.Decide.{ℕ_discrete}
 use native.Mathlib.Numerals.{add-one}
@@ -16,7 +16,7 @@ use Rattle.model.specs.Order.{Row, row}
 use Rattle.model.specs.RowSteps.{row_at, is_late, moved}
 use Rattle.table.specs.Table.{cell, table_row, rows_in, put_row}
 use Rattle.table.proofs.Rows.{rows_none, rows_snoc, length_rows, row_at_lem, length_put, rows_put, drop_put}
-use Rattle.forgetting.specs.Walk.{shift_at, place_at, plain, plain_rows, marked, with_references, moved_row, kept_by, RowsReady, AllLate, Markable, Movable, Sifted}
+use Rattle.forgetting.specs.Walk.{shift_at, place_at, plain, plain_rows, marked, with_references, moved_row, kept_by, RowsReady, AllLate, Movable, Sifted}
 use Rattle.forgetting.proofs.References.{references_same, references_id}
 use Rattle.forgetting.proofs.Places.{keep_pass, keep_fail, placed_pass, placed_fail, placed_le, placed_grows, placed_still}
 use Rattle.forgetting.proofs.Marks.{low_of, plain_low, plain_references, pos_above, set_head, set_own, set_cell, set_rows, Goes, put_marks}
@@ -28,11 +28,10 @@ written event f rs r = with_references (event r.entry) (moved f rs) r
 abbrev pub done_rows : (ℕ → Bool) → ℤ → List Row → ℕ → List Row
 done_rows event f rs i = map (written event f rs) (keep (is_late f) (take i rs))
 
--- the walk at row i: p rows are kept and m is the next mark, so that each row dropped counts 32; which rows are kept, what lies behind, and the
--- marks of the rows passed
-pub record Walked (event : ℕ → Bool) (f : ℤ) (rows : ℕ) (t₀ : List ℤ) (i p m : ℕ) (t : List ℤ) : Type 0 where
+-- the walk at row i: p rows are kept; which rows these are, what lies behind, and the marks of the rows passed
+pub record Walked (event : ℕ → Bool) (f : ℤ) (rows : ℕ) (t₀ : List ℤ) (i p : ℕ) (t : List ℤ) : Type 0 where
   pub within : i ≤ rows
-  pub sum : p * 32 + m ≡ i * 32
+  pub low : p ≤ i
   pub count : p ≡ moved f (rows_in rows t₀) i
   pub size : length t ≡ length t₀
   pub done : plain_rows p t ≡ done_rows event f (rows_in rows t₀) i
@@ -74,14 +73,14 @@ module _ {event : ℕ → Bool} (f : ℤ) {rows : ℕ} {t₀ : List ℤ} (ok : R
         references_same (event r.entry) (moved f (rows_in rows t₀)) (λ j. j) i r (ok.each i h).left (ok.each i h).right still
         ∙ references_id (event r.entry) r
 
-    walk_still : Walked event f rows t₀ i i 0 t₀ → le_z f (cell t₀ i 3) ≡ true → Walked event f rows t₀ (i + 1) (i + 1) 0 t₀
+    walk_still : Walked event f rows t₀ i i t₀ → le_z f (cell t₀ i 3) ≡ true → Walked event f rows t₀ (i + 1) (i + 1) t₀
     walk_still w e =
         let rs = rows_in rows t₀ in
         let r = table_row t₀ i in
         let still : (j : ℕ) → j ≤ i → moved f rs j ≡ j = λ j l. placed_still (is_late f) rs i j l (sym w.count) in
         record {
           within = omega arith;
-          sum = omega arith;
+          low = omega arith;
           count = omega (arith, w.count, placed_pass (is_late f) rs i inside (start true e));
           size = refl;
           done = rw (add-one i, rows_snoc i t₀, map-append plain (rows_in i t₀) (r ∷ []), ← add-one i, done_late e, w.done, moves_still (λ j l. still j (omega arith)), plain_low r (ok.each i h).below);
@@ -90,11 +89,11 @@ module _ {event : ℕ → Bool} (f : ℤ) {rows : ℕ} {t₀ : List ℤ} (ok : R
         }
 
   -- before the first row that is dropped
-  pub walk_holds : (n : ℕ) → n ≤ rows → AllLate f n t₀ → Walked event f rows t₀ n n 0 t₀
-  walk_holds zero h late = record { within = h; sum = refl; count = refl; size = refl; done = ap (map plain) (rows_none t₀); behind = refl; marks = λ j g. absurd (omega arith) }
+  pub walk_holds : (n : ℕ) → n ≤ rows → AllLate f n t₀ → Walked event f rows t₀ n n t₀
+  walk_holds zero h late = record { within = h; low = omega arith; count = refl; size = refl; done = ap (map plain) (rows_none t₀); behind = refl; marks = λ j g. absurd (omega arith) }
   walk_holds (suc n) h late = rw (add-one n) at (walk_still n (omega arith) (walk_holds n (omega arith) (λ j g. late j (omega arith))) (late n (omega arith)))
 
-  module _ {i p m : ℕ} {t : List ℤ} (w : Walked event f rows t₀ i p m t) (h : i < rows) where
+  module _ {i p : ℕ} {t : List ℤ} (w : Walked event f rows t₀ i p t) (h : i < rows) where
     -- row i is as it was
     cells : (k : ℕ) → cell t i k ≡ cell t₀ i k
     cells k = sym (get_or-drop (i * 5) t k (pos 0)) ∙ ap (λ l. get_or l k (pos 0)) w.behind ∙ get_or-drop (i * 5) t₀ k (pos 0)
@@ -102,17 +101,10 @@ module _ {event : ℕ → Bool} (f : ℤ) {rows : ℕ} {t₀ : List ℤ} (ok : R
     small : nat_abs (cell t i 0) < 32
     small = rw (cells 0) (ok.each i h).below
 
-    walk_low : p ≤ i
-    walk_low = omega (arith, w.sum)
+    -- the mark, 32 times the rows dropped, and the table with it
+    abbrev m : ℕ
+    m = (i - p) * 32
 
-    pub walk_marks : Markable i m t
-    walk_marks = record {
-      entry = record { few = omega (arith, ok.few); fit = omega (arith, ok.fit, w.size); above = rw (cells 0) (ok.each i h).above };
-      most = omega (arith, w.sum);
-      below = small;
-    }
-
-    -- the mark, and the table with it
     abbrev mark : ℤ
     mark = pos (nat_abs (cell t i 0) + m)
 
@@ -129,17 +121,14 @@ module _ {event : ℕ → Bool} (f : ℤ) {rows : ℕ} {t₀ : List ℤ} (ok : R
     marks_all j l = go (ℕ_discrete j i)
       where
         go : Dec (j ≡ i) → Goes after j (moved f (rows_in rows t₀) j)
-        go (yes q) = rw (q, own_mark) (pos_above (nat_abs (cell t i 0) + m), omega (arith, w.count, w.sum, small))
+        go (yes q) = rw (q, own_mark) (pos_above (nat_abs (cell t i 0) + m), omega (arith, w.count, w.low, small))
         go (no d) = rw (set_cell t i mark j 0 (omega arith) d) (w.marks j (omega arith))
-
-    pub walk_small : (e : ℕ) → e ≡ nat_abs (cell t i 0) → e < 32
-    walk_small e x = rw x small
 
     pub walk_asks : (e : ℕ) (b : Bool) (u : List ℤ) → e ≡ nat_abs (cell t i 0) → b ≡ event e → u ≡ after → Movable b i p e u
     walk_asks e b u x q y = rw (q, x, y) (record {
       few = omega (arith, ok.few);
       fit = omega (arith, ok.fit, w.size, length-set t (i * 5) mark);
-      lower = walk_low;
+      lower = w.low;
       small = small;
       left = λ q. rw (own 1 (omega arith)) ((ok.each i h).left (ap (λ z. event (nat_abs z)) (sym (cells 0)) ∙ q));
       right = rw (own 2 (omega arith)) (ok.each i h).right;
@@ -173,58 +162,58 @@ module _ {event : ℕ → Bool} (f : ℤ) {rows : ℕ} {t₀ : List ℤ} (ok : R
         go false = refl
 
     room : p * 5 + 5 ≤ length after
-    room = omega (arith, ok.fit, w.size, length-set t (i * 5) mark, walk_low)
+    room = omega (arith, ok.fit, w.size, length-set t (i * 5) mark, w.low)
 
     behind_mark : drop ((i + 1) * 5) after ≡ drop ((i + 1) * 5) t₀
     behind_mark = drop-set-lt ((i + 1) * 5) t (i * 5) mark (omega arith) ∙ drop_more i t t₀ w.behind
 
     -- one row more: kept
-    walk_late : le_z f (cell after i 3) ≡ true → Walked event f rows t₀ (i + 1) (p + 1) m (put_row p put after)
+    walk_late : le_z f (cell after i 3) ≡ true → Walked event f rows t₀ (i + 1) (p + 1) (put_row p put after)
     walk_late q =
         let rs = rows_in rows t₀ in
         let e = nat_abs (cell t i 0) in
         let late : le_z f (cell t₀ i 3) ≡ true = rw (own 3 (omega arith)) at q in
         record {
           within = omega arith;
-          sum = omega (arith, w.sum);
+          low = omega (arith, w.low);
           count = omega (arith, w.count, placed_pass (is_late f) rs i (inside i h) (start i h true late));
           size = length_put p put after ∙ length-set t (i * 5) mark ∙ w.size;
           done =
               ap (λ k. plain_rows k (put_row p put after)) (add-one p)
               ∙ ap (map plain) (rows_put p put after room)
               ∙ map-append plain (rows_in p after) (put ∷ [])
-              ∙ rw (set_rows t i mark p walk_low, w.done, row_moved) (sym (done_late i h late));
-          behind = drop_put p ((i + 1) * 5) put after (omega (arith, walk_low)) ∙ behind_mark;
+              ∙ rw (set_rows t i mark p w.low, w.done, row_moved) (sym (done_late i h late));
+          behind = drop_put p ((i + 1) * 5) put after (omega (arith, w.low)) ∙ behind_mark;
           marks = λ j l. put_marks after p put e small put_is room j _ (marks_all j l);
         }
 
     -- or dropped
-    walk_early : le_z f (cell after i 3) ≡ false → Walked event f rows t₀ (i + 1) p (m + 32) after
+    walk_early : le_z f (cell after i 3) ≡ false → Walked event f rows t₀ (i + 1) p after
     walk_early q =
         let rs = rows_in rows t₀ in
         let early : le_z f (cell t₀ i 3) ≡ false = rw (own 3 (omega arith)) at q in
         record {
           within = omega arith;
-          sum = omega (arith, w.sum);
+          low = omega (arith, w.low);
           count = w.count ∙ sym (placed_fail (is_late f) rs i (inside i h) (start i h false early));
           size = length-set t (i * 5) mark ∙ w.size;
-          done = ap (map plain) (set_rows t i mark p walk_low) ∙ w.done ∙ sym (done_early i h early);
+          done = ap (map plain) (set_rows t i mark p w.low) ∙ w.done ∙ sym (done_early i h early);
           behind = behind_mark;
           marks = marks_all;
         }
 
-    pub walk_kept : (e : ℕ) (b : Bool) (u v : List ℤ) → e ≡ nat_abs (cell t i 0) → b ≡ event e → u ≡ after → lt_z (cell u i 3) f ≡ false → v ≡ put_row p (moved_row b i p e u) u → Walked event f rows t₀ (i + 1) (p + 1) m v
+    pub walk_kept : (e : ℕ) (b : Bool) (u v : List ℤ) → e ≡ nat_abs (cell t i 0) → b ≡ event e → u ≡ after → lt_z (cell u i 3) f ≡ false → v ≡ put_row p (moved_row b i p e u) u → Walked event f rows t₀ (i + 1) (p + 1) v
     walk_kept e b u v x d y q z =
         let late : le_z f (cell after i 3) ≡ true = rw (← y) (omega (arith, signed)) in
         rw (z, d, x, y) (walk_late late)
 
-    pub walk_dropped : (u : List ℤ) → u ≡ after → lt_z (cell u i 3) f ≡ true → Walked event f rows t₀ (i + 1) p (m + 32) u
+    pub walk_dropped : (u : List ℤ) → u ≡ after → lt_z (cell u i 3) f ≡ true → Walked event f rows t₀ (i + 1) p u
     walk_dropped u y q =
         let early : le_z f (cell after i 3) ≡ false = rw (← y) (omega (arith, signed)) in
         rw y (walk_early early)
 
   -- past the last row
-  module _ {first i p m : ℕ} {t : List ℤ} (w : Walked event f rows t₀ i p m t) (e : i ≡ rows) (few : first ≤ rows) (late : AllLate f first t₀) where
+  module _ {first i p : ℕ} {t : List ℤ} (w : Walked event f rows t₀ i p t) (e : i ≡ rows) (few : first ≤ rows) (late : AllLate f first t₀) where
     all_done : done_rows event f (rows_in rows t₀) i ≡ kept_by event f (rows_in rows t₀)
     unfolding kept_by
     all_done = rw (take_all i (rows_in rows t₀) (omega (arith, length_rows rows t₀)))

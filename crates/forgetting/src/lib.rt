@@ -22,26 +22,24 @@ pub fn forget(chart: Chart, state: WatchState, table: &mut [i32], floor: i32) ->
 {
     let rows = state.rows;
     let arities = table::arities_of(chart);
-    let first = first_early(table, rows, floor);
-    let kept = keep_rows(arities, table, first, rows, floor);
+    let first = late_rows(table, rows, floor);
+    let kept = keep_rows(&arities, table, first, rows, floor);
     restore(table, first, kept);
     table::zero_part(table, kept * 5, rows * 5);
     kept
 }
 
-// The first row that starts before the floor, or how many rows there are. One look at each row before it.
-fn first_early(table: &[i32], rows: usize, floor: i32) -> usize
+// How many rows there are before the first that starts before the floor. One look at each of them.
+fn late_rows(table: &[i32], rows: usize, floor: i32) -> usize
     requires { (rows ≤ 65535) × (rows * 5 ≤ length table.now) }
     ensures { (result ≤ rows) × AllLate floor result table.now }
 {
-    let mut i: usize = 0;
-    while i < rows {
+    for i in 0..rows {
         if is_early(table, i, floor) {
             return i;
         }
-        i += 1;
     }
-    i
+    rows
 }
 
 // Whether row i starts before the floor.
@@ -49,28 +47,20 @@ fn is_early(table: &[i32], i: usize, floor: i32) -> bool
     requires { (i < 65535) × (i * 5 + 5 ≤ length table.now) }
     ensures { result ≡ lt_z (cell table.now i 3) floor }
 {
-    let start = table[i * 5 + 3];
-    interval::is_before(start, floor)
+    table[i * 5 + 3] < floor
 }
 
 // The walk: a row's place is how many rows are kept before it. Every row passed is marked with how far it moves, for the references to
 // it: 32 times the rows dropped so far. One look at each row from the first on.
-fn keep_rows(arities: [u8; 32], table: &mut [i32], first: usize, rows: usize, floor: i32) -> usize
-    requires { RowsReady (event_in arities) rows table.old × (first ≤ rows) × AllLate floor first table.old }
-    ensures { Sifted (event_in arities) floor first rows table.old result table.new }
+fn keep_rows(arities: &[u8; 32], table: &mut [i32], first: usize, rows: usize, floor: i32) -> usize
+    requires { RowsReady (event_in arities.now) rows table.old × (first ≤ rows) × AllLate floor first table.old }
+    ensures { Sifted (event_in arities.now) floor first rows table.old result table.new }
 {
     let mut kept = first;
-    let mut mark: usize = 0;
-    let mut i = first;
-    while i < rows {
-        let r = i;
-        i += 1;
-        let entry = mark_row(table, r, mark);
-        if is_early(table, r, floor) {
-            mark += 32;
-        } else {
-            let arity = arities[entry];
-            move_row(table, r, kept, entry, arity == 0);
+    for i in first..rows {
+        let entry = mark_row(table, i, (i - kept) * 32);
+        if !is_early(table, i, floor) {
+            move_row(arities, table, i, kept, entry);
             kept += 1;
         }
     }
@@ -89,18 +79,16 @@ fn mark_row(table: &mut [i32], i: usize, mark: usize) -> usize
 
 // Writes row i, of this entry, with its references renumbered, at place p, which keeps its mark. The left number of an event's row is a
 // serial and stays.
-fn move_row(table: &mut [i32], i: usize, p: usize, entry: usize, event: bool)
-    requires { Movable event i p entry table.old }
-    ensures { table.new ≡ put_row p (moved_row event i p entry table.old) table.old }
+fn move_row(arities: &[u8; 32], table: &mut [i32], i: usize, p: usize, entry: usize)
+    requires { Movable (event_in arities.now entry) i p entry table.old }
+    ensures { table.new ≡ put_row p (moved_row (event_in arities.now entry) i p entry table.old) table.old }
 {
     let mut row = table::row_at(table, i);
     row.entry = (entry + shift_at(table, p) * 32) as i32;
-    if event {
-        table::put_row(table, p, row);
-        return;
+    if arities[entry] != 0 {
+        row.left = place_of(row.left, table);
+        row.right = place_of(row.right, table);
     }
-    row.left = place_of(row.left, table);
-    row.right = place_of(row.right, table);
     table::put_row(table, p, row);
 }
 
@@ -113,8 +101,7 @@ fn place_of(z: i32, table: &[i32]) -> i32
         return z;
     }
     let j = z as usize;
-    let shift = shift_at(table, j);
-    (j - shift) as i32
+    (j - shift_at(table, j)) as i32
 }
 
 // How far row j moves, by its mark.
@@ -130,11 +117,9 @@ fn restore(table: &mut [i32], first: usize, n: usize)
     requires { Restorable first n table.old }
     ensures { table.new ≡ put_rows 0 (plain_rows n table.old) table.old }
 {
-    let mut i = first;
-    while i < n {
+    for i in first..n {
         let entry = entry_at(table, i);
         put_entry(table, i, entry % 32);
-        i += 1;
     }
 }
 

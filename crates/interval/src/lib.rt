@@ -1,15 +1,14 @@
-// Instants and lengths, in tenths of a millisecond, which clock marks and forgets are refused, and the conditions on intervals. The lowest crate:
-// every other crate goes by these contracts and by the laws of `proofs/Laws.antt`, and looks at no inequality itself. Every function takes constant
-// time and accepts every input. Comparisons are joined by `&` and `|`: each is as cheap as the branch that would spare it.
+// Instants and lengths, in tenths of a millisecond, which clock marks and forgets are refused, and the conditions on intervals. Every other crate goes by
+// these contracts and by the laws of `proofs/Laws.antt`. Every function takes constant time and accepts every input. Comparisons are joined by `&` and `|`:
+// each is as cheap as the branch that would spare it.
 #![tactic(auto)]
 
-ghost use Rattle.std.specs.Prelude.{◌≡◌, pos, ◌+ℤ◌, ◌-ℤ◌};
-ghost use Rattle.std.specs.Int.Signed.{lt_z, le_z};
+ghost use Rattle.std.specs.Prelude.{◌≡◌, ℤ, pos, ◌+ℤ◌, ◌-ℤ◌};
 ghost use Rattle.interval.specs.Instants.{is_instant, is_length, first_floor, is_mark_refused, is_forget_refused, eq_z, least, greatest};
 ghost use Rattle.interval.specs.Conditions.{is_related, ending_of, is_forbidding, has_length};
 
 // The operators of two operands that ask a condition of both intervals.
-#[derive(Clone, Copy)]
+#[derive(Clone, Copy, PartialEq, Eq)]
 pub enum Relation {
     Seq,
     And,
@@ -22,7 +21,7 @@ pub enum Relation {
 }
 
 // Where the two intervals of a related pair end, r the first and s the second. The whole ends where the later of them ends.
-#[derive(Clone, Copy)]
+#[derive(Clone, Copy, PartialEq, Eq)]
 pub enum Ending {
     Before, // r ends before s starts, and s ends where the whole ends
     Within, // r ends when s starts or later, and s ends where the whole ends
@@ -31,7 +30,7 @@ pub enum Ending {
 }
 
 // The early and the late edge of an absence: -[] -][ -[[ -]]
-#[derive(Clone, Copy)]
+#[derive(Clone, Copy, PartialEq, Eq)]
 pub enum Edges {
     ClosedClosed,
     OpenOpen,
@@ -40,35 +39,55 @@ pub enum Edges {
 }
 
 // The operators that pair r with the first s after it: cut; and change, where r is also the last before s.
-#[derive(Clone, Copy)]
+#[derive(Clone, Copy, PartialEq, Eq)]
 pub enum Nearest {
     Cut,
     Change,
 }
 
 // The operators that test how long one operand lasts.
-#[derive(Clone, Copy)]
+#[derive(Clone, Copy, PartialEq, Eq)]
 pub enum LengthTest {
     Lasts,
     AtMost,
     AtLeast,
 }
 
-// Whether x is in the range of the instants.
-pub fn is_instant(x: i32) -> bool
-    ensures { result ≡ is_instant x }
-{
-    (-1000000000 <= x) & (x <= 1000000000)
+// A whole number of tenths, held in 32 bits or, where it was read and is not known to be an instant, in 64.
+pub trait Tenths: Copy {
+    ghost tenths: { Self → ℤ };
+
+    fn tenths(self) -> i64
+        ensures { result ≡ tenths self };
 }
 
-// The same of a number that was read and is not known to fit an i32.
-pub fn is_wide_instant(z: i64) -> bool
-    ensures { result ≡ is_instant z }
+impl Tenths for i32 {
+    ghost tenths = { λ x. x };
+
+    fn tenths(self) -> i64 {
+        i64::from(self)
+    }
+}
+
+impl Tenths for i64 {
+    ghost tenths = { λ x. x };
+
+    fn tenths(self) -> i64 {
+        self
+    }
+}
+
+// Whether x is in the range of the instants.
+#[tactic(auto, unfolding(crate::specs::Instants::is_instant))]
+pub fn is_instant<T: Tenths>(x: T) -> bool
+    ensures { result ≡ is_instant (T.tenths x) }
 {
+    let z = x.tenths();
     (-1000000000 <= z) & (z <= 1000000000)
 }
 
 // Whether d is in the range of the lengths; as wide as numbers are read.
+#[tactic(auto, unfolding(crate::specs::Instants::is_length))]
 pub fn is_length(d: u64) -> bool
     ensures { result ≡ is_length d }
 {
@@ -78,68 +97,23 @@ pub fn is_length(d: u64) -> bool
 // The floor of a watch before any forget: the least instant.
 const FIRST_FLOOR: i32 = -1000000000;
 
+#[tactic(auto, unfolding(crate::specs::Instants::first_floor))]
 pub fn first_floor() -> i32
     ensures { result ≡ first_floor }
 {
     FIRST_FLOOR
 }
 
-// Whether a is before b.
-pub fn is_before(a: i32, b: i32) -> bool
-    ensures { result ≡ lt_z a b }
-{
-    a < b
-}
-
-// Whether a is before b or b itself.
-pub fn is_no_later(a: i32, b: i32) -> bool
-    ensures { result ≡ le_z a b }
-{
-    a <= b
-}
-
-// Both comparisons of numbers that are not known to fit an i32.
-pub fn is_wide_before(x: i64, y: i64) -> bool
-    ensures { result ≡ lt_z x y }
-{
-    x < y
-}
-
-pub fn is_wide_no_later(x: i64, y: i64) -> bool
-    ensures { result ≡ le_z x y }
-{
-    x <= y
-}
-
-// Whether a and b are one instant.
-pub fn is_same(a: i32, b: i32) -> bool
-    ensures { result ≡ eq_z a b }
-{
-    a == b
-}
-
-// The same of numbers that are not known to fit an i32.
-pub fn is_wide_same(x: i64, y: i64) -> bool
-    ensures { result ≡ eq_z x y }
-{
-    x == y
-}
-
 // Whether a clock mark at x is refused while `opened` is the open instant: it is out of range or not after it.
-pub fn is_mark_refused(opened: i32, x: i32) -> bool
-    ensures { result ≡ is_mark_refused opened x }
+#[tactic(auto, unfolding(crate::specs::Instants::is_mark_refused))]
+pub fn is_mark_refused<T: Tenths>(opened: T, x: T) -> bool
+    ensures { result ≡ is_mark_refused (T.tenths opened) (T.tenths x) }
 {
-    !is_instant(x) | (x <= opened)
-}
-
-// The same of numbers that are not known to fit an i32.
-pub fn is_wide_mark_refused(opened: i64, x: i64) -> bool
-    ensures { result ≡ is_mark_refused opened x }
-{
-    !is_wide_instant(x) | (x <= opened)
+    !is_instant(x) | (x.tenths() <= opened.tenths())
 }
 
 // Whether a forget of what starts before f is refused: f is below the floor, above the open instant or out of range.
+#[tactic(auto, unfolding(crate::specs::Instants::is_forget_refused))]
 pub fn is_forget_refused(floor: i32, opened: i32, f: i32) -> bool
     ensures { result ≡ is_forget_refused floor opened f }
 {
@@ -150,35 +124,35 @@ pub fn is_forget_refused(floor: i32, opened: i32, f: i32) -> bool
 pub fn least_start(a: i32, b: i32) -> i32
     ensures { result ≡ least a b }
 {
-    if a <= b { a } else { b }
+    a.min(b)
 }
 
 // The greatest of two ends.
 pub fn greatest_end(a: i32, b: i32) -> i32
     ensures { result ≡ greatest a b }
 {
-    if a <= b { b } else { a }
+    a.max(b)
 }
 
 // How long an interval lasts; wider than an instant, so that no difference of two i32 overflows.
 pub fn length_of(start: i32, end: i32) -> i64
     ensures { result ≡ end -ℤ start }
 {
-    (end as i64) - (start as i64)
+    i64::from(end) - i64::from(start)
 }
 
 // The end of a wait of d that begins at `end`; wider than an instant, so that no sum overflows.
 pub fn delayed(end: i32, d: u32) -> i64
     ensures { result ≡ end +ℤ pos d }
 {
-    (end as i64) + (d as i64)
+    i64::from(end) + i64::from(d)
 }
 
 // Where a wait of d begins that ends at x; as wide.
 pub fn earlier_by(x: i32, d: u32) -> i64
     ensures { result ≡ x -ℤ pos d }
 {
-    (x as i64) - (d as i64)
+    i64::from(x) - i64::from(d)
 }
 
 // Whether a wait of d that begins at `part` ends at `end`. Compared in 32 bits, once the sum is known to fit: an end that is widened takes the check of rows
@@ -186,22 +160,18 @@ pub fn earlier_by(x: i32, d: u32) -> i64
 pub fn is_delayed(part: i32, d: u32, end: i32) -> bool
     ensures { result ≡ eq_z end (part +ℤ pos d) }
 {
-    let z = delayed(part, d);
-    if 2147483647 < z {
-        return false;
-    }
-    end == z as i32
+    i32::try_from(delayed(part, d)).is_ok_and(|z| z == end)
 }
 
 // The end of a wait of d that begins at `end`, or the limit where that is no later.
 pub fn least_delayed(end: i32, d: u32, limit: i32) -> i32
     ensures { result ≡ least (end +ℤ pos d) limit }
 {
-    let z = delayed(end, d);
-    if z <= limit as i64 { z as i32 } else { limit }
+    i32::try_from(delayed(end, d)).map_or(limit, |z| z.min(limit))
 }
 
 // Whether the interval r, from rs to re, and the interval s, from ss to se, meet the condition of the operator c.
+#[tactic(auto, unfolding(crate::specs::Conditions::is_related))]
 pub fn is_related(c: Relation, rs: i32, re: i32, ss: i32, se: i32) -> bool
     ensures { result ≡ is_related c rs re ss se }
 {
@@ -218,6 +188,7 @@ pub fn is_related(c: Relation, rs: i32, re: i32, ss: i32, se: i32) -> bool
 }
 
 // Where two intervals r and s that meet the condition of c end.
+#[tactic(auto, unfolding(crate::specs::Conditions::ending_of))]
 pub fn ending_of(c: Relation) -> Ending
     ensures { result ≡ ending_of c }
 {
@@ -234,6 +205,7 @@ pub fn ending_of(c: Relation) -> Ending
 }
 
 // Whether the interval s forbids the interval r under an absence with these edges.
+#[tactic(auto, unfolding(crate::specs::Conditions::is_forbidding))]
 pub fn is_forbidding(e: Edges, rs: i32, re: i32, ss: i32, se: i32) -> bool
     ensures { result ≡ is_forbidding e rs re ss se }
 {
@@ -246,11 +218,12 @@ pub fn is_forbidding(e: Edges, rs: i32, re: i32, ss: i32, se: i32) -> bool
 }
 
 // Whether the interval lasts d as the test asks.
+#[tactic(auto, unfolding(crate::specs::Conditions::has_length))]
 pub fn has_length(t: LengthTest, d: u32, start: i32, end: i32) -> bool
     ensures { result ≡ has_length t d start end }
 {
     let n = length_of(start, end);
-    let m = d as i64;
+    let m = i64::from(d);
     match t {
         LengthTest::Lasts => n == m,
         LengthTest::AtMost => n <= m,

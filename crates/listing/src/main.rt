@@ -3,32 +3,31 @@
 // a refusal and of each row that the end-to-end theorem asks for.
 #![tactic(auto)]
 
-ghost use Rattle.std.specs.Prelude.{◌≤◌, ◌≡◌, true, IfSome, length, take};
+ghost use Rattle.std.specs.Prelude.{◌≤◌, ◌≡◌, true, ℕ, Option, Result, IfSome, length};
+ghost use Rattle.std.specs.declared.io.Error.{Error};
 ghost use Rattle.std.specs.Io.KnownBytes.{Appends, Keeps};
 ghost use Rattle.reading.specs.Readings.{Hands};
-ghost use Rattle.input.specs.Inputs.{PrintsInput};
+ghost use Rattle.input.specs.Inputs.{PrintsInput, front_of};
 ghost use Rattle.program.specs.Outcomes.{printed_for};
 ghost use Rattle.program.specs.Statements.{bytes_for};
 
-use input::Printed;
 use printing::{REFUSAL_SIZE, ROW_SIZE};
 use program::Format;
-use reading::Remembering;
 use std::io::{Read, Write};
 
 const OUTPUT_SIZE: usize = REFUSAL_SIZE + 3000 * ROW_SIZE;
 
 // What this program prints is a listing.
 fn run<R: Read, W: Write, E: Write>(
-    reader: &mut Remembering<R>,
+    reader: &mut R,
     writer: &mut W,
     errors: &mut E,
     table: &mut [i32],
     out: &mut [u8],
 ) -> bool
     requires { (length table.old ≡ 15000) × (bytes_for Format.Listing 3000 ≤ length out.old) }
-    ensures printed { (r : Printed) × PrintsInput Format.Listing (R.remaining reader.old.reader) (R.remaining reader.new.reader) table.old out.old r table.new out.new × Hands (W.contents writer.old) (W.contents writer.new) (take r.length out.new) result }
-    ensures whole { result ≡ true → IfSome (R.remaining reader.old.reader) (λ s. Appends (W.contents writer.old) (W.contents writer.new) (printed_for Format.Listing 3000 s)) }
+    ensures printed { (r : Result (Option ℕ) Error) × PrintsInput Format.Listing (R.remaining reader.old) (R.remaining reader.new) table.old out.old r table.new out.new × Hands (W.contents writer.old) (W.contents writer.new) (front_of r out.new) result }
+    ensures whole { result ≡ true → IfSome (R.remaining reader.old) (λ s. Appends (W.contents writer.old) (W.contents writer.new) (printed_for Format.Listing 3000 s)) }
     ensures silent { result ≡ true → Keeps (E.contents errors.old) (E.contents errors.new) }
 {
     input::run(
@@ -45,12 +44,8 @@ fn run<R: Read, W: Write, E: Write>(
 fn main(rt: HostRuntime) {
     let mut table = [0i32; 15000];
     let mut out = [0u8; OUTPUT_SIZE];
-    let mut reader = Remembering {
-        reader: rt.stdin(),
-        failure: None,
-    };
     run(
-        &mut reader,
+        &mut rt.stdin(),
         &mut rt.stdout(),
         &mut rt.stderr(),
         &mut table,

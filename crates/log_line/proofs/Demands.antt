@@ -9,11 +9,10 @@ use borrow.Author.Tests.{eqb-false}
 use lib.Dec.{eqb, leb}
 use lib.IntN.{ℤ, pos}
 use lib.ListN.{length}
+use Rattle.std.specs.Prelude.{Option, Some, None}
 use Rattle.text.specs.Text.{fields}
 use Rattle.text.proofs.Laws.{sizes, split_sizes}
 use Rattle.decimal.specs.Spelling.{number_of, instant_of}
-use Rattle.decimal.specs.declared.Number.{Number}
-use Rattle.decimal.specs.declared.Instant.{Instant}
 use Rattle.decimal.proofs.Laws.{number_few}
 use Rattle.decimal.proofs.Tenths.{instant_few}
 use Rattle.chart.specs.Operators.{place_of}
@@ -36,15 +35,15 @@ either : (b : Bool) (x y : LineAnswer) → Listed x → Listed y → Listed (con
 either true x y p q = p
 either false x y p q = q
 
-code_listed : (n : Number) → Listed (code_answer n)
+code_listed : (n : Option ℕ) → Listed (code_answer n)
 unfolding code_answer
-code_listed Number.Malformed = refused
-code_listed (Number.Value k) = either (leb k 255) (taken_line 1 (pos k)) refused_line (taken 1 (pos k)) refused
+code_listed None = refused
+code_listed (Some k) = either (leb k 255) (taken_line 1 (pos k)) refused_line (taken 1 (pos k)) refused
 
-instant_listed : (w : ℕ) (i : Instant) → Listed (instant_answer w i)
+instant_listed : (w : ℕ) (i : Option ℤ) → Listed (instant_answer w i)
 unfolding instant_answer
-instant_listed w Instant.Malformed = refused
-instant_listed w (Instant.Value z) = taken w z
+instant_listed w None = refused
+instant_listed w (Some z) = taken w z
 
 word_listed : (w : ℕ) (x : List ℕ) → Listed (word_answer w x)
 unfolding word_answer
@@ -68,15 +67,15 @@ pub demand_1 : Demand1
 demand_1 = record { numbers = λ s. (line_listed s).number; alone = λ s. (line_listed s).alone }
 
 -- A line that is taken: a word of at most 6 bytes and a field of at most 12.
-code_fits : (x : List ℕ) (n : Number) → number_of x ≡ n → (code_answer n).refusal ≡ 0 → length x ≤ 10
+code_fits : (x : List ℕ) (n : Option ℕ) → number_of x ≡ n → (code_answer n).refusal ≡ 0 → length x ≤ 10
 unfolding code_answer
-code_fits x (Number.Value k) e h = number_few x k e
-code_fits x Number.Malformed e h = absurd (omega arith)
+code_fits x (Some k) e h = number_few x k e
+code_fits x None e h = absurd (omega arith)
 
-instant_fits : (w : ℕ) (x : List ℕ) (i : Instant) → instant_of x ≡ i → (instant_answer w i).refusal ≡ 0 → length x ≤ 12
+instant_fits : (w : ℕ) (x : List ℕ) (i : Option ℤ) → instant_of x ≡ i → (instant_answer w i).refusal ≡ 0 → length x ≤ 12
 unfolding instant_answer
-instant_fits w x (Instant.Value z) e h = instant_few x z e
-instant_fits w x Instant.Malformed e h = absurd (omega arith)
+instant_fits w x (Some z) e h = instant_few x z e
+instant_fits w x None e h = absurd (omega arith)
 
 word_fits : (w : ℕ) (x : List ℕ) → (word_answer w x).refusal ≡ 0 → (w ≡ length call_words → ⊥) × (length x ≤ 12)
 unfolding word_answer

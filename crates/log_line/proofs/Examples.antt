@@ -4,72 +4,73 @@ use Prim.Native.Nat.{ℕ}
 use mathlib.Core.Path.{◌≡◌, refl}
 use mathlib.Core.List.{List, [], ◌∷◌, ◌++◌, map}
 use lib.IntN.{pos, negsuc}
+use Rattle.std.specs.Prelude.{Option, Some, None}
 use Rattle.text.specs.Text.{split}
 use Rattle.text.specs.Quoted.{bytes, tabbed, unended}
 use Rattle.decimal.specs.Spelling.{is_digit, all_digits, value_from, has_leading_zero, is_number, number_of, milliseconds_of, in_tenths, has_point, length_of, without_minus, with_minus, instant_of}
-use Rattle.chart.specs.Operators.{same_bytes, place_of}
+use Rattle.chart.specs.Operators.{place_of}
 use Rattle.log_line.specs.declared.Call.{Call}
-use Rattle.log_line.specs.declared.Call.TheVariants.{Open, Event, Clock, Forget, Malformed}
+use Rattle.log_line.specs.declared.Call.TheVariants.{Open, Event, Clock, Forget}
 use Rattle.log_line.specs.Log.{call_words, event_call, instant_call, word_call, fields_call, call_of}
 
--- a line, and the call that it asks for
+-- a line, and the call that it asks for, or none
 record Case : Type 0 where
   line : List ℕ
-  call : Call
+  call : Option Call
 
 infix 80 ◌⇒◌
-abbrev ◌⇒◌ : List ℕ → Call → Case
+abbrev ◌⇒◌ : List ℕ → Option Call → Case
 l ⇒ c = record { line = l; call = c }
 
 -- "Log lines: `open` instant (first line only), `event` code, `clock` instant, `forget` instant".
 -- An instant is in tenths: with a point and one digit, or in whole milliseconds. One out of range is refused by the call, with 8 or 11.
 abbrev taken : List Case
 taken =
-    unended "open -2" ⇒ Open (negsuc 19) ∷
-    unended "open -0.5" ⇒ Open (negsuc 4) ∷
-    unended "event 0" ⇒ Event 0 ∷
-    unended "event 255" ⇒ Event 255 ∷
-    unended "clock 999999999" ⇒ Clock (pos 9999999990) ∷
-    unended "clock 999999999.9" ⇒ Clock (pos 9999999999) ∷
-    unended "clock -999999999.9" ⇒ Clock (negsuc 9999999998) ∷
-    unended "forget 0" ⇒ Forget (pos 0) ∷
-    unended "forget 0.0" ⇒ Forget (pos 0) ∷ []
+    unended "open -2" ⇒ Some (Open (negsuc 19)) ∷
+    unended "open -0.5" ⇒ Some (Open (negsuc 4)) ∷
+    unended "event 0" ⇒ Some (Event 0) ∷
+    unended "event 255" ⇒ Some (Event 255) ∷
+    unended "clock 999999999" ⇒ Some (Clock (pos 9999999990)) ∷
+    unended "clock 999999999.9" ⇒ Some (Clock (pos 9999999999)) ∷
+    unended "clock -999999999.9" ⇒ Some (Clock (negsuc 9999999998)) ∷
+    unended "forget 0" ⇒ Some (Forget (pos 0)) ∷
+    unended "forget 0.0" ⇒ Some (Forget (pos 0)) ∷ []
 
 -- "7 a log line not of its form, a code above 255"
 abbrev malformed : List Case
 malformed =
     -- code
-    unended "event 256" ⇒ Malformed ∷
-    unended "event -1" ⇒ Malformed ∷
-    unended "event 01" ⇒ Malformed ∷
-    unended "event 1.0" ⇒ Malformed ∷
+    unended "event 256" ⇒ None ∷
+    unended "event -1" ⇒ None ∷
+    unended "event 01" ⇒ None ∷
+    unended "event 1.0" ⇒ None ∷
     -- instant: a minus before 0, two of them, a leading zero behind it, a plus, 10 digits; no digit before the point, none behind it, and two
-    unended "clock -0" ⇒ Malformed ∷
-    unended "clock -0.0" ⇒ Malformed ∷
-    unended "clock --1" ⇒ Malformed ∷
-    unended "clock -01" ⇒ Malformed ∷
-    unended "clock +1" ⇒ Malformed ∷
-    unended "clock 1000000000" ⇒ Malformed ∷
-    unended "clock -1000000000.0" ⇒ Malformed ∷
-    unended "clock .5" ⇒ Malformed ∷
-    unended "clock 1." ⇒ Malformed ∷
-    unended "clock 1.55" ⇒ Malformed ∷
+    unended "clock -0" ⇒ None ∷
+    unended "clock -0.0" ⇒ None ∷
+    unended "clock --1" ⇒ None ∷
+    unended "clock -01" ⇒ None ∷
+    unended "clock +1" ⇒ None ∷
+    unended "clock 1000000000" ⇒ None ∷
+    unended "clock -1000000000.0" ⇒ None ∷
+    unended "clock .5" ⇒ None ∷
+    unended "clock 1." ⇒ None ∷
+    unended "clock 1.55" ⇒ None ∷
     -- fields: a tab behind, in front, two of them, a space for a tab, one field too many, too few, none
-    unended "clock 1 " ⇒ Malformed ∷
-    unended " open 1" ⇒ Malformed ∷
-    unended "forget  1" ⇒ Malformed ∷
-    bytes "open 1" ⇒ Malformed ∷
-    unended "event 1 1" ⇒ Malformed ∷
-    unended "open" ⇒ Malformed ∷
-    unended "" ⇒ Malformed ∷
+    unended "clock 1 " ⇒ None ∷
+    unended " open 1" ⇒ None ∷
+    unended "forget  1" ⇒ None ∷
+    bytes "open 1" ⇒ None ∷
+    unended "event 1 1" ⇒ None ∷
+    unended "open" ⇒ None ∷
+    unended "" ⇒ None ∷
     -- word: none, in capitals, with a letter too many
-    unended "close 1" ⇒ Malformed ∷
-    unended "Event 1" ⇒ Malformed ∷
-    unended "events 1" ⇒ Malformed ∷ []
+    unended "close 1" ⇒ None ∷
+    unended "Event 1" ⇒ None ∷
+    unended "events 1" ⇒ None ∷ []
 
 cases : List Case
 cases = taken ++ malformed
 
 examples : map (λ (c : Case). call_of c.line) cases ≡ map (λ (c : Case). c.call) cases
-unfolding cases bytes tabbed unended split is_digit all_digits value_from has_leading_zero is_number number_of milliseconds_of in_tenths has_point length_of without_minus with_minus instant_of same_bytes place_of call_words event_call instant_call word_call fields_call call_of
+unfolding cases bytes tabbed unended split is_digit all_digits value_from has_leading_zero is_number number_of milliseconds_of in_tenths has_point length_of without_minus with_minus instant_of place_of call_words event_call instant_call word_call fields_call call_of
 examples = refl

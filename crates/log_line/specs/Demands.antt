@@ -1,9 +1,8 @@
 -- What is claimed of a line of the log: demand 1 of the request, that the limit of 64 bytes turns no line back, and that what is written is read back; no proof
 -- stands here. proofs/Demands.antt and proofs/ReadBack.antt prove it.
-use Rattle.std.specs.Prelude.{ℕ, ◌+◌, ◌<◌, ◌≡◌, ◌⊎◌, Bool, true, false, List, [], ◌∷◌, ◌++◌, leb, length}
-use Rattle.interval.specs.Instants.{is_instant}
+use Rattle.std.specs.Prelude.{ℕ, ◌+◌, ◌<◌, ◌≡◌, ◌⊎◌, true, List, [], ◌∷◌, ◌++◌, length, Some}
 use Rattle.log_line.specs.declared.Call.{Call}
-use Rattle.log_line.specs.Log.{line_answer, calls_of, line_of}
+use Rattle.log_line.specs.Log.{line_answer, calls_of, has_line, line_of}
 
 -- Demand 1: "every call ... refuses by a listed number what it cannot take"
 pub record Demand1 : Type 0 where
@@ -16,14 +15,6 @@ pub record Demand1 : Type 0 where
 abbrev pub LinesFit : Type 0
 LinesFit = (s : List ℕ) → (line_answer s).refusal ≡ 0 → length s + 1 < 64
 
--- the calls that have a line: a code to 255, an instant in range
-unfoldable pub has_line : Call → Bool
-has_line Call.Malformed = false
-has_line (Call.Open o) = is_instant o
-has_line (Call.Event k) = leb k 255
-has_line (Call.Clock x) = is_instant x
-has_line (Call.Forget f) = is_instant f
-
 -- a line that was written, in front of any others, is read as its call
 abbrev pub LinesReadBack : Type 0
-LinesReadBack = (c : Call) → has_line c ≡ true → (rest : List ℕ) → calls_of (line_of c ++ rest) ≡ c ∷ calls_of rest
+LinesReadBack = (c : Call) → has_line c ≡ true → (rest : List ℕ) → calls_of (line_of c ++ rest) ≡ Some c ∷ calls_of rest

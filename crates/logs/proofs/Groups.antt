@@ -2,7 +2,7 @@
 use Prim.Native.Nat.{ℕ}
 use native.Mathlib.Omega.{arith}
 use mathlib.Core.Path.{◌≡◌, refl, sym, ap, ◌∙◌, subst}
-use mathlib.Core.Bool.{Bool, true, false, cond, ◌||◌}
+use mathlib.Core.Bool.{Bool, true, false, cond, ◌||◌, or_assoc}
 use mathlib.Core.List.{List, [], ◌∷◌, ◌++◌, append_assoc, append-nil}
 use lib.IntN.{ℤ}
 use lib.Signed.{lt_z}
@@ -94,10 +94,10 @@ put_codes t a b xs c e f = go (eq_z b.instant t) refl
         rw (differ a.instant t (omega (arith, signed)), k.0)
     go false d = refl
 
-put_instant : (t : ℤ) (p q r : Bool) → (p || (q || r)) ≡ (q || (p || r))
-put_instant t true true r = refl
-put_instant t true false r = refl
-put_instant t false q r = refl
+or_left : (p q r : Bool) → (p || (q || r)) ≡ (q || (p || r))
+or_left true true r = refl
+or_left true false r = refl
+or_left false q r = refl
 
 join_codes : (t : ℤ) (a b : Group) (xs : List Group) (c : List ℕ) → a.instant ≡ b.instant → Follow a.instant xs → cond (eq_z a.instant t) (a.codes ++ b.codes) [] ++ (codes_at t xs ++ c) ≡ (codes_here t a ++ codes_at t xs) ++ (codes_here t b ++ c)
 join_codes t a b xs c e f = rw (← e) (go (eq_z a.instant t) refl)
@@ -116,24 +116,16 @@ merged_codes t u (first {a} {b} {xs} {ys} {ms} e m) f = ap (λ l. codes_here t a
 merged_codes t u (second {a} {b} {xs} {ys} {ms} e m) f = ap (λ l. codes_here t b ++ l) (merged_codes t u m f) ∙ put_codes t a b xs (codes_at t ys) e f.2
 merged_codes t u (both {a} {b} {xs} {ys} {ms} e m) f = ap (λ l. cond (eq_z a.instant t) (a.codes ++ b.codes) [] ++ l) (merged_codes t a.instant m f.2) ∙ join_codes t a b xs (codes_at t ys) e f.2
 
-or_assoc : (p q r : Bool) → (p || (q || r)) ≡ ((p || q) || r)
-or_assoc true q r = refl
-or_assoc false q r = refl
-
 or_same : (p q r : Bool) → (p || (q || r)) ≡ ((p || q) || (p || r))
 or_same true q r = refl
 or_same false q r = refl
 
-or_nil : (p : Bool) → (p || false) ≡ p
-or_nil true = refl
-or_nil false = refl
-
 pub merged_instants : (t : ℤ) {xs ys ms : List Group} → Merged xs ys ms → has_instant t ms ≡ (has_instant t xs || has_instant t ys)
 unfolding has_instant
 merged_instants t second_only = refl
-merged_instants t (first_only {a} {xs} {ms} m) = ap (λ l. eq_z a.instant t || l) (merged_instants t m) ∙ or_assoc (eq_z a.instant t) (has_instant t xs) false
-merged_instants t (first {a} {b} {xs} {ys} {ms} e m) = ap (λ l. eq_z a.instant t || l) (merged_instants t m) ∙ or_assoc (eq_z a.instant t) (has_instant t xs) (has_instant t (b ∷ ys))
-merged_instants t (second {a} {b} {xs} {ys} {ms} e m) = ap (λ l. eq_z b.instant t || l) (merged_instants t m) ∙ put_instant t (eq_z b.instant t) (has_instant t (a ∷ xs)) (has_instant t ys)
+merged_instants t (first_only {a} {xs} {ms} m) = ap (λ l. eq_z a.instant t || l) (merged_instants t m) ∙ sym (or_assoc (eq_z a.instant t) (has_instant t xs) false)
+merged_instants t (first {a} {b} {xs} {ys} {ms} e m) = ap (λ l. eq_z a.instant t || l) (merged_instants t m) ∙ sym (or_assoc (eq_z a.instant t) (has_instant t xs) (has_instant t (b ∷ ys)))
+merged_instants t (second {a} {b} {xs} {ys} {ms} e m) = ap (λ l. eq_z b.instant t || l) (merged_instants t m) ∙ or_left (eq_z b.instant t) (has_instant t (a ∷ xs)) (has_instant t ys)
 merged_instants t (both {a} {b} {xs} {ys} {ms} e m) = ap (λ l. eq_z a.instant t || l) (merged_instants t m) ∙ or_same (eq_z a.instant t) (has_instant t xs) (has_instant t ys) ∙ ap (λ z. (eq_z a.instant t || has_instant t xs) || (eq_z z t || has_instant t ys)) e
 
 -- events

@@ -1,11 +1,12 @@
 -- Codes and marks of a log that is taken: they ascend, and are its groups.
 use Prim.Native.Nat.{ℕ, suc}
 use native.Mathlib.Omega.{arith}
-use mathlib.Core.Path.{◌≡◌, refl, subst}
+use mathlib.Core.Path.{◌≡◌, refl}
 use mathlib.Core.Bool.{Bool, true, false, cond}
 use mathlib.Core.List.{List, [], ◌∷◌, map}
 use lib.Dec.{eqb, leb}
 use lib.IntN.{ℤ}
+use Rattle.std.specs.Prelude.{Option, Some, None}
 use Rattle.interval.specs.Instants.{is_instant, is_mark_refused}
 use Rattle.text.specs.Text.{Line, lines}
 use Rattle.log_line.specs.Log.{call_in, calls_of}
@@ -51,20 +52,17 @@ unfolding IsLog
 from_log o is e f = (e, first_codes o is f, after_follow o is f)
 
 -- every code that was read is one
-coded_line : (l : Line) (c : Call) → call_in l ≡ c → CodeFits c
-coded_line l c e = subst CodeFits e (call_fits l)
-
 items_coded : (ls : List Line) → Coded (items_of (map call_in ls))
 unfolding Coded items_of CodeFits
 items_coded [] = tt
 items_coded (l ∷ ls) = go (call_in l) refl (items_coded ls)
   where
-    go : (c : Call) → call_in l ≡ c → Coded (items_of (map call_in ls)) → Coded (items_of (c ∷ map call_in ls))
-    go (log.Open o) e f = f
-    go (log.Event k) e f = (coded_line l (log.Event k) e, f)
-    go (log.Clock t) e f = f
-    go log.Malformed e f = tt
-    go (log.Forget t) e f = tt
+    go : (c : Option Call) → call_in l ≡ c → Coded (items_of (map call_in ls)) → Coded (items_of (c ∷ map call_in ls))
+    go (Some (log.Open o)) e f = f
+    go (Some (log.Event k)) e f = (call_fits l (log.Event k) e, f)
+    go (Some (log.Clock t)) e f = f
+    go None e f = tt
+    go (Some (log.Forget t)) e f = tt
 
 pub bytes_coded : (s : List ℕ) → Coded (items_of (calls_of s))
 bytes_coded s = items_coded (lines s)
@@ -75,16 +73,16 @@ unfolding Rising items_of lines_refusal line_refusal instant_after CodeFits
 lines_rising t n [] z = tt
 lines_rising t n (l ∷ ls) z = go (call_in l) refl z (λ u y. lines_rising u (suc n) ls y)
   where
-    go : (c : Call) → call_in l ≡ c → (cond (eqb (line_refusal t c) 0) (lines_refusal (instant_after t c) (suc n) (map call_in ls)) (refusal (line_refusal t c) n)).number ≡ 0 → ((u : ℤ) → (lines_refusal u (suc n) (map call_in ls)).number ≡ 0 → Rising u (items_of (map call_in ls))) → Rising t (items_of (c ∷ map call_in ls))
-    go (log.Open o) e y f = absurd (omega arith)
-    go (log.Event k) e y f = (coded_line l (log.Event k) e, f t y)
-    go (log.Clock u) e y f = next (is_mark_refused t u) refl y
+    go : (c : Option Call) → call_in l ≡ c → (cond (eqb (line_refusal t c) 0) (lines_refusal (instant_after t c) (suc n) (map call_in ls)) (refusal (line_refusal t c) n)).number ≡ 0 → ((u : ℤ) → (lines_refusal u (suc n) (map call_in ls)).number ≡ 0 → Rising u (items_of (map call_in ls))) → Rising t (items_of (c ∷ map call_in ls))
+    go (Some (log.Open o)) e y f = absurd (omega arith)
+    go (Some (log.Event k)) e y f = (call_fits l (log.Event k) e, f t y)
+    go (Some (log.Clock u)) e y f = next (is_mark_refused t u) refl y
       where
         next : (b : Bool) → is_mark_refused t u ≡ b → (cond (eqb (cond b 8 0) 0) (lines_refusal u (suc n) (map call_in ls)) (refusal (cond b 8 0) n)).number ≡ 0 → (is_mark_refused t u ≡ false) × Rising u (items_of (map call_in ls))
         next false d x = (d, f u x)
         next true d x = absurd (omega arith)
-    go log.Malformed e y f = absurd (omega arith)
-    go (log.Forget x) e y f = absurd (omega arith)
+    go None e y f = absurd (omega arith)
+    go (Some (log.Forget x)) e y f = absurd (omega arith)
 
 -- what holds of a log that is taken
 pub record Taken (x : List ℕ) : Type 0 where
@@ -99,12 +97,12 @@ taken_log x z = let k = go (lines x) z in record { range = k.0; rising = k.1 }
     opened o ls true e y = (e, lines_rising o 2 ls y)
     opened o ls false e y = absurd (omega arith)
 
-    first : (c : Call) (ls : List Line) → (log_refusal (c ∷ map call_in ls)).number ≡ 0 → (is_instant (opened_by c) ≡ true) × Rising (opened_by c) (items_of (c ∷ map call_in ls))
-    first (log.Open o) ls y = opened o ls (is_instant o) refl y
-    first log.Malformed ls y = absurd (omega arith)
-    first (log.Event k) ls y = absurd (omega arith)
-    first (log.Clock t) ls y = absurd (omega arith)
-    first (log.Forget f) ls y = absurd (omega arith)
+    first : (c : Option Call) (ls : List Line) → (log_refusal (c ∷ map call_in ls)).number ≡ 0 → (is_instant (opened_by c) ≡ true) × Rising (opened_by c) (items_of (c ∷ map call_in ls))
+    first (Some (log.Open o)) ls y = opened o ls (is_instant o) refl y
+    first None ls y = absurd (omega arith)
+    first (Some (log.Event k)) ls y = absurd (omega arith)
+    first (Some (log.Clock t)) ls y = absurd (omega arith)
+    first (Some (log.Forget f)) ls y = absurd (omega arith)
 
     go : (ls : List Line) → (log_refusal (map call_in ls)).number ≡ 0 → (is_instant (opened_in (map call_in ls)) ≡ true) × Rising (opened_in (map call_in ls)) (items_of (map call_in ls))
     go [] y = absurd (omega arith)

@@ -4,9 +4,9 @@ use mathlib.Core.Path.{◌≡◌, refl, sym, ap, ◌∙◌}
 use mathlib.Core.Bool.{true}
 use mathlib.Core.List.{List, [], ◌∷◌, ◌++◌, map}
 use lib.IntN.{ℤ}
+use Rattle.std.specs.Prelude.{Some}
 use Rattle.text.proofs.Laws.{lines_none}
-use Rattle.log_line.specs.Log.{call_in, calls_of}
-use Rattle.log_line.specs.Demands.{has_line}
+use Rattle.log_line.specs.Log.{call_in, calls_of, has_line}
 use Rattle.log_line.specs.declared.Call.{Call}
 use Rattle.log_line.specs.declared.Call.TheVariants as log
 use Rattle.log_line.proofs.ReadBack.{lines_read_back}
@@ -19,10 +19,10 @@ unfoldable pub HaveLines : List Call → Type 0
 HaveLines [] = Unit {0}
 HaveLines (c ∷ cs) = (has_line c ≡ true) × HaveLines cs
 
-pub text_read : (cs : List Call) → HaveLines cs → calls_of (text_of cs) ≡ cs
+pub text_read : (cs : List Call) → HaveLines cs → calls_of (text_of cs) ≡ map Some cs
 unfolding HaveLines text_of
 text_read [] f = ap (map call_in) lines_none
-text_read (c ∷ cs) f = lines_read_back c f.0 (text_of cs) ∙ ap (λ l. c ∷ l) (text_read cs f.1)
+text_read (c ∷ cs) f = lines_read_back c f.0 (text_of cs) ∙ ap (λ l. Some c ∷ l) (text_read cs f.1)
 
 codes_have : (ks : List ℕ) (cs : List Call) → AreCodes ks → HaveLines cs → HaveLines (map log.Event ks ++ cs)
 unfolding AreCodes HaveLines has_line
@@ -39,43 +39,43 @@ unfolding IsLog log_calls HaveLines has_line
 log_has [] f = absurd f
 log_has (g ∷ gs) f = (f.0, codes_have g.codes (marks_calls gs) f.1 (marks_have g.instant gs f.2))
 
-pub log_read : (gs : List Group) → IsLog gs → calls_of (log_text gs) ≡ log_calls gs
+pub log_read : (gs : List Group) → IsLog gs → calls_of (log_text gs) ≡ map Some (log_calls gs)
 log_read gs f = text_read (log_calls gs) (log_has gs f)
 
 -- the groups of the calls that a log is
-codes_first_lem : (ks : List ℕ) (gs : List Group) → codes_first (items_of (map log.Event ks ++ marks_calls gs)) ≡ ks
+codes_first_lem : (ks : List ℕ) (gs : List Group) → codes_first (items_of (map Some (map log.Event ks ++ marks_calls gs))) ≡ ks
 unfolding items_of codes_first marks_calls
 codes_first_lem [] [] = refl
 codes_first_lem [] (g ∷ gs) = refl
 codes_first_lem (k ∷ ks) gs = ap (λ l. k ∷ l) (codes_first_lem ks gs)
 
-codes_after : (ks : List ℕ) (cs : List Call) → groups_after (items_of (map log.Event ks ++ cs)) ≡ groups_after (items_of cs)
+codes_after : (ks : List ℕ) (cs : List Call) → groups_after (items_of (map Some (map log.Event ks ++ cs))) ≡ groups_after (items_of (map Some cs))
 unfolding items_of groups_after
 codes_after [] cs = refl
 codes_after (k ∷ ks) cs = codes_after ks cs
 
-marks_after : (gs : List Group) → groups_after (items_of (marks_calls gs)) ≡ gs
+marks_after : (gs : List Group) → groups_after (items_of (map Some (marks_calls gs))) ≡ gs
 unfolding items_of groups_after marks_calls
 marks_after [] = refl
 marks_after (g ∷ gs) = rw (codes_first_lem g.codes gs, codes_after g.codes (marks_calls gs), marks_after gs)
 
-pub calls_log : (gs : List Group) → IsLog gs → log_of (log_calls gs) ≡ gs
+pub calls_log : (gs : List Group) → IsLog gs → log_of (map Some (log_calls gs)) ≡ gs
 unfolding IsLog log_of log_calls opened_in opened_by items_of
 calls_log [] f = absurd f
 calls_log (g ∷ gs) f = rw (codes_first_lem g.codes gs, codes_after g.codes (marks_calls gs), marks_after gs)
 
 -- they are taken
-codes_taken : (t : ℤ) (n : ℕ) (ks : List ℕ) (cs : List Call) → ((m : ℕ) → (lines_refusal t m cs).number ≡ 0) → (lines_refusal t n (map log.Event ks ++ cs)).number ≡ 0
+codes_taken : (t : ℤ) (n : ℕ) (ks : List ℕ) (cs : List Call) → ((m : ℕ) → (lines_refusal t m (map Some cs)).number ≡ 0) → (lines_refusal t n (map Some (map log.Event ks ++ cs))).number ≡ 0
 unfolding lines_refusal line_refusal instant_after
 codes_taken t n [] cs f = f n
 codes_taken t n (k ∷ ks) cs f = codes_taken t (suc n) ks cs f
 
-marks_taken : (t : ℤ) (gs : List Group) → Follow t gs → (n : ℕ) → (lines_refusal t n (marks_calls gs)).number ≡ 0
+marks_taken : (t : ℤ) (gs : List Group) → Follow t gs → (n : ℕ) → (lines_refusal t n (map Some (marks_calls gs))).number ≡ 0
 unfolding Follow marks_calls lines_refusal line_refusal instant_after
 marks_taken t [] f n = refl
 marks_taken t (g ∷ gs) f n = rw f.0 (codes_taken g.instant (suc n) g.codes (marks_calls gs) (marks_taken g.instant gs f.2))
 
-pub calls_taken : (gs : List Group) → IsLog gs → (log_refusal (log_calls gs)).number ≡ 0
+pub calls_taken : (gs : List Group) → IsLog gs → (log_refusal (map Some (log_calls gs))).number ≡ 0
 unfolding IsLog log_calls log_refusal opening_refusal opened_by
 calls_taken [] f = absurd f
 calls_taken (g ∷ gs) f = rw f.0 (codes_taken g.instant 2 g.codes (marks_calls gs) (marks_taken g.instant gs f.2))

@@ -1,7 +1,7 @@
 -- Whole logs: what a log is turned away for, what one is that is taken, and two of them in one. Request N6: "prints one: instants ascending, each event at
 -- its own instant, at equal instants the first log's events before the second's, each log's own order preserved. The opening instant is the common
 -- one. Every instant after the opening with an event or a mark in either log gets one mark."
-use Rattle.std.specs.Prelude.{ℕ, suc, cond, List, [], ◌∷◌, ◌++◌, map, eqb, ℤ, pos}
+use Rattle.std.specs.Prelude.{ℕ, suc, cond, List, [], ◌∷◌, ◌++◌, map, eqb, ℤ, pos, Option, Some, None}
 use Rattle.std.specs.Int.Signed.{lt_z}
 use Rattle.interval.specs.Instants.{is_instant, is_mark_refused, eq_z}
 use Rattle.log_line.specs.Log.{calls_of, line_of}
@@ -18,49 +18,49 @@ abbrev pub refusal : ℕ → ℕ → Refusal
 refusal n line = record { number = n; line = line }
 
 -- the first line: "7 ... `open` missing", "8 an opening instant out of range"
-unfoldable pub opening_refusal : Call → ℕ
-opening_refusal (log.Open o) = cond (is_instant o) 0 8
-opening_refusal log.Malformed = 7
-opening_refusal (log.Event k) = 7
-opening_refusal (log.Clock t) = 7
-opening_refusal (log.Forget f) = 7
+unfoldable pub opening_refusal : Option Call → ℕ
+opening_refusal (Some (log.Open o)) = cond (is_instant o) 0 8
+opening_refusal None = 7
+opening_refusal (Some (log.Event k)) = 7
+opening_refusal (Some (log.Clock t)) = 7
+opening_refusal (Some (log.Forget f)) = 7
 
 -- every other line, at open instant t: "7 a log line not of its form ..., `open` ... repeated"; "17 a line that is a forget, in each line after 7 and
 -- before 8"; "8 ... a clock mark out of range or not after the open instant". "7, 17 and 8 alone": neither 9 nor 10.
-unfoldable pub line_refusal : ℤ → Call → ℕ
-line_refusal t log.Malformed = 7
-line_refusal t (log.Open o) = 7
-line_refusal t (log.Forget f) = 17
-line_refusal t (log.Event k) = 0
-line_refusal t (log.Clock u) = cond (is_mark_refused t u) 8 0
+unfoldable pub line_refusal : ℤ → Option Call → ℕ
+line_refusal t None = 7
+line_refusal t (Some (log.Open o)) = 7
+line_refusal t (Some (log.Forget f)) = 17
+line_refusal t (Some (log.Event k)) = 0
+line_refusal t (Some (log.Clock u)) = cond (is_mark_refused t u) 8 0
 
 -- the open instant after a line that is taken
-unfoldable pub instant_after : ℤ → Call → ℤ
-instant_after t log.Malformed = t
-instant_after t (log.Open o) = t
-instant_after t (log.Forget f) = t
-instant_after t (log.Event k) = t
-instant_after t (log.Clock u) = u
+unfoldable pub instant_after : ℤ → Option Call → ℤ
+instant_after t None = t
+instant_after t (Some (log.Open o)) = t
+instant_after t (Some (log.Forget f)) = t
+instant_after t (Some (log.Event k)) = t
+instant_after t (Some (log.Clock u)) = u
 
 -- the lines behind the opening, from line n on
-unfoldable pub lines_refusal : ℤ → ℕ → List Call → Refusal
+unfoldable pub lines_refusal : ℤ → ℕ → List (Option Call) → Refusal
 lines_refusal t n [] = refusal 0 0
 lines_refusal t n (c ∷ cs) = cond (eqb (line_refusal t c) 0) (lines_refusal (instant_after t c) (suc n) cs) (refusal (line_refusal t c) n)
 
 -- the instant of the opening
-unfoldable pub opened_by : Call → ℤ
-opened_by (log.Open o) = o
-opened_by log.Malformed = pos 0
-opened_by (log.Event k) = pos 0
-opened_by (log.Clock t) = pos 0
-opened_by (log.Forget f) = pos 0
+unfoldable pub opened_by : Option Call → ℤ
+opened_by (Some (log.Open o)) = o
+opened_by None = pos 0
+opened_by (Some (log.Event k)) = pos 0
+opened_by (Some (log.Clock t)) = pos 0
+opened_by (Some (log.Forget f)) = pos 0
 
-unfoldable pub opened_in : List Call → ℤ
+unfoldable pub opened_in : List (Option Call) → ℤ
 opened_in [] = pos 0
 opened_in (c ∷ cs) = opened_by c
 
 -- a whole log; an empty one lacks its first line
-unfoldable pub log_refusal : List Call → Refusal
+unfoldable pub log_refusal : List (Option Call) → Refusal
 log_refusal [] = refusal 7 1
 log_refusal (c ∷ cs) = cond (eqb (opening_refusal c) 0) (lines_refusal (opened_by c) 2 cs) (refusal (opening_refusal c) 1)
 
@@ -69,13 +69,13 @@ pub data Item : Type 0 where
   code : ℕ → Item
   mark : ℤ → Item
 
-unfoldable pub items_of : List Call → List Item
+unfoldable pub items_of : List (Option Call) → List Item
 items_of [] = []
-items_of (log.Open o ∷ cs) = items_of cs
-items_of (log.Event k ∷ cs) = code k ∷ items_of cs
-items_of (log.Clock t ∷ cs) = mark t ∷ items_of cs
-items_of (log.Malformed ∷ cs) = []
-items_of (log.Forget f ∷ cs) = []
+items_of (Some (log.Open o) ∷ cs) = items_of cs
+items_of (Some (log.Event k) ∷ cs) = code k ∷ items_of cs
+items_of (Some (log.Clock t) ∷ cs) = mark t ∷ items_of cs
+items_of (None ∷ cs) = []
+items_of (Some (log.Forget f) ∷ cs) = []
 
 -- the calls of their lines
 unfoldable pub call_for : Item → Call
@@ -104,7 +104,7 @@ groups_after (mark t ∷ is) = group t (codes_first is) ∷ groups_after is
 abbrev pub groups_from : ℤ → List Item → List Group
 groups_from o is = group o (codes_first is) ∷ groups_after is
 
-unfoldable pub log_of : List Call → List Group
+unfoldable pub log_of : List (Option Call) → List Group
 log_of cs = groups_from (opened_in cs) (items_of cs)
 
 -- Two ascending lists of groups in one: the earlier group first, and of equal instants one group, the first list's codes before the second's.
@@ -142,7 +142,7 @@ pub data Outcome : Type 0 where
   merged : List Group → Outcome
   refused : Refusal → Outcome
 
-unfoldable pub outcome_of : List Call → List Call → Outcome
+unfoldable pub outcome_of : List (Option Call) → List (Option Call) → Outcome
 outcome_of a b =
     cond (eqb (log_refusal a).number 0)
     (cond (eqb (log_refusal b).number 0)

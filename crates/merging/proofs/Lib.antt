@@ -1,5 +1,5 @@
 pub mod Items
+pub mod Writing
 pub mod Windows
-pub mod Stepping
 pub mod Turning
 pub mod Theorems

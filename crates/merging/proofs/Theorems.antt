@@ -10,6 +10,7 @@ use lib.IntN.{ℤ}
 use lib.ListN.{length, drop, length-drop}
 use lib.Seq.{drop-drop}
 use lib.Signed.{lt_z}
+use Rattle.std.specs.Prelude.{Option, Result}
 use Rattle.interval.specs.Instants.{is_instant, eq_z}
 use Rattle.interval.proofs.Signed.{eq_true, eq_same, not_lt}
 use Rattle.log_line.specs.Log.{calls_of, line_of, line_most}
@@ -21,7 +22,7 @@ use Rattle.logs.proofs.Items.{Rising, bytes_coded, from_log, taken_log}
 use Rattle.logs.proofs.Texts.{from_calls}
 use Rattle.logs.proofs.Theorems.{text_taken}
 use Rattle.merging.specs.Merging.{merge_items, rest_for}
-use Rattle.merging.specs.Turns.{Steps, steps_to, steps_from, steps_of, step_of, is_go}
+use Rattle.merging.specs.Turns.{Steps, call_text, after_step, steps_to, steps_from, steps_of, step_of}
 use Rattle.merging.specs.Statements.{Comes, TurnStops, TurnsHold, printed_for, PrintsMerged, AlwaysTaken}
 use Rattle.merging.specs.declared.Ended.{Ended}
 use Rattle.merging.specs.declared.Step.{Step}
@@ -35,58 +36,42 @@ module _ (ended : Ended) (a b : List ℕ) (room : ℕ) where
     goes : (x y : List ℕ) → Comes ended.first x → Comes ended.second y → text ++ rest_for t (drop i a ++ x) (drop j b ++ y) ≡ r.text ++ rest_for r.instant (drop r.first a ++ x) (drop r.second b ++ y)
     stops : TurnStops ended a b room r
 
-  -- the wants, told apart
-  abbrev number : Want → ℕ
-  number Want.Go = 0
-  number Want.First = 1
-  number Want.Second = 2
-  number Want.Room = 3
-  number Want.Nothing = 4
-
   module _ (t : ℤ) (i j : ℕ) (text : List ℕ) (hi : i ≤ length a) (hj : j ≤ length b) where
     stops_at : (w : Want)
         → (w ≡ Want.Nothing → (x y : List ℕ) → Comes ended.first x → Comes ended.second y → rest_for t (drop i a ++ x) (drop j b ++ y) ≡ [])
         → (w ≡ Want.First → (ended.first ≡ false) × (length (drop i a) < 64))
         → (w ≡ Want.Second → (ended.second ≡ false) × (length (drop j b) < 64))
         → (w ≡ Want.Room → room < length text + line_most)
-        → (w ≡ Want.Go → ⊥)
         → FromPlace t i j text (steps_to w i j text t)
-    stops_at w over first second full none = record { goes = λ x y p q. refl; stops = record { over = over; lacks_first = first; lacks_second = second; full = full; none = none; in_first = hi; in_second = hj } }
-
-    differ : {P : Type 0} (w v : Want) → (number w ≡ number v → ⊥) → w ≡ v → P
-    differ w v h e = absurd (h (ap number e))
+    stops_at w over first second full = record { goes = λ x y p q. refl; stops = record { over = over; lacks_first = first; lacks_second = second; full = full; in_first = hi; in_second = hj } }
 
     no_room : leb (length text + line_most) room ≡ false → FromPlace t i j text (steps_to Want.Room i j text t)
-    no_room e = stops_at Want.Room (differ Want.Room Want.Nothing (λ n. omega (arith, n))) (differ Want.Room Want.First (λ n. omega (arith, n))) (differ Want.Room Want.Second (λ n. omega (arith, n))) (λ z. leb-false (length text + line_most) room e) (differ Want.Room Want.Go (λ n. omega (arith, n)))
+    no_room e = stops_at Want.Room (λ z. cc) (λ z. cc) (λ z. cc) (λ z. leb-false (length text + line_most) room e)
 
     -- one step, and what follows it where it is taken
-    one_step : (rest : ℤ → ℕ → ℕ → List ℕ → Steps) {st : Step} → StepWell t ended (drop i a) (drop j b) st → ((f g : ℕ) (c : Call) (u : ℤ) → i + f ≤ length a → j + g ≤ length b → 0 < f + g → FromPlace u (i + f) (j + g) (text ++ line_of c) (rest u (i + f) (j + g) (text ++ line_of c))) → FromPlace t i j text (cond (is_go st.want) (rest st.instant (i + st.first) (j + st.second) (text ++ line_of st.call)) (steps_to st.want i j text t))
-    unfolding is_go
+    one_step : (rest : ℤ → ℕ → ℕ → List ℕ → Steps) {r : Result Step Want} → StepWell t ended (drop i a) (drop j b) r → ((f g : ℕ) (c : Option Call) (u : ℤ) → i + f ≤ length a → j + g ≤ length b → 0 < f + g → FromPlace u (i + f) (j + g) (text ++ call_text c) (rest u (i + f) (j + g) (text ++ call_text c))) → FromPlace t i j text (after_step (λ st. rest st.instant (i + st.first) (j + st.second) (text ++ call_text st.call)) (λ w. steps_to w i j text t) r)
     one_step rest (taken f g c u p q s w) next =
         let k = next f g c u (omega (arith, p, length-drop i a)) (omega (arith, q, length-drop j b)) s in
         record {
-          goes = λ x y o r. ap (λ l. text ++ l) (w x y o r) ∙ sym (append_assoc text (line_of c) (rest_for u (drop f (drop i a) ++ x) (drop g (drop j b) ++ y))) ∙ ap₂ (λ l m. (text ++ line_of c) ++ rest_for u (l ++ x) (m ++ y)) (drop-drop f i a) (drop-drop g j b) ∙ k.goes x y o r;
+          goes = λ x y o r. ap (λ l. text ++ l) (w x y o r) ∙ sym (append_assoc text (call_text c) (rest_for u (drop f (drop i a) ++ x) (drop g (drop j b) ++ y))) ∙ ap₂ (λ l m. (text ++ call_text c) ++ rest_for u (l ++ x) (m ++ y)) (drop-drop f i a) (drop-drop g j b) ∙ k.goes x y o r;
           stops = k.stops;
         }
-    one_step rest (lacks_first_lem p q) next = stops_at Want.First (differ Want.First Want.Nothing (λ n. omega (arith, n))) (λ z. (p, q)) (differ Want.First Want.Second (λ n. omega (arith, n))) (differ Want.First Want.Room (λ n. omega (arith, n))) (differ Want.First Want.Go (λ n. omega (arith, n)))
-    one_step rest (lacks_second_lem p q) next = stops_at Want.Second (differ Want.Second Want.Nothing (λ n. omega (arith, n))) (differ Want.Second Want.First (λ n. omega (arith, n))) (λ z. (p, q)) (differ Want.Second Want.Room (λ n. omega (arith, n))) (differ Want.Second Want.Go (λ n. omega (arith, n)))
-    one_step rest (at_end w) next = stops_at Want.Nothing (λ z x y o r. w x y o r) (differ Want.Nothing Want.First (λ n. omega (arith, n))) (differ Want.Nothing Want.Second (λ n. omega (arith, n))) (differ Want.Nothing Want.Room (λ n. omega (arith, n))) (differ Want.Nothing Want.Go (λ n. omega (arith, n)))
+    one_step rest (lacks_first_lem p q) next = stops_at Want.First (λ z. cc) (λ z. (p, q)) (λ z. cc) (λ z. cc)
+    one_step rest (lacks_second_lem p q) next = stops_at Want.Second (λ z. cc) (λ z. cc) (λ z. (p, q)) (λ z. cc)
+    one_step rest (at_end w) next = stops_at Want.Nothing (λ z x y o r. w x y o r) (λ z. cc) (λ z. cc) (λ z. cc)
 
     -- with room or without
-    either : (m : ℕ) → ((f g : ℕ) (c : Call) (u : ℤ) → i + f ≤ length a → j + g ≤ length b → 0 < f + g → FromPlace u (i + f) (j + g) (text ++ line_of c) (steps_from ended a b room m u (i + f) (j + g) (text ++ line_of c))) → FromPlace t i j text (steps_from ended a b room (suc m) t i j text)
+    either : (m : ℕ) → ((f g : ℕ) (c : Option Call) (u : ℤ) → i + f ≤ length a → j + g ≤ length b → 0 < f + g → FromPlace u (i + f) (j + g) (text ++ call_text c) (steps_from ended a b room m u (i + f) (j + g) (text ++ call_text c))) → FromPlace t i j text (steps_from ended a b room (suc m) t i j text)
     unfolding steps_from
     either m next = go (leb (length text + line_most) room) refl
       where
-        st : Step
-        st = step_of t ended (drop i a) (drop j b)
-
-        go : (p : Bool) → leb (length text + line_most) room ≡ p → FromPlace t i j text (cond p (cond (is_go st.want) (steps_from ended a b room m st.instant (i + st.first) (j + st.second) (text ++ line_of st.call)) (steps_to st.want i j text t)) (steps_to Want.Room i j text t))
+        go : (p : Bool) → leb (length text + line_most) room ≡ p → FromPlace t i j text (cond p (after_step (λ st. steps_from ended a b room m st.instant (i + st.first) (j + st.second) (text ++ call_text st.call)) (λ w. steps_to w i j text t) (step_of t ended (drop i a) (drop j b))) (steps_to Want.Room i j text t))
         go true e = one_step (steps_from ended a b room m) (step_well t ended (drop i a) (drop j b)) next
         go false e = no_room e
 
   steps_hold : (m : ℕ) (t : ℤ) (i j : ℕ) (text : List ℕ) → i ≤ length a → j ≤ length b → length a + length b ≤ i + j + m → FromPlace t i j text (steps_from ended a b room (suc m) t i j text)
   steps_hold zero t i j text hi hj enough = either t i j text hi hj zero (λ f g c u p q s. absurd (omega (arith, p, q, s, enough)))
-  steps_hold (suc m) t i j text hi hj enough = either t i j text hi hj (suc m) (λ f g c u p q s. steps_hold m u (i + f) (j + g) (text ++ line_of c) p q (omega (arith, s, enough)))
+  steps_hold (suc m) t i j text hi hj enough = either t i j text hi hj (suc m) (λ f g c u p q s. steps_hold m u (i + f) (j + g) (text ++ call_text c) p q (omega (arith, s, enough)))
 
 pub turns_hold : TurnsHold
 unfolding steps_of
@@ -133,10 +118,10 @@ pub prints_merged : PrintsMerged
 unfolding printed_for merged_for outcome_of outcome_text
 prints_merged x y = go (eqb (log_refusal (calls_of x)).number 0) refl (eqb (log_refusal (calls_of y)).number 0) refl (eq_z (opened_in (calls_of x)) (opened_in (calls_of y))) refl
   where
-    c : List Call
+    c : List (Option Call)
     c = calls_of x
 
-    d : List Call
+    d : List (Option Call)
     d = calls_of y
 
     go : (p : Bool) → eqb (log_refusal c).number 0 ≡ p → (q : Bool) → eqb (log_refusal d).number 0 ≡ q → (r : Bool) → eq_z (opened_in c) (opened_in d) ≡ r → printed_for x y x y ≡ merged_for x y

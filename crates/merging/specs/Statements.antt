@@ -24,8 +24,6 @@ pub record TurnStops (ended : Ended) (a b : List ℕ) (room : ℕ) (r : Steps) :
   pub lacks_second : r.want ≡ Want.Second → (ended.second ≡ false) × (length (drop r.second b) < 64)
   -- room is wanted only where there is none for the longest line
   pub full : r.want ≡ Want.Room → room < length r.text + line_most
-  -- a step is never wanted
-  pub none : r.want ≡ Want.Go → ⊥
   pub in_first : r.first ≤ length a
   pub in_second : r.second ≤ length b
 

@@ -3,15 +3,12 @@
 // if both have it.
 #![tactic(auto)]
 
-ghost use Rattle.std.specs.Prelude.{◌≡◌, ◌+◌, ◌≤◌, length};
+ghost use Rattle.std.specs.Prelude.{◌≡◌, ◌≤◌, length};
 ghost use Rattle.std.proofs.lemmas.List.Edits.{sets};
-ghost use Rattle.log_line.specs.Log.{line_of, line_most};
-ghost use Rattle.merging.specs.Turns.{mark_next, no_next_of, next_of, step_want, step_to, step_marks, step_second, step_of, is_go, steps_of, turn_of, output_of};
+ghost use Rattle.log_line.specs.Log.{line_most};
+ghost use Rattle.merging.specs.Turns.{next_of, step_marks, step_of, call_text, steps_of, turn_of, output_of};
 
 use log_line::{Call, LINE_SIZE};
-
-// The number past the instants, at which a log stops that has ended: so both ends, one and none are one comparison.
-const NO_INSTANT: i64 = 1000000001;
 
 // Whether no more bytes come of the first log, and of the second.
 #[derive(Clone, Copy)]
@@ -20,33 +17,36 @@ pub struct Ended {
     pub second: bool,
 }
 
-// The next line of a log, by the bytes that are there: more are needed; an opening; an event, with its code; or a stop, at a mark or at the end. Each with the
-// size of its line.
+// A mark that may follow, with the size of its line.
 #[derive(Clone, Copy)]
-enum Next {
-    Needs,
-    Passed(usize),
-    Event(usize, u8),
-    Stopped(usize, i64),
+struct Mark {
+    size: usize,
+    instant: i64,
 }
 
-// What merging wants to go on: nothing but the next step, more of a log, or room in the output; or there is nothing more to do.
+// The next line of a log: one that comes before any mark, with its size, and the code of an event or none of an opening, which is passed over; or a stop, at a mark
+// or, with none, at the end.
 #[derive(Clone, Copy)]
+enum Next {
+    Line(usize, Option<u8>),
+    Stop(Option<Mark>),
+}
+
+// What merging wants to go on: more of a log, or room in the output; or there is nothing more to do.
+#[derive(Clone, Copy, PartialEq, Eq)]
 pub enum Want {
-    Go,
     First,
     Second,
     Room,
     Nothing,
 }
 
-// One step of merging: how many bytes of each log are used, the call whose line is written, Malformed for none, and the instant then.
+// One step of merging: how many bytes of each log are used, the call whose line is written, if any, and the instant then.
 #[derive(Clone, Copy)]
 struct Step {
-    want: Want,
     first: usize,
     second: usize,
-    call: Call,
+    call: Option<Call>,
     instant: i64,
 }
 
@@ -65,160 +65,102 @@ pub struct Turn {
 pub fn merge_some(instant: i64, ended: Ended, a: &[u8], b: &[u8], out: &mut [u8]) -> Turn
     ensures { (result ≡ turn_of (steps_of ended a.now b.now (length out.old) instant)) × (out.new ≡ output_of (steps_of ended a.now b.now (length out.old) instant) out.old) }
 {
-    let mut reached = instant;
-    let mut i: usize = 0;
-    let mut j: usize = 0;
-    let mut place: usize = 0;
-    while LINE_SIZE <= out.len() - place {
-        let st = one_step(reached, ended, &a[i..], &b[j..]);
-        let want = st.want;
-        if !is_go(want) {
-            return turned(want, i, j, place, reached);
-        }
-        let call = st.call;
-        place = write_line(call, out, place);
-        i += st.first;
-        j += st.second;
-        reached = st.instant;
-    }
-    turned(Want::Room, i, j, place, reached)
-}
-
-fn turned(want: Want, first: usize, second: usize, written: usize, instant: i64) -> Turn
-    ensures { result ≡ record { want = want; first = first; second = second; written = written; instant = instant } }
-{
-    Turn {
-        want,
-        first,
-        second,
-        written,
+    let mut turn = Turn {
+        want: Want::Room,
+        first: 0,
+        second: 0,
+        written: 0,
         instant,
+    };
+    while LINE_SIZE <= out.len() - turn.written {
+        match one_step(turn.instant, ended, &a[turn.first..], &b[turn.second..]) {
+            Ok(step) => {
+                turn.first += step.first;
+                turn.second += step.second;
+                turn.written += write_text(step.call, &mut out[turn.written..]);
+                turn.instant = step.instant;
+            }
+            Err(want) => return Turn { want, ..turn },
+        }
+    }
+    turn
+}
+
+// Writes the line of a call, if there is one, at the front of the output and returns the number of bytes.
+fn write_text(call: Option<Call>, out: &mut [u8]) -> usize
+    requires { line_most ≤ length out.old }
+    ensures { (result ≡ length (call_text call)) × (out.new ≡ sets out.old 0 (call_text call)) × (result ≤ length out.old) }
+{
+    match call {
+        Some(call) => log_line::write_call(call, out).unwrap_or(0),
+        None => 0,
     }
 }
 
-fn is_go(want: Want) -> bool
-    ensures { result ≡ is_go want }
-{
-    match want {
-        Want::Go => true,
-        Want::First => false,
-        Want::Second => false,
-        Want::Room => false,
-        Want::Nothing => false,
-    }
-}
-
-// Writes the line of a call at a place of the output and returns the place behind it.
-fn write_line(call: Call, out: &mut [u8], at: usize) -> usize
-    requires { at + line_most ≤ length out.old }
-    ensures { (result ≡ at + length (line_of call)) × (out.new ≡ sets out.old at (line_of call)) × (result ≤ length out.old) }
-{
-    let n = log_line::write_call(call, &mut out[at..]);
-    at + n
-}
-
-// One step on the bytes of two logs. Each byte of their first lines is looked at twice at most.
-fn one_step(instant: i64, ended: Ended, a: &[u8], b: &[u8]) -> Step
+// One step on the bytes of two logs, or what is wanted in place of one. Each byte of their first lines is looked at twice at most.
+#[tactic(auto, unfolding(crate::specs::Turns::step_of))]
+fn one_step(instant: i64, ended: Ended, a: &[u8], b: &[u8]) -> Result<Step, Want>
     ensures { result ≡ step_of instant ended a.now b.now }
 {
-    let p = next_line(instant, a, ended.first);
-    match p {
-        Next::Needs => step_want(Want::First, instant),
-        Next::Passed(n) => step_to(n, 0, Call::Malformed, instant),
-        Next::Event(n, k) => step_to(n, 0, Call::Event(k), instant),
-        Next::Stopped(n, s) => step_second(instant, n, s, b, ended.second),
-    }
-}
-
-// The first log is stopped.
-fn step_second(instant: i64, n: usize, s: i64, b: &[u8], ended: bool) -> Step
-    ensures { result ≡ step_second instant n s (next_of instant b.now ended) }
-{
-    let q = next_line(instant, b, ended);
-    match q {
-        Next::Needs => step_want(Want::Second, instant),
-        Next::Passed(m) => step_to(0, m, Call::Malformed, instant),
-        Next::Event(m, k) => step_to(0, m, Call::Event(k), instant),
-        Next::Stopped(m, t) => step_marks(instant, n, s, m, t),
-    }
+    let first = match next_line(instant, a, ended.first).ok_or(Want::First)? {
+        Next::Line(first, code) => {
+            return Ok(Step {
+                first,
+                second: 0,
+                call: code.map(Call::Event),
+                instant,
+            });
+        }
+        Next::Stop(mark) => mark,
+    };
+    let second = match next_line(instant, b, ended.second).ok_or(Want::Second)? {
+        Next::Line(second, code) => {
+            return Ok(Step {
+                first: 0,
+                second,
+                call: code.map(Call::Event),
+                instant,
+            });
+        }
+        Next::Stop(mark) => mark,
+    };
+    step_marks(first, second)
 }
 
 // Both logs are stopped: the earlier mark, or one for both, or the end. Constant time.
-fn step_marks(instant: i64, n: usize, s: i64, m: usize, t: i64) -> Step
-    ensures { result ≡ step_marks instant n s m t }
+fn step_marks(first: Option<Mark>, second: Option<Mark>) -> Result<Step, Want>
+    ensures { result ≡ step_marks first second }
 {
-    if interval::is_wide_before(s, t) {
-        return step_to(n, 0, Call::Clock(s), s);
-    }
-    if interval::is_wide_before(t, s) {
-        return step_to(0, m, Call::Clock(t), t);
-    }
-    if interval::is_wide_before(s, NO_INSTANT) {
-        return step_to(n, m, Call::Clock(s), s);
-    }
-    step_want(Want::Nothing, instant)
-}
-
-fn step_to(first: usize, second: usize, call: Call, instant: i64) -> Step
-    ensures { result ≡ step_to first second call instant }
-{
-    Step {
-        want: Want::Go,
-        first,
-        second,
-        call,
+    let (n, m, instant) = match (first, second) {
+        (None, None) => return Err(Want::Nothing),
+        (Some(s), None) => (s.size, 0, s.instant),
+        (None, Some(t)) => (0, t.size, t.instant),
+        (Some(s), Some(t)) if s.instant < t.instant => (s.size, 0, s.instant),
+        (Some(s), Some(t)) if t.instant < s.instant => (0, t.size, t.instant),
+        (Some(s), Some(t)) => (s.size, t.size, s.instant),
+    };
+    Ok(Step {
+        first: n,
+        second: m,
+        call: Some(Call::Clock(instant)),
         instant,
-    }
+    })
 }
 
-fn step_want(want: Want, instant: i64) -> Step
-    ensures { result ≡ step_want want instant }
-{
-    Step {
-        want,
-        first: 0,
-        second: 0,
-        call: Call::Malformed,
-        instant,
-    }
-}
-
-// The next line of a log. Each of its bytes is looked at twice at most.
-fn next_line(instant: i64, s: &[u8], ended: bool) -> Next
+// The next line of a log by the bytes that are there, or none where more are needed. Each of its bytes is looked at twice at most.
+fn next_line(instant: i64, s: &[u8], ended: bool) -> Option<Next>
     ensures { result ≡ next_of instant s.now ended }
 {
-    let size = text::line_size(s);
-    if size == 0 {
-        return no_next(s.len(), ended);
-    }
-    let end = size - 1;
-    let call = log_line::read_call(&s[..end]);
-    match call {
-        Call::Open(_) => Next::Passed(size),
-        Call::Event(k) => Next::Event(size, k),
-        Call::Clock(t) => mark_next(instant, size, t),
-        Call::Forget(_) => Next::Stopped(0, NO_INSTANT),
-        Call::Malformed => Next::Stopped(0, NO_INSTANT),
-    }
-}
-
-fn no_next(n: usize, ended: bool) -> Next
-    ensures { result ≡ no_next_of n ended }
-{
-    if ended {
-        return Next::Stopped(0, NO_INSTANT);
-    }
-    if 64 <= n {
-        return Next::Stopped(0, NO_INSTANT);
-    }
-    Next::Needs
-}
-
-fn mark_next(instant: i64, size: usize, t: i64) -> Next
-    ensures { result ≡ mark_next instant size t }
-{
-    if interval::is_wide_mark_refused(instant, t) {
-        return Next::Stopped(0, NO_INSTANT);
-    }
-    Next::Stopped(size, t)
+    let Some(size) = text::line_size(s) else {
+        return (ended || 64 <= s.len()).then_some(Next::Stop(None));
+    };
+    let next = match log_line::read_call(&s[..size - 1]) {
+        Some(Call::Open(_)) => Next::Line(size, None),
+        Some(Call::Event(code)) => Next::Line(size, Some(code)),
+        Some(Call::Clock(t)) if !interval::is_mark_refused(instant, t) => {
+            Next::Stop(Some(Mark { size, instant: t }))
+        }
+        Some(Call::Clock(_) | Call::Forget(_)) | None => Next::Stop(None),
+    };
+    Some(next)
 }

@@ -9,6 +9,7 @@ use lib.Dec.{eqb, ltb, leb}
 use lib.IntN.{ℤ}
 use lib.ListN.{length, replicate, length-append}
 use lib.Signed.{lt_z}
+use Rattle.std.specs.Prelude.{Option, Some}
 use Rattle.interval.specs.Instants.{first_floor, is_mark_refused, eq_z}
 use Rattle.interval.proofs.Laws.{mark_taken}
 use Rattle.interval.proofs.Signed.{◌≤ᶻ◌, eq_same, is_lt, not_lt}
@@ -84,7 +85,7 @@ accepted_line a o n k rows e = go (eqb a.number 0) refl e
 
 module _ (room : ℕ) (rows : List Row) where
   -- these calls are accepted one after another, and leave these rows
-  Plays : Model → List Call → Type 0
+  Plays : Model → List (Option Call) → Type 0
   Plays m [] = rows ≡ rows_of m
   Plays m (c ∷ cs) = ((call_answer room m c).number ≡ 0) × Plays (call_answer room m c).state cs
 
@@ -97,7 +98,7 @@ module _ (room : ℕ) (rows : List Row) where
       (h.0, calls_accepted a.state (suc n) k ls h.1)
 
   -- the same with the opening
-  Opens : List Operator → List Call → Type 0
+  Opens : List Operator → List (Option Call) → Type 0
   Opens ops [] = ⊥
   Opens ops (c ∷ cs) = Plays (opening_answer ops c).state cs
 
@@ -113,7 +114,7 @@ module _ (ops : List Operator) (lower : Chart 0 ops) (room : ℕ) (rows : List R
   at t es = model.model t first_floor ops (replicate (length ops) first_floor) es
 
   -- the codes of one instant
-  codes_played : (o : ℤ) (es : List Event) (ks : List ℕ) (rest : List Call) → Plays room rows (at o es) (map log.Event ks ++ rest) → Plays room rows (at o (es ++ numbered (length es) (timed_at o ks))) rest
+  codes_played : (o : ℤ) (es : List Event) (ks : List ℕ) (rest : List Call) → Plays room rows (at o es) (map Some (map log.Event ks ++ rest)) → Plays room rows (at o (es ++ numbered (length es) (timed_at o ks))) (map Some rest)
   unfolding Plays call_answer event_step timed_at numbered
   codes_played o es [] rest h = rw (append-nil es) h
   codes_played o es (k ∷ ks) rest h =
@@ -122,7 +123,7 @@ module _ (ops : List Operator) (lower : Chart 0 ops) (room : ℕ) (rows : List R
       let s = accepted_state (leb 1000000 (length es)) (leb 64 (length (keep (is_at o) es))) 9 8 (at o es) (at o new) h.0 in
       let size : length new ≡ suc (length es) = length-append es (e ∷ []) ∙ omega arith in
       let same : new ++ numbered (length new) (timed_at o ks) ≡ es ++ (e ∷ numbered (suc (length es)) (timed_at o ks)) = ap (λ i. new ++ numbered i (timed_at o ks)) size ∙ append_assoc es (e ∷ []) (numbered (suc (length es)) (timed_at o ks)) in
-      subst (λ l. Plays room rows (at o l) rest) same (codes_played o new ks rest (subst (λ m. Plays room rows m (map log.Event ks ++ rest)) s h.1))
+      subst (λ l. Plays room rows (at o l) (map Some rest)) same (codes_played o new ks rest (subst (λ m. Plays room rows m (map Some (map log.Event ks ++ rest))) s h.1))
 
   -- they change no row while their instant is open
   codes_same : (o : ℤ) (es : List Event) (n : ℕ) (ks : List ℕ) → rows_for ops o (es ++ numbered n (timed_at o ks)) ≡ rows_for ops o es
@@ -137,7 +138,7 @@ module _ (ops : List Operator) (lower : Chart 0 ops) (room : ℕ) (rows : List R
   AreBefore o es = (t : ℤ) → o ≤ᶻ t → keep (is_before t) es ≡ es
 
   -- the codes at the open instant, and the marks behind them with theirs
-  marks_played : (o : ℤ) (es : List Event) (ks : List ℕ) (gs : List Group) → AreBefore o es → Follow o gs → Plays room rows (at o es) (map log.Event ks ++ marks_calls gs) →
+  marks_played : (o : ℤ) (es : List Event) (ks : List ℕ) (gs : List Group) → AreBefore o es → Follow o gs → Plays room rows (at o es) (map Some (map log.Event ks ++ marks_calls gs)) →
       let t = last_from o gs in rows ≡ rows_for ops t (keep (is_before t) (es ++ numbered (length es) (timed_at o ks ++ events_in gs)))
   unfolding Plays call_answer clock_step Follow marks_calls events_in last_from
   marks_played o es ks [] b f h =
@@ -153,16 +154,16 @@ module _ (ops : List Operator) (lower : Chart 0 ops) (room : ℕ) (rows : List R
       let p = codes_played o es ks (marks_calls (g ∷ gs)) h in
       let s = accepted_state (is_mark_refused o u) (ltb room (length (listing ops (replicate (length ops) first_floor) new first_floor u))) 7 11 (at o new) (at u new) p.0 in
       let before : AreBefore u new = λ v l. keep_append (is_before v) es here ∙ rw (b v (omega arith), codes_kept v o true (is_lt o v (omega arith)) (length es) ks) in
-      marks_played u new g.codes gs before f.2 (subst (λ m. Plays room rows m (map log.Event g.codes ++ marks_calls gs)) s p.1) ∙ ap (λ l. rows_for ops t (keep (is_before t) l)) (numbered_on es (timed_at o ks) (timed_at u g.codes ++ events_in gs))
+      marks_played u new g.codes gs before f.2 (subst (λ m. Plays room rows m (map Some (map log.Event g.codes ++ marks_calls gs))) s p.1) ∙ ap (λ l. rows_for ops t (keep (is_before t) l)) (numbered_on es (timed_at o ks) (timed_at u g.codes ++ events_in gs))
 
   -- a whole log
   log_played : (n k : ℕ) (gs : List Group) → IsLog gs → play_log ops room n (lines (log_text gs)) ≡ listed k rows → rows ≡ rows_for ops (last_mark gs) (keep (is_before (last_mark gs)) (numbered 0 (events_in gs)))
   unfolding IsLog Opens log_calls opening_answer last_mark events_in
   log_played n k [] f e = absurd f
   log_played n k (g ∷ gs) f e =
-      let p : Opens room rows ops (log_calls (g ∷ gs)) = subst (Opens room rows ops) (calls_in_log (lines (log_text (g ∷ gs))) ∙ log_read (g ∷ gs) f) (log_accepted room rows ops n k (lines (log_text (g ∷ gs))) e) in
+      let p : Opens room rows ops (map Some (log_calls (g ∷ gs))) = subst (Opens room rows ops) (calls_in_log (lines (log_text (g ∷ gs))) ∙ log_read (g ∷ gs) f) (log_accepted room rows ops n k (lines (log_text (g ∷ gs))) e) in
       let opened = ap (λ a. a.state) (opening_accepted ops g.instant f.0) in
-      marks_played g.instant [] g.codes gs (λ t l. refl) f.2 (subst (λ m. Plays room rows m (map log.Event g.codes ++ marks_calls gs)) opened p)
+      marks_played g.instant [] g.codes gs (λ t l. refl) f.2 (subst (λ m. Plays room rows m (map Some (map log.Event g.codes ++ marks_calls gs))) opened p)
 
 pub playing_holds : PlayingHolds
 playing_holds ops lower room n x y t k rows e =

@@ -3,19 +3,24 @@
 use Prim.Native.Nat.{ℕ, suc, ◌+◌, ◌*◌, ◌-◌, ◌^◌, ◌≤◌, ◌<◌}
 use native.Mathlib.Omega.{arith}
 use native.Mathlib.Numerals.{add-one}
+use native.Mathlib.Nat.{zero-add}
+use Rattle.std.proofs.Common.{Some}
+use Rattle.std.proofs.lemmas.List.Edits.{sets}
+use Rattle.text.specs.Output.{output_where}
+use Rattle.text.proofs.Written.{front_written}
 use mathlib.Core.Path.{◌≡◌, refl, ap, ◌∙◌}
-use mathlib.Core.Bool.{true, false}
+use mathlib.Core.Bool.{Bool, true, false}
 use mathlib.Core.List.{List, [], ◌∷◌, ◌++◌}
 use lib.IntN.{ℤ}
 use lib.ListN.{length, get_or, drop, length-append, drop_of_length-le}
 use lib.Seq.{drop-cons, drop-drop, get_or-drop}
-use borrow.Author.Tests.{le-leb, lt-leb}
+use borrow.Author.Tests.{le-leb}
 use Rattle.decimal.specs.Spelling.{spelled_number}
 use Rattle.decimal.proofs.Laws.{wide_digits_most}
 use Rattle.model.specs.Order.{Row}
 use Rattle.table.specs.Table.{stored_row, flat}
 use Rattle.table.proofs.Rows.{flat_on}
-use Rattle.printing.specs.Listing.{title, row_text, stored_of, row_texts, listing_text, table_rows, table_text, last_field, title_size, row_size, refusal_size, listing_fits, refusal_fits}
+use Rattle.printing.specs.Listing.{title, row_text, stored_of, row_texts, listing_text, table_rows, table_text, last_field, title_size, row_size, refusal_size, written_where, listing_fits, refusal_fits}
 use Rattle.printing.specs.Report.{tally_texts, tally_size, total_size, report_fits}
 
 -- For callers. The rows of a table, and numbers behind them that are not printed.
@@ -28,34 +33,22 @@ pub table_listing : (rs : List Row) (u : List ℤ) → table_text (length rs) (f
 table_listing rs u = ap (λ (l : List ℕ). title ++ l) (table_rows_lem _ rs u)
 
 -- When there is room.
-module _ (rows : ℕ) (t : List ℤ) (out : List ℕ) where
-  pub listing_fits_lem : rows * 5 ≤ length t → title_size + rows * row_size ≤ length out → listing_fits rows t out ≡ true
-  unfolding listing_fits
-  listing_fits_lem h k = rw (le-leb (rows * 5) (length t) h, le-leb (title_size + rows * row_size) (length out) k)
-
-  pub listing_few_rows : length t < rows * 5 → listing_fits rows t out ≡ false
-  unfolding listing_fits
-  listing_few_rows h = rw (lt-leb (rows * 5) (length t) h)
-
-  pub listing_short : rows * 5 ≤ length t → length out < title_size + rows * row_size → listing_fits rows t out ≡ false
-  unfolding listing_fits
-  listing_short h k = rw (le-leb (rows * 5) (length t) h, lt-leb (title_size + rows * row_size) (length out) k)
+pub listing_fits_lem : (rows : ℕ) (t : List ℤ) (out : List ℕ) → rows * 5 ≤ length t → title_size + rows * row_size ≤ length out → listing_fits rows t out ≡ true
+unfolding listing_fits
+listing_fits_lem rows t out h k = rw (le-leb (rows * 5) (length t) h, le-leb (title_size + rows * row_size) (length out) k)
 
 pub refusal_fits_lem : (out : List ℕ) → refusal_size ≤ length out → refusal_fits out ≡ true
 unfolding refusal_fits
 refusal_fits_lem out h = le-leb refusal_size (length out) h
 
-pub refusal_short : (out : List ℕ) → length out < refusal_size → refusal_fits out ≡ false
-unfolding refusal_fits
-refusal_short out h = lt-leb refusal_size (length out) h
-
 pub report_fits_lem : (tallies out : List ℕ) → total_size + length tallies * tally_size ≤ length out → report_fits tallies out ≡ true
 unfolding report_fits
 report_fits_lem tallies out h = le-leb (total_size + length tallies * tally_size) (length out) h
 
-pub report_short : (tallies out : List ℕ) → length out < total_size + length tallies * tally_size → report_fits tallies out ≡ false
-unfolding report_fits
-report_short tallies out h = lt-leb (total_size + length tallies * tally_size) (length out) h
+-- A text that was written at the front of an output that has room for it.
+pub all_written : {room : Bool} (s out : List ℕ) {k : ℕ} {o : List ℕ} → room ≡ true → length s ≤ length out → (k ≡ 0 + length s) × (o ≡ sets out 0 s) → (Some k ≡ written_where room s) × (o ≡ output_where room s out)
+unfolding written_where output_where
+all_written s out e h w = rw (e, w.0, zero-add, w.1, front_written out s h) (refl, refl)
 
 -- a number of 64 bits that ends its line
 pub last_field_most : (n : ℕ) → n < 2 ^ 64 → length (last_field n) ≤ 22

@@ -1,3 +1,4 @@
 pub mod Laws
+mod Fields
 mod Examples
 pub mod Lines

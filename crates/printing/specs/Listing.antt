@@ -1,8 +1,8 @@
 -- What the listing program prints. Document 01, "The listing program": it "prints the table at the end. A refusal prints only one
 -- line: `refused`, number, line of the whole input ..., parted by tabs." A text is a list of bytes; 9 is the tab, 10 ends a line.
-use Rattle.std.specs.Prelude.{ℕ, zero, suc, ◌+◌, ◌*◌, Bool, ◌&&◌, List, [], ◌∷◌, ◌++◌, leb, ℤ, pos, length, drop}
+use Rattle.std.specs.Prelude.{ℕ, zero, suc, ◌+◌, ◌*◌, Bool, cond, ◌&&◌, List, [], ◌∷◌, ◌++◌, leb, ℤ, pos, length, drop, Option, Some, None}
 use Rattle.text.specs.Text.{lines}
-use Rattle.text.specs.Output.{length_where, output_where}
+use Rattle.text.specs.Output.{output_where}
 use Rattle.decimal.specs.Spelling.{spelled_number, spelled, spelled_instant}
 use Rattle.model.specs.Order.{Row}
 use Rattle.table.specs.Table.{stored_row}
@@ -81,12 +81,16 @@ row_size = 20 + 3 * 12 + 2 * 13 + 1
 abbrev pub refusal_size : ℕ
 refusal_size = 7 + 11 + 21 + 1
 
+-- how many bytes are written of a text that is written where there is room
+unfoldable pub written_where : Bool → List ℕ → Option ℕ
+written_where room s = cond room (Some (length s)) None
+
 -- A listing is written where the table has the rows and the output has room for the longest of as many.
 unfoldable pub listing_fits : ℕ → List ℤ → List ℕ → Bool
 listing_fits rows t out = leb (rows * 5) (length t) && leb (title_size + rows * row_size) (length out)
 
-abbrev pub listing_length : ℕ → List ℤ → List ℕ → ℕ
-listing_length rows t out = length_where (listing_fits rows t out) (table_text rows t)
+abbrev pub listing_length : ℕ → List ℤ → List ℕ → Option ℕ
+listing_length rows t out = written_where (listing_fits rows t out) (table_text rows t)
 
 abbrev pub listing_output : ℕ → List ℤ → List ℕ → List ℕ
 listing_output rows t out = output_where (listing_fits rows t out) (table_text rows t) out
@@ -95,8 +99,8 @@ listing_output rows t out = output_where (listing_fits rows t out) (table_text r
 unfoldable pub refusal_fits : List ℕ → Bool
 refusal_fits out = leb refusal_size (length out)
 
-abbrev pub refusal_length : ℕ → ℕ → List ℕ → ℕ
-refusal_length number line out = length_where (refusal_fits out) (refusal_text number line)
+abbrev pub refusal_length : ℕ → ℕ → List ℕ → Option ℕ
+refusal_length number line out = written_where (refusal_fits out) (refusal_text number line)
 
 abbrev pub refusal_output : ℕ → ℕ → List ℕ → List ℕ
 refusal_output number line out = output_where (refusal_fits out) (refusal_text number line) out

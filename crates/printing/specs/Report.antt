@@ -1,9 +1,9 @@
 -- What the report program prints (request N3): it "prints one line per entry, entry and number of rows parted by a tab, and then likewise `total` and the
 -- number of rows in use."
-use Rattle.std.specs.Prelude.{ℕ, suc, ◌+◌, ◌*◌, Bool, List, [], ◌∷◌, ◌++◌, leb, length}
+use Rattle.std.specs.Prelude.{ℕ, suc, ◌+◌, ◌*◌, Bool, List, [], ◌∷◌, ◌++◌, leb, length, Option}
 use Rattle.decimal.specs.Spelling.{spelled_number}
-use Rattle.text.specs.Output.{length_where, output_where}
-use Rattle.printing.specs.Listing.{last_field}
+use Rattle.text.specs.Output.{output_where}
+use Rattle.printing.specs.Listing.{last_field, written_where}
 
 -- the lines of entries, numbered from e on, that have so many rows each
 unfoldable pub tally_texts : ℕ → List ℕ → List ℕ
@@ -28,8 +28,8 @@ total_size = 5 + 21 + 1
 unfoldable pub report_fits : List ℕ → List ℕ → Bool
 report_fits tallies out = leb (total_size + length tallies * tally_size) (length out)
 
-abbrev pub report_length : List ℕ → ℕ → List ℕ → ℕ
-report_length tallies total out = length_where (report_fits tallies out) (report_text tallies total)
+abbrev pub report_length : List ℕ → ℕ → List ℕ → Option ℕ
+report_length tallies total out = written_where (report_fits tallies out) (report_text tallies total)
 
 abbrev pub report_output : List ℕ → ℕ → List ℕ → List ℕ
 report_output tallies total out = output_where (report_fits tallies out) (report_text tallies total) out

@@ -23,6 +23,7 @@ use Rattle.printing.proofs.Lines.{table_lists, listing_lists}
 use Rattle.watch.specs.Demands.{chart_numbers}
 use Rattle.watch.proofs.Numbers.{some_answered}
 use Rattle.watch.proofs.Demands as watch
+use Rattle.std.specs.Prelude.{Option, Some, None}
 use Rattle.log_line.specs.declared.Call.{Call}
 use Rattle.log_line.specs.declared.Call.TheVariants as log
 use Rattle.log_line.proofs.Demands as line
@@ -42,13 +43,13 @@ Numbered (listed n rs) = Unit {0}
 Numbered (refused n line) = (1 ≤ n) × (n ≤ 12)
 
 module _ (ops : List Operator) (room : ℕ) where
-  call_number : (m : Model) (c : Call) → (call_answer room m c).number ≤ 12
+  call_number : (m : Model) (c : Option Call) → (call_answer room m c).number ≤ 12
   unfolding call_answer
-  call_number m log.Malformed = omega arith
-  call_number m (log.Open o) = omega arith
-  call_number m (log.Event k) = event_number m k
-  call_number m (log.Clock x) = clock_number room m x
-  call_number m (log.Forget f) = forget_number m f
+  call_number m None = omega arith
+  call_number m (Some (log.Open o)) = omega arith
+  call_number m (Some (log.Event k)) = event_number m k
+  call_number m (Some (log.Clock x)) = clock_number room m x
+  call_number m (Some (log.Forget f)) = forget_number m f
 
   -- an answer goes on or ends the run by its number
   goes_on_lem : (a : Answer Model) (n : ℕ) (on : Outcome) → a.number ≤ 12 → Numbered on → Numbered (cond (eqb a.number 0) on (refused a.number n))
@@ -66,13 +67,13 @@ module _ (ops : List Operator) (room : ℕ) where
       let a = call_answer room m (call_in l) in
       goes_on_lem a n (play_calls room a.state (suc n) ls) (call_number m (call_in l)) (calls_numbered_lem a.state (suc n) ls)
 
-  first_number : (c : Call) → (opening_answer ops c).number ≤ 12
+  first_number : (c : Option Call) → (opening_answer ops c).number ≤ 12
   unfolding opening_answer
-  first_number (log.Open o) = opening_number ops o
-  first_number log.Malformed = omega arith
-  first_number (log.Event k) = omega arith
-  first_number (log.Clock x) = omega arith
-  first_number (log.Forget f) = omega arith
+  first_number (Some (log.Open o)) = opening_number ops o
+  first_number None = omega arith
+  first_number (Some (log.Event k)) = omega arith
+  first_number (Some (log.Clock x)) = omega arith
+  first_number (Some (log.Forget f)) = omega arith
 
   log_numbered : (n : ℕ) (ls : List Line) → Numbered (play_log ops room n ls)
   unfolding play_log Numbered

@@ -12,7 +12,7 @@ use Rattle.interval.specs.Conditions.{is_related, is_forbidding, has_length, is_
 use Rattle.text.specs.Text.{split, lines}
 use Rattle.text.specs.Quoted.{bytes, tabbed, unended, text}
 use Rattle.decimal.specs.Spelling.{is_digit, all_digits, value_from, has_leading_zero, is_number, number_of, milliseconds_of, in_tenths, has_point, length_of, without_minus, with_minus, instant_of, digits_within, spelled_number, spelled_length, signed}
-use Rattle.chart.specs.Operators.{words, same_bytes, place_of, operator_of, edges_of, relation_of, length_test_of, kind_of, in_range, are_lower}
+use Rattle.chart.specs.Operators.{words, place_of, operator_of, edges_of, relation_of, length_test_of, kind_of, in_range, are_lower}
 use Rattle.chart.specs.Records.{with_code, event_line, with_operands, second_of, second_operand, operands_line, by_operator, operator_line, numbered, parsed_line, checked_entry, checked_line, answer_to}
 use Rattle.chart.specs.Charts.{no_entries, with_entry, refused_chart, read_lines, or_no_line}
 use Rattle.model.specs.Recognitions.{Operator, recognitions_of, with_entries, recognitions}
@@ -270,7 +270,7 @@ pub cases : List Case
 cases = P1-P8 ++ absences ++ tightest ++ delays ++ nearests ++ tenths ++ ends ++ refusals ++ reports
 
 pub examples : map (λ (c : Case). printed_for c.format c.room c.input) cases ≡ map (λ (c : Case). c.printed) cases
-unfolding cases bytes tabbed unended text split lines is_instant is_length first_floor is_mark_refused is_forget_refused is_related is_forbidding has_length is_rival_of_second is_rival_of_first is_digit all_digits value_from has_leading_zero is_number number_of milliseconds_of in_tenths has_point length_of without_minus with_minus instant_of digits_within spelled_number spelled_length signed words same_bytes place_of operator_of edges_of relation_of length_test_of kind_of in_range are_lower with_code event_line with_operands second_of second_operand operands_line by_operator operator_line numbered parsed_line checked_entry checked_line answer_to no_entries with_entry refused_chart read_lines or_no_line recognitions_of with_entries recognitions compare listing opening event_step clock_step forget_step operator_by operators_of call_words event_call instant_call word_call fields_call call_of tally tallies row_texts tally_texts call_in opening_answer call_answer play_calls play_log chart_lines log_lines play_lines outcome_text printed_for
+unfolding cases bytes tabbed unended text split lines is_instant is_length first_floor is_mark_refused is_forget_refused is_related is_forbidding has_length is_rival_of_second is_rival_of_first is_digit all_digits value_from has_leading_zero is_number number_of milliseconds_of in_tenths has_point length_of without_minus with_minus instant_of digits_within spelled_number spelled_length signed words place_of operator_of edges_of relation_of length_test_of kind_of in_range are_lower with_code event_line with_operands second_of second_operand operands_line by_operator operator_line numbered parsed_line checked_entry checked_line answer_to no_entries with_entry refused_chart read_lines or_no_line recognitions_of with_entries recognitions compare listing opening event_step clock_step forget_step operator_by operators_of call_words event_call instant_call word_call fields_call call_of tally tallies row_texts tally_texts call_in opening_answer call_answer play_calls play_log chart_lines log_lines play_lines outcome_text printed_for
 examples = refl
 
 -- the tree of row i of those that an input comes to, its references followed down
@@ -283,5 +283,5 @@ tree_for room input i = row_tree (operators_of (or_no_line (chart_lines (lines i
 
 -- "Row 7's tree is `<<e1,e4>>`."
 pub tree_of_row_7 : tree_for 3000 (text (chart1 "4 -[[ 3 2" ++ "" ∷ log1)) 7 ≡ bytes "<<e1,e4>>"
-unfolding bytes tabbed unended text split lines is_instant is_length first_floor is_mark_refused is_forget_refused is_related is_forbidding is_digit all_digits value_from has_leading_zero is_number number_of milliseconds_of in_tenths has_point length_of without_minus with_minus instant_of digits_within spelled_number spelled_length signed words same_bytes place_of operator_of edges_of relation_of length_test_of kind_of in_range are_lower with_code event_line with_operands second_of second_operand operands_line by_operator operator_line numbered parsed_line checked_entry checked_line answer_to no_entries with_entry refused_chart read_lines or_no_line recognitions_of with_entries recognitions compare listing opening event_step clock_step operator_by operators_of call_words event_call instant_call word_call fields_call call_of call_in opening_answer call_answer play_calls play_log chart_lines log_lines play_lines flat arity_of row_bytes reference_bytes tree_within tree_bytes
+unfolding bytes tabbed unended text split lines is_instant is_length first_floor is_mark_refused is_forget_refused is_related is_forbidding is_digit all_digits value_from has_leading_zero is_number number_of milliseconds_of in_tenths has_point length_of without_minus with_minus instant_of digits_within spelled_number spelled_length signed words place_of operator_of edges_of relation_of length_test_of kind_of in_range are_lower with_code event_line with_operands second_of second_operand operands_line by_operator operator_line numbered parsed_line checked_entry checked_line answer_to no_entries with_entry refused_chart read_lines or_no_line recognitions_of with_entries recognitions compare listing opening event_step clock_step operator_by operators_of call_words event_call instant_call word_call fields_call call_of call_in opening_answer call_answer play_calls play_log chart_lines log_lines play_lines flat arity_of row_bytes reference_bytes tree_within tree_bytes
 tree_of_row_7 = refl

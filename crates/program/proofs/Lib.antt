@@ -1,10 +1,8 @@
 pub mod Pieces
-pub mod Stages
 pub mod Playing
 pub mod Reaching
 pub mod Lines
 pub mod Reading
-pub mod LogLines
 pub mod Printing
 pub mod Theorems
 pub mod Demands

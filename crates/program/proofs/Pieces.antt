@@ -13,7 +13,7 @@ use Rattle.text.proofs.Laws.{split_some, split_empty, split_byte, glued, split_a
 use Rattle.chart.specs.Charts.{read_lines}
 use Rattle.chart.proofs.Lines.{refused_number, refused_line, read_unformed}
 use Rattle.program.specs.Outcomes.{call_in, is_empty}
-use Rattle.program.specs.Runs.{Progress, refused_run, unformed_run, entry_run, stepped, opening_line, call_step, line_step, after_line, after_parts, after_bytes, last_part, is_refused, kept_of, end_run, finished, Between, fed, fed_all}
+use Rattle.program.specs.Runs.{Progress, refused_run, unformed_run, entry_run, answered_run, open_step, call_step, line_step, after_line, after_parts, after_bytes, last_part, is_refused, kept_of, end_run, finished, Between, fed, fed_all}
 use Rattle.program.specs.declared.Run.{Run}
 use Rattle.program.specs.declared.Stage.{Stage}
 use Rattle.program.specs.declared.Stage.TheVariants.{Entries, Opening, Calls, Refused}
@@ -30,7 +30,7 @@ line_stopped p l e = go p.run.stage e
     go Entries d = never d
     go Opening d = never d
     go Calls d = never d
-    go Refused d = refl
+    go (Refused n) d = refl
 
 pub parts_stopped : (p : Progress) (ps : List (List ℕ)) → Stopped p → after_parts p ps ≡ p
 unfolding after_parts
@@ -54,7 +54,7 @@ end_stopped p e = ap (λ r. record { run = r; table = p.table }) (go p.run.stage
     go Entries d = never d
     go Opening d = never d
     go Calls d = never d
-    go Refused d = refl
+    go (Refused n) d = refl
 
 -- A line that lacks its byte 10 or has over 64 bytes is refused, whatever it has besides.
 abbrev pub unformed : Line
@@ -76,7 +76,7 @@ same_unformed p l e = go p.run.stage
     go Entries = rw (not_empty l e, read_unformed p.run.chart l [] e, read_unformed p.run.chart unformed [] refl)
     go Opening = rw e
     go Calls = rw e
-    go Refused = refl
+    go (Refused n) = refl
 
 -- what it makes of a run
 unformed_entry : (r : Run) → entry_run r (read_lines r.chart (unformed ∷ [])) ≡ refused_run r (cond (leb 32 r.chart.count) 2 3) (r.chart.count + 1)
@@ -88,14 +88,14 @@ unformed_entry r = rw (read_unformed r.chart unformed [] refl, refused_number, r
     go false x f = refl
 
 pub unformed_run_lem : (p : Progress) → after_line p unformed ≡ record { run = unformed_run p.run.stage p.run; table = p.table }
-unfolding line_step call_in opening_line call_step stepped unformed_run
+unfolding line_step call_in open_step call_step answered_run unformed_run
 unformed_run_lem p = go p.run.stage
   where
     go : (s : Stage) → line_step s p.run p.table unformed ≡ record { run = unformed_run s p.run; table = p.table }
     go Entries = ap (λ x. record { run = x; table = p.table }) (unformed_entry p.run)
     go Opening = refl
     go Calls = refl
-    go Refused = refl
+    go (Refused n) = refl
 
 pub unformed_stopped : (p : Progress) → Stopped (after_line p unformed)
 unfolding is_refused unformed_run refused_run
@@ -105,7 +105,7 @@ unformed_stopped p = ap (λ x. is_refused x.run.stage) (unformed_run_lem p) ∙ 
     go Entries e = refl
     go Opening e = refl
     go Calls e = refl
-    go Refused e = ap is_refused e
+    go (Refused n) e = ap is_refused e
 
 -- a long one is such a line, with its byte 10 or without
 long : (s : List ℕ) → 64 ≤ length s → (is_record (whole s) ≡ false) × (is_record (broken s) ≡ false)

@@ -33,14 +33,15 @@ use Rattle.watch.proofs.Shown.{Shows}
 use Rattle.watch.proofs.Steps.{opening_length, event_call, clock_call, forget_call}
 use Rattle.log_line.specs.declared.Call.{Call}
 use Rattle.log_line.specs.declared.Call.TheVariants as log
-use Rattle.text.specs.Output.{length_where, output_where}
-use Rattle.printing.specs.Listing.{listing_text, table_text, refusal_text, refusal_size, listing_length, listing_output, refusal_length, refusal_output, listing_fits, refusal_fits}
+use Rattle.std.specs.Prelude.{Option, Some, None}
+use Rattle.text.specs.Output.{output_where}
+use Rattle.printing.specs.Listing.{written_where, listing_text, table_text, refusal_text, refusal_size, listing_length, listing_output, refusal_length, refusal_output, listing_fits, refusal_fits}
 use Rattle.printing.specs.Report.{report_text, report_fits}
 use Rattle.printing.proofs.Laws as printing
 use Rattle.text.proofs.Written.{length_room, output_room, front_within}
 use Rattle.printing.proofs.Laws.{report_fits_lem, table_listing, refusal_fits_lem}
 use Rattle.program.specs.Outcomes.{Outcome, listed, refused, call_in, outcome_text}
-use Rattle.program.specs.Runs.{Progress, refused_run, next_run, stepped, opening_line, state_of, call_step, line_step, after_line, end_run, result_of, outcome_of, OfHistory, Holds, Reached, is_refused, Printable, reported_length, reported_output, table_length, table_output, length_at, output_at, printed_length, printed_output}
+use Rattle.program.specs.Runs.{Progress, refused_run, next_run, stepped, open_step, state_of, call_step, line_step, after_line, end_run, result_of, outcome_of, OfHistory, Holds, Reached, is_refused, Printable, reported_length, reported_output, table_length, table_output, length_at, output_at, printed_length, printed_output}
 use Rattle.program.specs.Statements.{bytes_for}
 use Rattle.program.specs.declared.Format.{Format}
 use Rattle.program.specs.declared.Format.TheVariants.{Listing, Report}
@@ -96,15 +97,7 @@ refused_text Listing n line = refl
 refused_text Report n line = refl
 
 -- The length of the table stays.
-stepped_table : (r : Run) (x : Step) → (stepped r x).table ≡ x.table
-unfolding stepped
-stepped_table r x = go (eqb x.answer.refusal 0)
-  where
-    go : (b : Bool) → (cond {A = Progress} b (record { run = next_run r Calls r.chart x.answer.watch; table = x.table }) (record { run = refused_run r x.answer.refusal (r.line + 1); table = x.table })).table ≡ x.table
-    go true = refl
-    go false = refl
-
-call_length : (chart : Chart) → is_usable chart ≡ true → (w : WatchState) (t : List ℤ) → OfHistory chart (record { watch = w; table = t; chart = chart }) → (c : Call) → length (call_step (record { watch = w; table = t; chart = chart }) c).table ≡ length t
+call_length : (chart : Chart) → is_usable chart ≡ true → (w : WatchState) (t : List ℤ) → OfHistory chart (record { watch = w; table = t; chart = chart }) → (c : Option Call) → length (call_step (record { watch = w; table = t; chart = chart }) c).table ≡ length t
 unfolding call_step
 call_length chart usable w t h c = go c
   where
@@ -114,32 +107,32 @@ call_length chart usable w t h c = go c
     one : (d : histories.Call) (x : Step) → call s d ≡ histories.stepped chart x → length x.table ≡ length t
     one d x e = same_length chart usable (histories.stepped chart x).state (history_on chart s d x e h) ∙ ap length (history_before chart s d x e h) ∙ sym (same_length chart usable s h)
 
-    go : (k : Call) → length (call_step s k).table ≡ length t
-    go log.Malformed = refl
-    go (log.Open o) = refl
-    go (log.Event k) = one (ref.event k) _ (event_call s k)
-    go (log.Clock x) = one (ref.clock x) _ (clock_call s x)
-    go (log.Forget f) = one (ref.forget f) _ (forget_call s f)
+    go : (k : Option Call) → length (call_step s k).table ≡ length t
+    go None = refl
+    go (Some (log.Open o)) = refl
+    go (Some (log.Event k)) = one (ref.event k) _ (event_call s k)
+    go (Some (log.Clock x)) = one (ref.clock x) _ (clock_call s x)
+    go (Some (log.Forget f)) = one (ref.forget f) _ (forget_call s f)
 
 line_length : (p : Progress) (l : Line) → Reached p → length (after_line p l).table ≡ length p.table
-unfolding line_step Holds opening_line
+unfolding line_step Holds open_step
 line_length p l h = go p.run.stage h
   where
     r : Run
     r = p.run
 
-    opens : (c : Call) → length (opening_line r p.table c).table ≡ length p.table
-    opens (log.Open o) = ap length (stepped_table r (opening_step r.chart p.table o)) ∙ opening_length r.chart p.table o
-    opens log.Malformed = refl
-    opens (log.Event k) = refl
-    opens (log.Clock x) = refl
-    opens (log.Forget f) = refl
+    opens : (c : Option Call) → length (open_step r.chart p.table c).table ≡ length p.table
+    opens (Some (log.Open o)) = opening_length r.chart p.table o
+    opens (Some (log.Event k)) = refl
+    opens (Some (log.Clock x)) = refl
+    opens (Some (log.Forget f)) = refl
+    opens None = refl
 
     go : (s : Stage) → Holds s r p.table → length (line_step s r p.table l).table ≡ length p.table
     go Entries k = refl
     go Opening k = opens (call_in l)
-    go Calls k = ap length (stepped_table r (call_step (state_of r p.table) (call_in l))) ∙ call_length r.chart k.1 r.watch.state p.table k.2 (call_in l)
-    go Refused k = refl
+    go Calls k = call_length r.chart k.0 r.watch.state p.table k.1 (call_in l)
+    go (Refused n) k = refl
 
 pub lines_length : (p : Progress) (ls : List Line) → Reached p → length (after_lines p ls).table ≡ length p.table
 unfolding after_lines
@@ -153,13 +146,14 @@ lines_on p (l ∷ ls) h = lines_on (after_line p l) ls (line_on p l h)
 
 -- the bytes that a run prints
 abbrev pub Prints : Format → Progress → List ℕ → List ℕ → Type 0
-Prints f q out text = (printed_length f q.run q.table out ≡ length text) × (printed_output f q.run q.table out ≡ text ++ drop (length text) out)
+Prints f q out text = (printed_length f q.run q.table out ≡ Some (length text)) × (printed_output f q.run q.table out ≡ text ++ drop (length text) out)
 
 -- a text that there is room for
-fits_front : (room : Bool) (s out : List ℕ) → room ≡ true → (length_where room s ≡ length s) × (output_where room s out ≡ s ++ drop (length s) out)
-fits_front room s out fits = (length_room room s out fits, output_room room s out fits)
+fits_front : (room : Bool) (s out : List ℕ) → room ≡ true → (written_where room s ≡ Some (length s)) × (output_where room s out ≡ s ++ drop (length s) out)
+unfolding written_where output_where
+fits_front room s out fits = rw fits (refl, refl)
 
-refusal_front : (n line : ℕ) (out : List ℕ) → refusal_size ≤ length out → (refusal_length n line out ≡ length (refusal_text n line)) × (refusal_output n line out ≡ refusal_text n line ++ drop (length (refusal_text n line)) out)
+refusal_front : (n line : ℕ) (out : List ℕ) → refusal_size ≤ length out → (refusal_length n line out ≡ Some (length (refusal_text n line))) × (refusal_output n line out ≡ refusal_text n line ++ drop (length (refusal_text n line)) out)
 refusal_front n line out h = fits_front (refusal_fits out) (refusal_text n line) out (refusal_fits_lem out h)
 
 -- in each format there is room for a refusal
@@ -172,12 +166,12 @@ unfolding refused_run length_at output_at outcome_of
 refusal_prints f r t n line out h = rw (refused_text f n line) (refusal_front n line out h)
 
 -- what is printed of watch and table of a history
-table_prints : (f : Format) (r : Run) (t : List ℤ) → is_usable r.chart ≡ true → OfHistory r.chart (state_of r t) → (out : List ℕ) → bytes_for f (room_in t) ≤ length out → let text = outcome_text f (listed r.chart.count (rows_in r.watch.state.rows t)) in (table_length f r t out ≡ length text) × (table_output f r t out ≡ text ++ drop (length text) out)
+table_prints : (f : Format) (r : Run) (t : List ℤ) → is_usable r.chart ≡ true → OfHistory r.chart (state_of r t) → (out : List ℕ) → bytes_for f (room_in t) ≤ length out → let text = outcome_text f (listed r.chart.count (rows_in r.watch.state.rows t)) in (table_length f r t out ≡ Some (length text)) × (table_output f r t out ≡ text ++ drop (length text) out)
 unfolding table_length table_output outcome_text
 table_prints Listing r t usable h out g =
     let same = same_listing r.chart usable (state_of r t) h in
     let front = fits_front (listing_fits r.watch.state.rows t out) (table_text r.watch.state.rows t) out (listing_fits_lem r.chart usable (state_of r t) h out g) in
-    (front.0 ∙ ap length same, front.1 ∙ ap (λ x. x ++ drop (length x) out) same)
+    (front.0 ∙ ap (λ x. Some (length x)) same, front.1 ∙ ap (λ x. x ++ drop (length x) out) same)
 table_prints Report r t usable h out g =
     let rs = rows_in r.watch.state.rows t in
     let n = r.chart.count in
@@ -186,7 +180,7 @@ table_prints Report r t usable h out g =
     let text : report_text (take p.entries p.tallies) p.rows ≡ report_text (tallies n rs) (length rs) = ap₂ report_text lines (report_rows n rs) in
     let few : length (take p.entries p.tallies) ≤ 32 = rw (lines, length_tallies n rs) (usable_few r.chart usable) in
     let front = fits_front (report_fits (take p.entries p.tallies) out) (report_text (take p.entries p.tallies) p.rows) out (report_fits_lem (take p.entries p.tallies) out (omega (arith, few, g))) in
-    (front.0 ∙ ap length text, front.1 ∙ ap (λ x. x ++ drop (length x) out) text)
+    (front.0 ∙ ap (λ x. Some (length x)) text, front.1 ∙ ap (λ x. x ++ drop (length x) out) text)
 
 pub end_prints : (f : Format) (p : Progress) (out : List ℕ) → Reached p → bytes_for f (room_in p.table) ≤ length out → Prints f (at_end p) out (outcome_text f (result_of (at_end p)))
 unfolding end_run Holds length_at output_at outcome_of
@@ -209,53 +203,10 @@ end_prints f p out h g = go p.run.stage refl h
     go Entries e k = at_once (eqb r.chart.count 0) 1 1 7 (r.line + 1)
     go Opening e k = refusal_prints f r t 7 (r.line + 1) out room
     go Calls e k =
-        let front = table_prints f r t k.1 k.2 out g in
+        let front = table_prints f r t k.0 k.1 out g in
         let o : outcome_of r.stage r t ≡ outcome_of Calls r t = ap (λ s. outcome_of s r t) e in
-        (ap (λ s. length_at f s r t out) e ∙ front.0 ∙ ap (λ x. length (outcome_text f x)) (sym o), ap (λ s. output_at f s r t out) e ∙ front.1 ∙ ap (λ x. outcome_text f x ++ drop (length (outcome_text f x)) out) (sym o))
-    go Refused e k = let front = refusal_front r.refusal r.line out room in (rw (e, refused_text f r.refusal r.line) front.0, rw (e, refused_text f r.refusal r.line) front.1)
-
--- what is printed, by whether the run is refused
-module _ (f : Format) (r : Run) (t : List ℤ) (out : List ℕ) where
-  pub refused_prints : (s : Stage) → is_refused s ≡ true → (length_at f s r t out ≡ refusal_length r.refusal r.line out) × (output_at f s r t out ≡ refusal_output r.refusal r.line out)
-  unfolding is_refused length_at output_at
-  refused_prints Entries e = never e
-  refused_prints Opening e = never e
-  refused_prints Calls e = never e
-  refused_prints Refused e = (refl, refl)
-
-  pub going_prints : (s : Stage) → is_refused s ≡ false → (length_at f s r t out ≡ table_length f r t out) × (output_at f s r t out ≡ table_output f r t out)
-  unfolding is_refused length_at output_at
-  going_prints Entries e = (refl, refl)
-  going_prints Opening e = (refl, refl)
-  going_prints Calls e = (refl, refl)
-  going_prints Refused e = never (sym e)
-
-  -- format by format
-  pub listing_prints : f ≡ Listing → (table_length f r t out ≡ listing_length r.watch.state.rows t out) × (table_output f r t out ≡ listing_output r.watch.state.rows t out)
-  unfolding table_length table_output
-  listing_prints e = (rw e, rw e)
-
-  pub report_prints : f ≡ Report → let p = report_of r.chart.count (rows_in r.watch.state.rows t) in (table_length f r t out ≡ reported_length p out) × (table_output f r t out ≡ reported_output p out)
-  unfolding table_length table_output
-  report_prints e = (rw e, rw e)
-
--- what is printed is in the output
-table_within : (f : Format) (r : Run) (t : List ℤ) (out : List ℕ) → length (table_output f r t out) ≡ length out → table_length f r t out ≤ length out
-unfolding table_length table_output
-table_within Listing r t out h = front_within (listing_fits r.watch.state.rows t out) (table_text r.watch.state.rows t) out h
-table_within Report r t out h =
-    let p = report_of r.chart.count (rows_in r.watch.state.rows t) in
-    front_within (report_fits (take p.entries p.tallies) out) (report_text (take p.entries p.tallies) p.rows) out h
-
-pub printed_within : (f : Format) (r : Run) (t : List ℤ) (out : List ℕ) → length (printed_output f r t out) ≡ length out → printed_length f r t out ≤ length out
-unfolding length_at output_at
-printed_within f r t out e = go r.stage e
-  where
-    go : (s : Stage) → length (output_at f s r t out) ≡ length out → length_at f s r t out ≤ length out
-    go Entries h = table_within f r t out h
-    go Opening h = table_within f r t out h
-    go Calls h = table_within f r t out h
-    go Refused h = front_within (refusal_fits out) (refusal_text r.refusal r.line) out h
+        (ap (λ s. length_at f s r t out) e ∙ front.0 ∙ ap (λ x. Some (length (outcome_text f x))) (sym o), ap (λ s. output_at f s r t out) e ∙ front.1 ∙ ap (λ x. outcome_text f x ++ drop (length (outcome_text f x)) out) (sym o))
+    go (Refused n) e k = let front = refusal_front n r.line out room in (rw (e, refused_text f n r.line) front.0, rw (e, refused_text f n r.line) front.1)
 
 -- a run at its end, if not refused, has what a report asks
 end_reports : (p : Progress) → Reached p → Printable Report (at_end p).run (at_end p).table
@@ -272,8 +223,8 @@ end_reports p h = go p.run.stage refl h
     go : (s : Stage) → r.stage ≡ s → Holds s r p.table → Printable Report (end_run s r) p.table
     go Entries e k z = at_once (eqb r.chart.count 0) 1 1 7 (r.line + 1) z
     go Opening e k z = never (sym z)
-    go Calls e k z = history_checked r.chart k.1 (state_of r p.table) k.2
-    go Refused e k z = never (sym z ∙ ap is_refused e)
+    go Calls e k z = history_checked r.chart k.0 (state_of r p.table) k.1
+    go (Refused n) e k z = never (sym z ∙ ap is_refused e)
 
 pub end_printable : (f : Format) (p : Progress) → Reached p → Printable f (at_end p).run (at_end p).table
 end_printable Listing p h = tt
@@ -309,5 +260,5 @@ end_added p h = go p.run.stage refl h
     go : (s : Stage) → r.stage ≡ s → Holds s r t → Added (result_of (record { run = end_run s r; table = t }))
     go Entries e k = at_once (eqb r.chart.count 0) 1 1 7 (r.line + 1)
     go Opening e k = tt
-    go Calls e k = subst Added (ap (λ s. outcome_of s r t) (sym e)) (table_added k.1 k.2)
-    go Refused e k = subst Added (ap (λ s. outcome_of s r t) (sym e)) tt
+    go Calls e k = subst Added (ap (λ s. outcome_of s r t) (sym e)) (table_added k.0 k.1)
+    go (Refused n) e k = subst Added (ap (λ s. outcome_of s r t) (sym e)) tt

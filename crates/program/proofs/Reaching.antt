@@ -28,8 +28,9 @@ use Rattle.model.proofs.ReferenceLaws.{run_none, run_more}
 use Rattle.watch.proofs.Steps.{event_call, clock_call, forget_call}
 use Rattle.log_line.specs.declared.Call.{Call}
 use Rattle.log_line.specs.declared.Call.TheVariants as log
+use Rattle.std.specs.Prelude.{Option, Some, None}
 use Rattle.program.specs.Outcomes.{call_in, is_empty}
-use Rattle.program.specs.Runs.{Progress, refused_run, next_run, entry_run, chart_end, stepped, opening_line, state_of, call_step, line_step, after_line, after_parts, after_bytes, is_refused, Holds, Reached, OfHistory, HasFew, HasLines, start_run}
+use Rattle.program.specs.Runs.{Progress, refused_run, next_run, entry_run, chart_end, answered_run, stepped, open_step, state_of, call_step, line_step, after_line, after_parts, after_bytes, is_refused, Holds, Reached, OfHistory, HasFew, HasLines, start_run}
 use Rattle.program.specs.declared.Run.{Run}
 use Rattle.program.specs.declared.Stage.{Stage}
 use Rattle.program.specs.declared.Stage.TheVariants.{Entries, Opening, Calls, Refused}
@@ -47,8 +48,8 @@ reached_few p h = go p.run.stage h
     go : (s : Stage) → Holds s p.run p.table → is_refused s ≡ false → p.run.chart.count ≤ 32
     go Entries k z = (read_good p.run.chart k).few
     go Opening k z = usable_few p.run.chart k
-    go Calls k z = usable_few p.run.chart k.1
-    go Refused k z = never (sym z)
+    go Calls k z = usable_few p.run.chart k.0
+    go (Refused n) k z = never (sym z)
 
 -- each stage goes on to one of which it holds
 entries_on : (r : Run) (t : List ℤ) (l : Line) → Holds Entries r t → Reached (record { run = cond (is_empty l) (chart_end r) (entry_run r (read_lines r.chart (l ∷ []))); table = t })
@@ -72,24 +73,24 @@ entries_on r t l h = go (is_empty l)
 
 -- a step of the watch that ends in a history
 stepped_on : (r : Run) (x : Step) → is_usable r.chart ≡ true → (x.answer.refusal ≡ 0 → OfHistory r.chart (watch.stepped r.chart x).state) → Reached (stepped r x)
-unfolding Holds stepped next_run refused_run
+unfolding Holds answered_run next_run refused_run
 stepped_on r x usable h = go (eqb x.answer.refusal 0) refl
   where
-    go : (b : Bool) → eqb x.answer.refusal 0 ≡ b → Reached (cond b (record { run = next_run r Calls r.chart x.answer.watch; table = x.table }) (record { run = refused_run r x.answer.refusal (r.line + 1); table = x.table }))
-    go true e = (refl, usable, h (eqb-true x.answer.refusal 0 e))
+    go : (b : Bool) → eqb x.answer.refusal 0 ≡ b → Reached (record { run = cond b (next_run r Calls r.chart x.answer.watch) (refused_run r x.answer.refusal (r.line + 1)); table = x.table })
+    go true e = (usable, h (eqb-true x.answer.refusal 0 e))
     go false e = tt
 
-opening_on : (r : Run) (t : List ℤ) (c : Call) → Holds Opening r t → Reached (opening_line r t c)
-unfolding opening_line Holds refused_run
-opening_on r t (log.Open o) usable = stepped_on r (opening_step r.chart t o) usable (λ z. go z (is_instant o) refl)
+opening_on : (r : Run) (t : List ℤ) (c : Option Call) → Holds Opening r t → Reached (stepped r (open_step r.chart t c))
+unfolding open_step Holds answered_run refused_run
+opening_on r t (Some (log.Open o)) usable = stepped_on r (opening_step r.chart t o) usable (λ z. go z (is_instant o) refl)
   where
     go : (opening_step r.chart t o).answer.refusal ≡ 0 → (b : Bool) → is_instant o ≡ b → OfHistory r.chart (watch.stepped r.chart (opening_step r.chart t o)).state
     go z true e = record { before = t; opened = o; in_range = e; calls = []; same = sym (run_none call (opened r.chart t o)) }
     go z false e = absurd (let k : (opening_step r.chart t o).answer.refusal ≡ 8 = ap (λ x. x.answer.refusal) (opening_8 r.chart t o usable e) in omega (arith, k, z))
-opening_on r t log.Malformed usable = tt
-opening_on r t (log.Event k) usable = tt
-opening_on r t (log.Clock x) usable = tt
-opening_on r t (log.Forget f) usable = tt
+opening_on r t (Some (log.Event k)) usable = tt
+opening_on r t (Some (log.Clock x)) usable = tt
+opening_on r t (Some (log.Forget f)) usable = tt
+opening_on r t None usable = tt
 
 -- one call more, which leaves the chart: the step x
 pub history_on : (chart : Chart) (s : State) (c : watch.Call) (x : Step) → call s c ≡ watch.stepped chart x → OfHistory chart s → OfHistory chart (watch.stepped chart x).state
@@ -105,17 +106,21 @@ history_on chart s c x e h = record {
 pub history_checked : (chart : Chart) → is_usable chart ≡ true → (s : State) → OfHistory chart s → check_number s.chart s.watch s.table ≡ 0
 history_checked chart usable s h = ap (λ x. check_number x.chart x.watch x.table) h.same ∙ history_consistent chart usable h.before h.opened h.in_range h.calls
 
+pub reached_checked : (r : Run) (t : List ℤ) → r.stage ≡ Calls → Reached (record { run = r; table = t }) → check_number r.chart r.watch.state t ≡ 0
+unfolding Holds
+reached_checked r t e h = let k : Holds Calls r t = subst (λ s. Holds s r t) e h in history_checked r.chart k.0 (state_of r t) k.1
+
 pub history_before : (chart : Chart) (s : State) (c : watch.Call) (x : Step) (e : call s c ≡ watch.stepped chart x) (h : OfHistory chart s) → (history_on chart s c x e h).before ≡ h.before
 unfolding history_on
 history_before chart s c x e h = refl
 
-calls_on : (r : Run) (t : List ℤ) (c : Call) → Holds Calls r t → Reached (stepped r (call_step (state_of r t) c))
+calls_on : (r : Run) (t : List ℤ) (c : Option Call) → Holds Calls r t → Reached (stepped r (call_step (state_of r t) c))
 unfolding call_step Holds
-calls_on r t log.Malformed (z, usable, h) = stepped_on r (refused_step 7 r.watch.state t) usable (λ y. h)
-calls_on r t (log.Open x) (z, usable, h) = stepped_on r (refused_step 7 r.watch.state t) usable (λ y. h)
-calls_on r t (log.Event k) (z, usable, h) = stepped_on r (event_step r.chart r.watch.state t k) usable (λ y. history_on r.chart (state_of r t) (ref.event k) _ (event_call (state_of r t) k) h)
-calls_on r t (log.Clock x) (z, usable, h) = stepped_on r (clock_step r.chart r.watch.state t x) usable (λ y. history_on r.chart (state_of r t) (ref.clock x) _ (clock_call (state_of r t) x) h)
-calls_on r t (log.Forget f) (z, usable, h) = stepped_on r (forget_step r.chart r.watch.state t f) usable (λ y. history_on r.chart (state_of r t) (ref.forget f) _ (forget_call (state_of r t) f) h)
+calls_on r t None (usable, h) = stepped_on r (refused_step 7 r.watch.state t) usable (λ y. h)
+calls_on r t (Some (log.Open x)) (usable, h) = stepped_on r (refused_step 7 r.watch.state t) usable (λ y. h)
+calls_on r t (Some (log.Event k)) (usable, h) = stepped_on r (event_step r.chart r.watch.state t k) usable (λ y. history_on r.chart (state_of r t) (ref.event k) _ (event_call (state_of r t) k) h)
+calls_on r t (Some (log.Clock x)) (usable, h) = stepped_on r (clock_step r.chart r.watch.state t x) usable (λ y. history_on r.chart (state_of r t) (ref.clock x) _ (clock_call (state_of r t) x) h)
+calls_on r t (Some (log.Forget f)) (usable, h) = stepped_on r (forget_step r.chart r.watch.state t f) usable (λ y. history_on r.chart (state_of r t) (ref.forget f) _ (forget_call (state_of r t) f) h)
 
 pub line_on : (p : Progress) (l : Line) → Reached p → Reached (after_line p l)
 unfolding line_step
@@ -125,7 +130,7 @@ line_on p l h = go p.run.stage refl h
     go Entries e k = entries_on p.run p.table l k
     go Opening e k = opening_on p.run p.table (call_in l) k
     go Calls e k = calls_on p.run p.table (call_in l) k
-    go Refused e k = subst (λ s. Holds s p.run p.table) (sym e) k
+    go (Refused n) e k = subst (λ s. Holds s p.run p.table) (sym e) k
 
 parts_on : (p : Progress) (ps : List (List ℕ)) → Reached p → Reached (after_parts p ps)
 unfolding after_parts
@@ -170,20 +175,8 @@ either_counted r true x y p q = p
 either_counted r false x y p q = q
 
 step_counted : (r : Run) (x : Step) → Counted r (stepped r x).run
-unfolding stepped
-step_counted r x = go (eqb x.answer.refusal 0)
-  where
-    go : (b : Bool) → Counted r (cond {A = Progress} b (record { run = next_run r Calls r.chart x.answer.watch; table = x.table }) (record { run = refused_run r x.answer.refusal (r.line + 1); table = x.table })).run
-    go true = next_counted r Calls r.chart x.answer.watch
-    go false = refused_counted r x.answer.refusal (r.line + 1)
-
-opening_counted : (r : Run) (t : List ℤ) (c : Call) → Counted r (opening_line r t c).run
-unfolding opening_line
-opening_counted r t (log.Open o) = step_counted r (opening_step r.chart t o)
-opening_counted r t log.Malformed = refused_counted r 7 (r.line + 1)
-opening_counted r t (log.Event k) = refused_counted r 7 (r.line + 1)
-opening_counted r t (log.Clock x) = refused_counted r 7 (r.line + 1)
-opening_counted r t (log.Forget f) = refused_counted r 7 (r.line + 1)
+unfolding answered_run
+step_counted r x = either_counted r (eqb x.answer.refusal 0) (next_run r Calls r.chart x.answer.watch) (refused_run r x.answer.refusal (r.line + 1)) (next_counted r Calls r.chart x.answer.watch) (refused_counted r x.answer.refusal (r.line + 1))
 
 pub line_counted : (p : Progress) (l : Line) → is_refused (after_line p l).run.stage ≡ false → (after_line p l).run.line ≤ p.run.line + 1
 unfolding Counted line_step entry_run chart_end
@@ -197,9 +190,9 @@ line_counted p l = go p.run.stage
 
     go : (s : Stage) → Counted r (line_step s r p.table l).run
     go Entries = either_counted r (is_empty l) (chart_end r) (entry_run r a) (either_counted r (eqb r.chart.count 0) (refused_run r 1 1) (next_run r Opening r.chart r.watch) (refused_counted r 1 1) (next_counted r Opening r.chart r.watch)) (either_counted r (eqb a.refusal 0) (next_run r Entries a.chart r.watch) (refused_run r a.refusal a.line) (next_counted r Entries a.chart r.watch) (refused_counted r a.refusal a.line))
-    go Opening = opening_counted r p.table (call_in l)
+    go Opening = step_counted r (open_step r.chart p.table (call_in l))
     go Calls = step_counted r (call_step (state_of r p.table) (call_in l))
-    go Refused = λ z. omega arith
+    go (Refused n) = λ z. omega arith
 
 parts_counted : (p : Progress) (s : List ℕ) (ss : List (List ℕ)) → is_refused (after_parts p (s ∷ ss)).run.stage ≡ false → (after_parts p (s ∷ ss)).run.line ≤ p.run.line + length ss
 unfolding after_parts

@@ -12,8 +12,9 @@ use lib.Seq.{length-take-le, drop-drop}
 use Rattle.interval.proofs.Signed.{never}
 use Rattle.text.specs.Text.{Line, whole, broken, split, index_of, is_record, line_size}
 use Rattle.text.specs.Output.{rest_length}
-use Rattle.text.proofs.Laws.{split_some, split_cut, split_none, index_le, size_le, FirstPart, first_part, none_early, part_from}
-use Rattle.program.specs.Runs.{Progress, unformed_run, after_line, after_parts, after_bytes, last_part, is_refused, kept_of, Reached, Read, HasLines, fed_to, settled_going, settled_at, finished, finished_run}
+use Rattle.std.specs.Prelude.{Some, None, ◌||◌}
+use Rattle.text.proofs.Laws.{split_some, split_cut, split_none, index_le, size_le, FirstPart, first_part, none_early}
+use Rattle.program.specs.Runs.{Progress, unformed_run, after_line, after_parts, after_bytes, last_part, is_refused, kept_of, Reached, Read, HasLines, settled_run, finished, finished_run}
 use Rattle.program.specs.declared.Run.{Run}
 use Rattle.program.specs.declared.Fed.{Fed}
 use Rattle.program.specs.declared.Stage.{Stage}
@@ -26,18 +27,18 @@ pub line_unformed : (p : Progress) (l : Line) → is_record l ≡ false → afte
 line_unformed p l e = same_unformed p l e ∙ unformed_run_lem p
 
 -- a whole line in front
-pub line_first : (p : Progress) (s : List ℕ) → (line_size s ≡ 0 → ⊥) → (after_bytes p s ≡ after_bytes (after_line p (whole (take (line_size s - 1) s))) (drop (line_size s) s)) × (last_part (split 10 s) ≡ last_part (split 10 (drop (line_size s) s)))
+pub line_first : (p : Progress) (s : List ℕ) (n : ℕ) → line_size s ≡ Some n → (after_bytes p s ≡ after_bytes (after_line p (whole (take (n - 1) s))) (drop n s)) × (last_part (split 10 s) ≡ last_part (split 10 (drop n s)))
 unfolding after_bytes after_parts last_part
-line_first p s h = go (split_some 10 (drop (line_size s) s))
+line_first p s n h = go (split_some 10 (drop n s))
   where
-    f : FirstPart s
-    f = first_part s h
+    f : FirstPart s n
+    f = first_part s n h
 
-    go : (q : List ℕ) × (qs : List (List ℕ)) × (split 10 (drop (line_size s) s) ≡ q ∷ qs) → (after_parts p (split 10 s) ≡ after_parts (after_line p (whole (take (line_size s - 1) s))) (split 10 (drop (line_size s) s))) × (last_part (split 10 s) ≡ last_part (split 10 (drop (line_size s) s)))
+    go : (q : List ℕ) × (qs : List (List ℕ)) × (split 10 (drop n s) ≡ q ∷ qs) → (after_parts p (split 10 s) ≡ after_parts (after_line p (whole (take (n - 1) s))) (split 10 (drop n s))) × (last_part (split 10 s) ≡ last_part (split 10 (drop n s)))
     go (q, qs, e) = (rw (f.parts, e), rw (f.parts, e))
 
 -- none, and less than 64 bytes
-pub rest_short : (p : Progress) (s : List ℕ) → line_size s ≡ 0 → length s < 64 → (after_bytes p s ≡ p) × (last_part (split 10 s) ≡ s)
+pub rest_short : (p : Progress) (s : List ℕ) → line_size s ≡ None → length s < 64 → (after_bytes p s ≡ p) × (last_part (split 10 s) ≡ s)
 unfolding after_bytes after_parts last_part
 rest_short p s z h =
     let e : split 10 s ≡ s ∷ [] = split_none 10 s (omega (arith, none_early s z, length-take 64 s, index_le 10 s)) in
@@ -45,7 +46,7 @@ rest_short p s z h =
     (rw (e, few), rw e)
 
 -- none in 64 bytes or more: a line that is too long, whether its end is there or not
-pub rest_long : (p : Progress) (s : List ℕ) → line_size s ≡ 0 → 64 ≤ length s → after_bytes p s ≡ record { run = unformed_run p.run.stage p.run; table = p.table }
+pub rest_long : (p : Progress) (s : List ℕ) → line_size s ≡ None → 64 ≤ length s → after_bytes p s ≡ record { run = unformed_run p.run.stage p.run; table = p.table }
 unfolding after_bytes after_parts
 rest_long p s z h = go (ltb (index_of 10 s) (length s)) refl (split_some 10 (drop (suc (index_of 10 s)) s)) ∙ unformed_run_lem p
   where
@@ -71,48 +72,46 @@ pub read_none : (p : Progress) (s : List ℕ) → Reached p → Read p p 0 s
 read_none p s h = record { inside = omega arith; after = refl; last = refl; goes = λ z. z; lines = λ z. omega arith; reached = h }
 
 -- one line further
-pub read_line : (p q : Progress) (used : ℕ) (s : List ℕ) → Read p q used s → (line_size (drop used s) ≡ 0 → ⊥) → Read p (after_line q (whole (take (line_size (drop used s) - 1) (drop used s)))) (used + line_size (drop used s)) s
-read_line p q used s h some =
-    let r = drop used s in
-    let k = line_size r in
-    let l = whole (take (k - 1) r) in
-    let f = line_first q r some in
-    let behind : drop k r ≡ drop (used + k) s = drop-drop k used s in
+pub read_line : (p q : Progress) (used n : ℕ) (s : List ℕ) → Read p q used s → line_size (drop used s) ≡ Some n → Read p (after_line q (whole (take (n - 1) (drop used s)))) (used + n) s
+read_line p q used n s h e =
+    let f = line_first q (drop used s) n e in
+    let behind : drop n (drop used s) ≡ drop (used + n) s = drop-drop n used s in
     record {
-      inside = omega (arith, h.inside, size_le r, length-drop used s);
-      after = h.after ∙ f.0 ∙ ap (after_bytes (after_line q l)) behind;
+      inside = omega (arith, h.inside, size_le (drop used s) n e, length-drop used s);
+      after = h.after ∙ f.0 ∙ ap (after_bytes (after_line q l₀)) behind;
       last = h.last ∙ f.1 ∙ ap (λ x. last_part (split 10 x)) behind;
       goes = λ z. h.goes (going (is_refused q.run.stage) refl z);
       lines = λ z. counted (is_refused q.run.stage) refl z;
-      reached = line_on q l h.reached;
+      reached = line_on q l₀ h.reached;
     }
   where
     l₀ : Line
-    l₀ = whole (take (line_size (drop used s) - 1) (drop used s))
+    l₀ = whole (take (n - 1) (drop used s))
 
     going : (b : Bool) → is_refused q.run.stage ≡ b → is_refused (after_line q l₀).run.stage ≡ false → is_refused q.run.stage ≡ false
-    going true e z = never (sym z ∙ ap (λ x. is_refused x.run.stage) (line_stopped q l₀ e) ∙ e)
-    going false e z = e
+    going true d z = never (sym z ∙ ap (λ x. is_refused x.run.stage) (line_stopped q l₀ d) ∙ d)
+    going false d z = d
 
-    counted : (b : Bool) → is_refused q.run.stage ≡ b → is_refused (after_line q l₀).run.stage ≡ false → (after_line q l₀).run.line ≤ p.run.line + (used + line_size (drop used s))
-    counted true e z = never (sym z ∙ ap (λ x. is_refused x.run.stage) (line_stopped q l₀ e) ∙ e)
-    counted false e z = omega (arith, line_counted q l₀ z, h.lines e, (first_part (drop used s) some).some)
+    counted : (b : Bool) → is_refused q.run.stage ≡ b → is_refused (after_line q l₀).run.stage ≡ false → (after_line q l₀).run.line ≤ p.run.line + (used + n)
+    counted true d z = never (sym z ∙ ap (λ x. is_refused x.run.stage) (line_stopped q l₀ d) ∙ d)
+    counted false d z = omega (arith, line_counted q l₀ z, h.lines d, (first_part (drop used s) n e).some)
 
--- the same as a loop has it: its size, and the line as a part of the slice
-module _ (p q : Progress) (used size : ℕ) (s : List ℕ) (h : Read p q used s) (is : size ≡ line_size (drop used s)) where
-  pub next_inside : used + size ≤ length s
-  next_inside = omega (arith, h.inside, size_le (drop used s), length-drop used s, is)
+-- the same as a loop has it: the line as a part of the slice
+module _ (p q : Progress) (used n : ℕ) (s : List ℕ) (h : Read p q used s) (e : line_size (drop used s) ≡ Some n) where
+  pub next_some : 0 < n
+  next_some = (first_part (drop used s) n e).some
 
-  module _ (some : size ≡ 0 → ⊥) where
-    pub next_short : length (take (used + size - 1 - used) (drop used s)) < 64
-    next_short = omega (arith, (first_part (drop used s) (λ z. some (is ∙ z))).short, is, length-take (used + size - 1 - used) (drop used s))
+  pub next_inside : used + n ≤ length s
+  next_inside = omega (arith, h.inside, size_le (drop used s) n e, length-drop used s)
 
-    pub read_next : (r : Progress) → r ≡ after_line q (whole (take (used + size - 1 - used) (drop used s))) → Read p r (used + size) s
-    read_next r e =
-        let k : used + size - 1 - used ≡ line_size (drop used s) - 1 = omega (arith, is) in
-        let n : used + line_size (drop used s) ≡ used + size = ap (λ m. used + m) (sym is) in
-        let f : after_line q (whole (take (line_size (drop used s) - 1) (drop used s))) ≡ r = ap (λ m. after_line q (whole (take m (drop used s)))) (sym k) ∙ sym e in
-        subst (λ m. Read p r m s) n (subst (λ x. Read p x (used + line_size (drop used s)) s) f (read_line p q used s h (λ z. some (is ∙ z))))
+  pub next_short : length (take (used + n - 1 - used) (drop used s)) < 64
+  next_short = omega (arith, first_part (drop used s) n e, length-take (used + n - 1 - used) (drop used s))
+
+  pub read_next : (r : Progress) → r ≡ after_line q (whole (take (used + n - 1 - used) (drop used s))) → Read p r (used + n) s
+  read_next r d =
+      let k : used + n - 1 - used ≡ n - 1 = omega arith in
+      let f : after_line q (whole (take (n - 1) (drop used s))) ≡ r = ap (λ m. after_line q (whole (take m (drop used s)))) (sym k) ∙ sym d in
+      subst (λ x. Read p x (used + n) s) f (read_line p q used n s h e)
 
 -- room for the lines that are left
 pub lines_left : (p q : Progress) (used n m : ℕ) (s : List ℕ) → Read p q used s → used + n ≤ m → HasLines p.run m → HasLines q.run n
@@ -127,23 +126,6 @@ pub lines_fewer : (r : Run) (n m : ℕ) → n ≤ m → HasLines r m → HasLine
 unfolding HasLines
 lines_fewer r n m g k z = omega (arith, k z, g)
 
--- one reading after another
-pub read_on : (p q r : Progress) (used more : ℕ) (s : List ℕ) → Read p q used s → Read q r more (drop used s) → is_refused q.run.stage ≡ false → Read p r (used + more) s
-read_on p q r used more s f g e = record {
-  inside = omega (arith, f.inside, g.inside, length-drop used s);
-  after = f.after ∙ g.after ∙ ap (after_bytes r) (drop-drop more used s);
-  last = f.last ∙ g.last ∙ ap (λ x. last_part (split 10 x)) (drop-drop more used s);
-  goes = λ z. f.goes e;
-  lines = λ z. omega (arith, g.lines z, f.lines e);
-  reached = g.reached;
-}
-
--- the second of them over the part of the slice that the first has left
-pub read_part : (p q r : Progress) (used more : ℕ) (s : List ℕ) → Read p q used s → Read q r more (take (length s - used) (drop used s)) → is_refused q.run.stage ≡ false → (is_refused r.run.stage ≡ false → line_size (drop more (take (length s - used) (drop used s))) ≡ 0) → Read p r (used + more) s × (is_refused r.run.stage ≡ false → line_size (drop (used + more) s) ≡ 0)
-read_part p q r used more s f g e z =
-    let part = part_from used s in
-    (read_on p q r used more s f (subst (λ x. Read q r more x) part g) e, λ y. ap line_size (sym (drop-drop more used s)) ∙ ap (λ x. line_size (drop more x)) (sym part) ∙ z y)
-
 -- what is left when no whole line is
 pub record Settled (p : Progress) (t : List ℤ) (f : Fed) (s : List ℕ) : Type 0 where
   pub all : record { run = f.run; table = t } ≡ after_bytes p s
@@ -153,9 +135,9 @@ pub record Settled (p : Progress) (t : List ℤ) (f : Fed) (s : List ℕ) : Type
 drop_all : (s : List ℕ) → drop (length s) s ≡ []
 drop_all s = drop_of_length-le s {i = length s} (omega arith)
 
-going : (p q : Progress) (used : ℕ) (s : List ℕ) → Read p q used s → is_refused q.run.stage ≡ false → line_size (drop used s) ≡ 0 → Settled p q.table (settled_going q.run used (length s)) s
-unfolding settled_going kept_of
-going p q used s h e z = go (leb 64 (length s - used)) refl
+pub settled_as : (p q : Progress) (used : ℕ) (s : List ℕ) → Read p q used s → (is_refused q.run.stage ≡ false → line_size (drop used s) ≡ None) → Settled p q.table (settled_run q.run used (length s)) s
+unfolding settled_run kept_of
+settled_as p q used s h none = go (is_refused q.run.stage) refl (leb 64 (length s - used)) refl
   where
     size : length (drop used s) ≡ length s - used
     size = length-drop used s
@@ -166,30 +148,16 @@ going p q used s h e z = go (leb 64 (length s - used)) refl
     stopped : is_refused u.run.stage ≡ true
     stopped = ap (λ x. is_refused x.run.stage) (sym (unformed_run_lem q)) ∙ unformed_stopped q
 
-    go : (b : Bool) → leb 64 (length s - used) ≡ b → Settled p q.table (cond b (fed_to u.run (length s)) (fed_to q.run used)) s
-    go true g =
-        let a : after_bytes p s ≡ u = h.after ∙ rest_long q (drop used s) z (omega (arith, leb-true 64 (length s - used) g, size)) in
-        record { all = sym a; inside = omega arith; kept = drop_all s ∙ sym (rw (a, stopped)) }
-    go false g =
-        let b = rest_short q (drop used s) z (omega (arith, leb-false 64 (length s - used) g, size)) in
+    all : after_bytes p s ≡ u → Settled p q.table (record { run = u.run; used = length s }) s
+    all a = record { all = sym a; inside = omega arith; kept = drop_all s ∙ sym (rw (a, stopped)) }
+
+    go : (c : Bool) → is_refused q.run.stage ≡ c → (b : Bool) → leb 64 (length s - used) ≡ b → Settled p q.table (cond (c || b) (record { run = u.run; used = length s }) (record { run = q.run; used = used })) s
+    go true e b g = all (h.after ∙ bytes_stopped q (drop used s) e ∙ sym (line_stopped q unformed e) ∙ unformed_run_lem q)
+    go false e true g = all (h.after ∙ rest_long q (drop used s) (none e) (omega (arith, leb-true 64 (length s - used) g, size)))
+    go false e false g =
+        let b = rest_short q (drop used s) (none e) (omega (arith, leb-false 64 (length s - used) g, size)) in
         let a : after_bytes p s ≡ q = h.after ∙ b.0 in
         record { all = sym a; inside = h.inside; kept = sym (rw (a, e) (h.last ∙ b.1)) }
-
-settled_read : (p q : Progress) (used : ℕ) (s : List ℕ) → Read p q used s → (is_refused q.run.stage ≡ false → line_size (drop used s) ≡ 0) → Settled p q.table (settled_at q.run.stage q.run used (length s)) s
-unfolding settled_at is_refused kept_of
-settled_read p q used s h z = go q.run.stage refl
-  where
-    go : (st : Stage) → q.run.stage ≡ st → Settled p q.table (settled_at st q.run used (length s)) s
-    go Entries e = going p q used s h (ap is_refused e) (z (ap is_refused e))
-    go Opening e = going p q used s h (ap is_refused e) (z (ap is_refused e))
-    go Calls e = going p q used s h (ap is_refused e) (z (ap is_refused e))
-    go Refused e =
-        let stopped : is_refused q.run.stage ≡ true = ap is_refused e in
-        let a : after_bytes p s ≡ q = h.after ∙ bytes_stopped q (drop used s) stopped in
-        record { all = sym a; inside = omega arith; kept = drop_all s ∙ sym (rw (a, stopped)) }
-
-pub settled_as : (p q : Progress) (used : ℕ) (s : List ℕ) (r : Fed) → Read p q used s → (is_refused q.run.stage ≡ false → line_size (drop used s) ≡ 0) → r ≡ settled_at q.run.stage q.run used (length s) → Settled p q.table r s
-settled_as p q used s r h z e = subst (λ x. Settled p q.table x s) (sym e) (settled_read p q used s h z)
 
 -- what is kept is short
 parts_kept : (p : Progress) (ps : List (List ℕ)) → is_refused (after_parts p ps).run.stage ≡ false → length (last_part ps) < 64

@@ -1,19 +1,23 @@
 -- An input in one piece: what `print_whole` answers and writes.
 use Prim.Native.Nat.{ℕ, ◌-◌, ◌≤◌, ◌<◌}
 use native.Mathlib.Omega.{arith}
-use mathlib.Core.Path.{◌≡◌, sym, ap, ◌∙◌}
-use mathlib.Core.Bool.{true, false}
+use mathlib.Core.Path.{◌≡◌, refl, sym, ap, ◌∙◌}
+use mathlib.Core.Bool.{Bool, true, false, cond}
+use Rattle.std.specs.Option.{unwrap_or}
+use Rattle.std.specs.Prelude.{Some, None}
+use Rattle.printing.specs.Listing.{written_where}
+use Rattle.text.specs.Output.{length_where}
 use mathlib.Core.List.{List, [], ◌∷◌, ◌++◌, append-nil}
 use borrow.Author.Tests.{le-leb, lt-leb}
 use lib.IntN.{ℤ}
 use lib.ListN.{length, take, drop, length-drop, length-append}
-use Rattle.text.proofs.Written.{length_room, output_room, length_no_room, output_no_room, front_is_text}
+use Rattle.text.proofs.Written.{length_room, output_room, output_no_room, front_is_text}
 use Rattle.table.specs.Table.{room_in}
 use Rattle.program.specs.declared.Format.{Format}
 use Rattle.program.specs.Outcomes.{printed_for}
 use Rattle.program.specs.Runs.{Progress, start_run, after_bytes, kept_of, fed, fed_all, finished, finished_run, printed_length, printed_output}
 use Rattle.text.specs.Text.{joined}
-use Rattle.program.specs.Statements.{whole_run, bytes_for, has_room, whole_length, whole_output, whole_table}
+use Rattle.program.specs.Statements.{whole_run, bytes_for, has_room, whole_count, whole_length, whole_output, whole_table}
 use Rattle.program.specs.declared.Run.{Run}
 use Rattle.program.proofs.Pieces.{between, pieces_joined}
 use Rattle.program.proofs.Reading.{finished_run_lem}
@@ -54,16 +58,25 @@ module _ (input : List ℕ) (t : List ℤ) where
     abbrev text : List ℕ
     text = printed_for f (room_in t) input
 
-    pub whole_none : length out < bytes_for f (room_in t) → (0 ≡ whole_length f input t out) × (t ≡ whole_table f input t out) × (out ≡ whole_output f input t out)
-    unfolding whole_length whole_table whole_output
-    whole_none h = let e = has_no_room f t out h in (sym (length_no_room (has_room f t out) text out e), rw e, sym (output_no_room (has_room f t out) text out e))
+    pub whole_none : length out < bytes_for f (room_in t) → (None ≡ whole_count f input t out) × (t ≡ whole_table f input t out) × (out ≡ whole_output f input t out)
+    unfolding whole_count whole_table whole_output written_where
+    whole_none h = let e = has_no_room f t out h in (rw e, rw e, sym (output_no_room (has_room f t out) text out e))
 
-    pub whole_all : bytes_for f (room_in t) ≤ length out → (w : Progress) → whole_run t (input ∷ []) ≡ w → (printed_length f w.run w.table out ≡ whole_length f input t out) × (w.table ≡ whole_table f input t out) × (printed_output f w.run w.table out ≡ whole_output f input t out)
-    unfolding whole_length whole_table whole_output
+    pub whole_all : bytes_for f (room_in t) ≤ length out → (w : Progress) → whole_run t (input ∷ []) ≡ w → (printed_length f w.run w.table out ≡ whole_count f input t out) × (w.table ≡ whole_table f input t out) × (printed_output f w.run w.table out ≡ whole_output f input t out)
+    unfolding whole_count whole_table whole_output written_where
     whole_all h w e =
         let y = has_room_lem f t out h in
         let g = program_holds f t (input ∷ []) out h in
-        (ap (λ x. printed_length f x.run x.table out) (sym e) ∙ g.bytes ∙ ap (λ x. length (printed_for f (room_in t) x)) (one input) ∙ sym (length_room (has_room f t out) text out y), rw y (ap (λ x. x.table) (sym e)), ap (λ x. printed_output f x.run x.table out) (sym e) ∙ g.output ∙ ap (λ x. printed_for f (room_in t) x ++ drop (length (printed_for f (room_in t) x)) out) (one input) ∙ sym (output_room (has_room f t out) text out y))
+        (ap (λ x. printed_length f x.run x.table out) (sym e) ∙ g.bytes ∙ rw (one input, y), rw y (ap (λ x. x.table) (sym e)), ap (λ x. printed_output f x.run x.table out) (sym e) ∙ g.output ∙ ap (λ x. printed_for f (room_in t) x ++ drop (length (printed_for f (room_in t) x)) out) (one input) ∙ sym (output_room (has_room f t out) text out y))
+
+    -- as a number
+    pub whole_number : unwrap_or (whole_count f input t out) 0 ≡ whole_length f input t out
+    unfolding whole_count whole_length written_where length_where
+    whole_number = go (has_room f t out)
+      where
+        go : (b : Bool) → unwrap_or (cond b (Some (length text)) None) 0 ≡ cond b (length text) 0
+        go true = refl
+        go false = refl
 
     -- what stands at the front of the output
     pub whole_front : bytes_for f (room_in t) ≤ length out → (whole_length f input t out ≤ length (whole_output f input t out)) × (take (whole_length f input t out) (whole_output f input t out) ≡ text)

@@ -2,7 +2,7 @@
 -- chart, an empty line and a log from standard input, uses a table of 3,000 rows, and prints the table at the end. A refusal prints only one line:
 -- `refused`, number, line of the whole input (one past the last if a line is missing), parted by tabs. The first empty line ends the chart."
 -- "A report program, with the listing program's input, table and refusals" (request N3): the two differ in what they print of a run that is not refused.
-use Rattle.std.specs.Prelude.{ℕ, suc, ◌-◌, Bool, cond, ◌&&◌, List, [], ◌∷◌, eqb, pos, length}
+use Rattle.std.specs.Prelude.{Option, Some, None, ℕ, suc, ◌-◌, Bool, cond, ◌&&◌, List, [], ◌∷◌, eqb, pos, length}
 use Rattle.interval.specs.Instants.{first_floor}
 use Rattle.text.specs.Text.{Line, lines, is_record}
 use Rattle.chart.specs.Charts.{or_no_line}
@@ -25,29 +25,29 @@ pub data Outcome : Type 0 where
   listed : ℕ → List Row → Outcome
   refused : ℕ → ℕ → Outcome
 
--- a log line, Malformed where it lacks its byte 10 or has over 64 bytes
-unfoldable pub call_in : Line → Call
-call_in l = cond (is_record l) (call_of l.bytes) log.Malformed
+-- a log line, no call where it lacks its byte 10 or has over 64 bytes
+unfoldable pub call_in : Line → Option Call
+call_in l = cond (is_record l) (call_of l.bytes) None
 
 -- a model of no entries, as a refused opening leaves it
 abbrev no_model : Model
 no_model = model.model (pos 0) first_floor [] [] []
 
 -- the first log line: its own refusal, or "7 ... `open` missing"
-unfoldable pub opening_answer : List Operator → Call → Answer Model
-opening_answer ops (log.Open o) = model.opening ops o
-opening_answer ops log.Malformed = model.refused (answer_of log.Malformed).refusal no_model
-opening_answer ops (log.Event k) = model.refused 7 no_model
-opening_answer ops (log.Clock x) = model.refused 7 no_model
-opening_answer ops (log.Forget f) = model.refused 7 no_model
+unfoldable pub opening_answer : List Operator → Option Call → Answer Model
+opening_answer ops (Some (log.Open o)) = model.opening ops o
+opening_answer ops None = model.refused (answer_of None).refusal no_model
+opening_answer ops (Some (log.Event k)) = model.refused 7 no_model
+opening_answer ops (Some (log.Clock x)) = model.refused 7 no_model
+opening_answer ops (Some (log.Forget f)) = model.refused 7 no_model
 
 -- every other log line: its own refusal, "7 ... `open` ... repeated", or what the reference model answers. No line of a log adds entries.
-unfoldable pub call_answer : ℕ → Model → Call → Answer Model
-call_answer room m log.Malformed = model.refused (answer_of log.Malformed).refusal m
-call_answer room m (log.Open o) = model.refused 7 m
-call_answer room m (log.Event k) = model.event_step m k
-call_answer room m (log.Clock x) = model.clock_step room m x
-call_answer room m (log.Forget f) = model.forget_step m f
+unfoldable pub call_answer : ℕ → Model → Option Call → Answer Model
+call_answer room m None = model.refused (answer_of None).refusal m
+call_answer room m (Some (log.Open o)) = model.refused 7 m
+call_answer room m (Some (log.Event k)) = model.event_step m k
+call_answer room m (Some (log.Clock x)) = model.clock_step room m x
+call_answer room m (Some (log.Forget f)) = model.forget_step m f
 
 -- the log lines after the opening, from line n of the input on; the first refusal ends the run
 unfoldable pub play_calls : ℕ → Model → ℕ → List Line → Outcome

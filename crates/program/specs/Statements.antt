@@ -1,8 +1,8 @@
 -- The end-to-end statement; proofs/Theorems.antt proves it. No proof stands here.
-use Rattle.std.specs.Prelude.{ℕ, ◌+◌, ◌*◌, ◌≤◌, ◌≡◌, Bool, cond, List, [], ◌∷◌, ◌++◌, leb, ℤ, length, drop}
+use Rattle.std.specs.Prelude.{Option, Some, ℕ, ◌+◌, ◌*◌, ◌≤◌, ◌≡◌, Bool, cond, List, [], ◌∷◌, ◌++◌, leb, ℤ, length, drop}
 use Rattle.text.specs.Text.{joined}
 use Rattle.text.specs.Output.{length_where, output_where}
-use Rattle.printing.specs.Listing.{row_size, refusal_size}
+use Rattle.printing.specs.Listing.{written_where, row_size, refusal_size}
 use Rattle.printing.specs.Report.{tally_size}
 use Rattle.table.specs.Table.{room_in}
 use Rattle.program.specs.declared.Format.{Format}
@@ -29,13 +29,17 @@ has_room f t out = leb (bytes_for f (room_in t)) (length out)
 -- For every table and every input, however it is cut into pieces: what the run prints is what the reference model gives for the input's chart and
 -- calls, the listing of its rows, the report on them or its refusal.
 pub record PrintsModel (f : Format) (t : List ℤ) (pieces : List (List ℕ)) (out : List ℕ) : Type 0 where
-  pub bytes : printed_length f (whole_run t pieces).run (whole_run t pieces).table out ≡ length (printed_for f (room_in t) (joined pieces))
+  pub bytes : printed_length f (whole_run t pieces).run (whole_run t pieces).table out ≡ Some (length (printed_for f (room_in t) (joined pieces)))
   pub output : printed_output f (whole_run t pieces).run (whole_run t pieces).table out ≡ printed_for f (room_in t) (joined pieces) ++ drop (length (printed_for f (room_in t) (joined pieces))) out
 
 abbrev pub ProgramHolds : Type 0
 ProgramHolds = (f : Format) (t : List ℤ) (pieces : List (List ℕ)) (out : List ℕ) → bytes_for f (room_in t) ≤ length out → PrintsModel f t pieces out
 
 -- a whole input in one piece: nothing is done where the output has not that room
+unfoldable pub whole_count : Format → List ℕ → List ℤ → List ℕ → Option ℕ
+whole_count f input t out = written_where (has_room f t out) (printed_for f (room_in t) input)
+
+-- the same as a number, 0 where nothing is done
 unfoldable pub whole_length : Format → List ℕ → List ℤ → List ℕ → ℕ
 whole_length f input t out = length_where (has_room f t out) (printed_for f (room_in t) input)
 

@@ -1,46 +1,46 @@
 // The listing program and the report program without their input and output: an input that comes in pieces is played on a watch, and what it comes to is printed.
 #![tactic(auto)]
 
-ghost use Rattle.std.specs.Prelude.{◌≡◌, true, false, cond, ◌∷◌, [], ◌+◌, ◌≤◌, ◌<◌, ◌^◌, leb, length, drop};
-ghost use Rattle.text.specs.Text.{whole, line_size};
-ghost use Rattle.chart.specs.Charts.{is_usable, read_lines};
-ghost use Rattle.model.specs.Capacity.{capacity};
-ghost use Rattle.log_line.specs.Log.{call_of};
-ghost use Rattle.watch.specs.Steps.{check_number, opening_step};
-ghost use Rattle.table.specs.Table.{rows_in};
-ghost use Rattle.tally.specs.Tally.{report_of};
-ghost use Rattle.program.specs.Outcomes.{is_empty};
-ghost use Rattle.program.specs.Statements.{bytes_for, whole_length, whole_table, whole_output};
+ghost use Rattle.std.specs.Prelude.{◌≡◌, pos, cond, ◌∷◌, [], ◌+◌, ◌≤◌, ◌<◌, ◌^◌, length, drop};
+ghost use Rattle.refusal.specs.Numbers.{number_of};
 ghost use Rattle.text.specs.Output.{rest_length, rest_moved};
-ghost use Rattle.program.specs.Runs.{start_run, refused_run, next_run, entry_run, chart_end, unformed_run, stepped, opening_line, call_step, narrowed, calls_run, after_line, after_bytes, is_early, is_refused, kept_of, end_run, finished_run, Reached, Read, HasLines, HasFew, settled_at, settled_going, Printable, reported_length, reported_output, printed_length, printed_output};
+ghost use Rattle.text.specs.Text.{whole};
+ghost use Rattle.chart.specs.Charts.{read_lines};
+ghost use Rattle.model.specs.Capacity.{capacity};
+ghost use Rattle.state.specs.State.{empty_state};
+ghost use Rattle.log_line.specs.Log.{call_of};
+ghost use Rattle.watch.specs.Answers.{answer_of};
+ghost use Rattle.watch.specs.Steps.{check_number};
+ghost use Rattle.program.specs.Outcomes.{is_empty};
+ghost use Rattle.program.specs.Runs.{start_run, refused_run, entry_run, chart_end, answered_run, open_step, call_step, narrowed, unformed_run, after_line, after_bytes, is_refused, kept_of, end_run, finished_run, Reached, HasLines, HasFew, settled_run, Printable, printed_length, printed_output};
+ghost use Rattle.program.specs.Statements.{bytes_for, whole_count, whole_table, whole_output};
 
 use chart::Chart;
 use log_line::Call;
 use printing::{REFUSAL_SIZE, ROW_SIZE, TALLY_SIZE};
-use watch::{Answer, Watch};
+use refusal::Refusal;
+use watch::Watch;
 
-// Where a run is: at the chart's entries, before the log's opening, at the calls after it, or refused.
-#[derive(Clone, Copy)]
+// Where a run is: at the chart's entries, before the log's opening, at the calls after it, or refused, with the refusal's number.
+#[derive(Clone, Copy, PartialEq, Eq)]
 pub enum Stage {
     Entries,
     Opening,
     Calls,
-    Refused,
+    Refused(u32),
 }
 
 // What is printed of a run that is not refused: the rows, or how many each entry has.
-#[derive(Clone, Copy)]
+#[derive(Clone, Copy, PartialEq, Eq)]
 pub enum Format {
     Listing,
     Report,
 }
 
-// A run of the program: its stage; the number of its refusal, 0 for none; how many lines it has taken, or the line refused; the chart so
-// far; and the watch.
+// A run of the program: its stage; how many lines it has taken, or the line refused; the chart so far; and the watch.
 #[derive(Clone, Copy)]
 pub struct Run {
     pub stage: Stage,
-    pub refusal: u32,
     pub line: u64,
     pub chart: Chart,
     pub watch: Watch,
@@ -54,12 +54,12 @@ pub struct Fed {
 }
 
 // The run before the first byte.
+#[tactic(auto, unfolding(crate::specs::Runs::start_run))]
 pub fn start() -> Run
     ensures { result ≡ start_run }
 {
     Run {
         stage: Stage::Entries,
-        refusal: 0,
         line: 0,
         chart: chart::no_entries(),
         watch: Watch::empty(0),
@@ -68,6 +68,7 @@ pub fn start() -> Run
 
 // How many bytes an output needs for what is printed in a format, with a table of so many numbers: those of a refusal, and of each row that it can hold or of
 // each of 32 entries. Constant time, and that of finding how many rows fit.
+#[tactic(auto, using(model::proofs::Capacity::capacity_most))]
 pub fn bytes_for(format: Format, numbers: usize) -> usize
     ensures { result ≡ bytes_for format (capacity numbers) }
 {
@@ -77,33 +78,25 @@ pub fn bytes_for(format: Format, numbers: usize) -> usize
     }
 }
 
-// Plays a whole input on a lent table and writes what the program of this format prints for it at the front of the output: the number of bytes, or 0 and nothing
+// Plays a whole input on a lent table and writes what the program of this format prints for it at the front of the output: the number of bytes, or None and nothing
 // done where the output has less than `bytes_for` says. The cost is that of `feed` and `print`.
-pub fn print_whole(format: Format, input: &[u8], table: &mut [i32], out: &mut [u8]) -> usize
-    ensures { (result ≡ whole_length format input.now table.old out.old) × (table.new ≡ whole_table format input.now table.old out.old) × (out.new ≡ whole_output format input.now table.old out.old) }
+pub fn print_whole(format: Format, input: &[u8], table: &mut [i32], out: &mut [u8]) -> Option<usize>
+    ensures { (result ≡ whole_count format input.now table.old out.old) × (table.new ≡ whole_table format input.now table.old out.old) × (out.new ≡ whole_output format input.now table.old out.old) }
 {
-    let needed = bytes_for(format, table.len());
-    if out.len() < needed {
-        return 0;
+    if out.len() < bytes_for(format, table.len()) {
+        return None;
     }
-    let first = start();
-    let fed = first.feed(table, input);
-    let run = fed.run;
-    let last = run.finish(input.len() - fed.used);
+    let fed = start().feed(table, input);
+    let last = fed.run.finish(input.len() - fed.used);
     last.print(format, table, out)
 }
 
 // Whether a run was refused, so that no further byte matters.
+#[tactic(auto, unfolding(crate::specs::Runs::is_refused))]
 pub fn is_refused(run: Run) -> bool
     ensures { result ≡ is_refused run.stage }
 {
-    let stage = run.stage;
-    match stage {
-        Stage::Entries => false,
-        Stage::Opening => false,
-        Stage::Calls => false,
-        Stage::Refused => true,
-    }
+    matches!(run.stage, Stage::Refused(_))
 }
 
 impl Run {
@@ -113,24 +106,20 @@ impl Run {
         requires { Reached (record { run = self; table = table.old }) × HasLines self (length s.now + 1) }
         ensures { (record { run = result.run; table = table.new } ≡ after_bytes (record { run = self; table = table.old }) s.now) × (result.used ≤ length s.now) × (drop result.used s.now ≡ kept_of (after_bytes (record { run = self; table = table.old }) s.now) s.now) }
     {
-        let n = s.len();
-        let head = feed_early(self, table, s);
-        let at = head.used;
-        let run = head.run;
-        let stage = run.stage;
-        match stage {
-            Stage::Calls => {
-                let rest = feed_calls(run, table, &s[at..]);
-                let last = rest.run;
-                settled(last, at + rest.used, n)
+        let mut run = self;
+        let mut at: usize = 0;
+        while let Some(size) = text::line_size(&s[at..]) {
+            if is_refused(run) {
+                break;
             }
-            Stage::Entries => settled(run, at, n),
-            Stage::Opening => settled(run, at, n),
-            Stage::Refused => settled(run, at, n),
+            run.play_line(table, &s[at..at + size - 1]);
+            at += size;
         }
+        settled(run, at, s.len())
     }
 
     // The end of the input, with so many bytes kept. Constant time.
+    #[tactic(auto, unfolding(crate::specs::Runs::finished_run))]
     pub fn finish(self, kept: usize) -> Run
         requires { HasLines self 1 × HasFew self }
         ensures { result ≡ finished_run self kept }
@@ -141,337 +130,180 @@ impl Run {
         end_of_input(self)
     }
 
-    // Writes what a finished run prints at the front of the output and returns the number of bytes; 0 where the output is too short. Each byte
+    // Writes what a finished run prints at the front of the output and returns the number of bytes; None where the output is too short. Each byte
     // is written once; for a report the rows are walked before.
-    pub fn print(self, format: Format, table: &[i32], out: &mut [u8]) -> usize
+    #[tactic(auto, using(watch::proofs::Reading::report_few, watch::proofs::Reading::report_shown), unfolding(crate::specs::Runs::table_length, crate::specs::Runs::table_output, crate::specs::Runs::length_at, crate::specs::Runs::output_at, crate::specs::Runs::is_refused))]
+    pub fn print(self, format: Format, table: &[i32], out: &mut [u8]) -> Option<usize>
         requires { Printable format self table.now }
         ensures { (result ≡ printed_length format self table.now out.old) × (out.new ≡ printed_output format self table.now out.old) }
     {
-        if is_refused(self) {
-            return printing::write_refusal(self.refusal, self.line, out);
+        if let Stage::Refused(number) = self.stage {
+            return printing::write_refusal(number, self.line, out);
         }
-        let watch = self.watch;
-        let state = watch.state;
-        let chart = self.chart;
         match format {
-            Format::Listing => printing::write_listing(table, state.rows, out),
-            Format::Report => print_report(watch, chart, table, out),
+            Format::Listing => printing::write_listing(table, self.watch.state.rows, out),
+            Format::Report => {
+                let report = self.watch.report_unchecked(self.chart, table);
+                let tallies = report.tallies;
+                printing::write_report(&tallies[..report.entries], report.rows, out)
+            }
         }
     }
-}
 
-// Writes the report on the rows in use. One walk of the rows, and each byte is written once.
-fn print_report(watch: Watch, chart: Chart, table: &[i32], out: &mut [u8]) -> usize
-    requires { check_number chart watch.state table.now ≡ 0 }
-    ensures { (result ≡ reported_length (report_of chart.count (rows_in watch.state.rows table.now)) out.old) × (out.new ≡ reported_output (report_of chart.count (rows_in watch.state.rows table.now)) out.old) }
-{
-    let report = watch.report_unchecked(chart, table);
-    let tallies = report.tallies;
-    let entries = report.entries;
-    printing::write_report(&tallies[..entries], report.rows, out)
-}
-
-// The run, refused with a number at a line.
-fn refused_run(run: Run, refusal: u32, line: u64) -> Run
-    ensures { result ≡ refused_run run refusal line }
-{
-    let chart = run.chart;
-    let watch = run.watch;
-    Run {
-        stage: Stage::Refused,
-        refusal,
-        line,
-        chart,
-        watch,
+    // Plays a line without its byte 10, by the stage.
+    #[tactic(auto, using(crate::proofs::Lines::answered_by), unfolding(crate::specs::Runs::line_step, crate::specs::Runs::is_refused, crate::specs::Runs::Holds, crate::specs::Runs::HasLines, crate::specs::Outcomes::call_in))]
+    fn play_line(&mut self, table: &mut [i32], s: &[u8])
+        requires { Reached (record { run = self.old; table = table.old }) × HasLines self.old 1 × (length s.now < 64) }
+        ensures { record { run = self.new; table = table.new } ≡ after_line (record { run = self.old; table = table.old }) (whole s.now) }
+    {
+        match self.stage {
+            Stage::Entries => self.entries_line(s),
+            Stage::Opening => {
+                let outcome = open_line(self.chart, table, s);
+                self.step(outcome);
+            }
+            Stage::Calls => {
+                let outcome = call_line(self.chart, self.watch, table, s);
+                self.step(outcome);
+            }
+            Stage::Refused(_) => {}
+        }
     }
-}
 
-// The run with one line more.
-fn next_run(run: Run, stage: Stage, chart: Chart, watch: Watch) -> Run
-    requires { run.line + 1 < 2 ^ 64 }
-    ensures { result ≡ next_run run stage chart watch }
-{
-    Run {
-        stage,
-        refusal: 0,
-        line: run.line + 1,
-        chart,
-        watch,
+    // A line of the chart, or the empty line that ends it. Each byte is looked at twice at most.
+    #[tactic(auto, using(chart::proofs::Lines::line_added, crate::proofs::Lines::entry_refused), unfolding(crate::specs::Runs::chart_end, crate::specs::Runs::entry_run, crate::specs::Runs::next_run))]
+    fn entries_line(&mut self, s: &[u8])
+        requires { (self.old.line + 1 < 2 ^ 64) × (self.old.chart.count ≤ 32) × (self.old.stage ≡ Stage.Entries) }
+        ensures { self.new ≡ cond (is_empty (whole s.now)) (chart_end self.old) (entry_run self.old (read_lines self.old.chart (whole s.now ∷ []))) }
+    {
+        if s.is_empty() {
+            if self.chart.count == 0 {
+                self.refuse(Refusal::NoLine, 1);
+                return;
+            }
+            self.stage = Stage::Opening;
+            self.line += 1;
+            return;
+        }
+        match chart::add_line(self.chart, s) {
+            Ok(chart) => {
+                self.chart = chart;
+                self.line += 1;
+            }
+            Err(fault) => self.refuse(fault.refusal, u64::from(fault.line)),
+        }
+    }
+
+    // Goes on to the log's next line with the watch that the line's call gives, or is refused at the line.
+    #[tactic(auto, unfolding(crate::specs::Runs::answered_run, crate::specs::Runs::next_run))]
+    fn step(&mut self, outcome: Result<Watch, Refusal>)
+        requires { self.old.line + 1 < 2 ^ 64 }
+        ensures { self.new ≡ answered_run self.old (answer_of self.old.watch.state outcome) }
+    {
+        match outcome {
+            Ok(watch) => {
+                self.stage = Stage::Calls;
+                self.line += 1;
+                self.watch = watch;
+            }
+            Err(refusal) => self.refuse(refusal, self.line + 1),
+        }
+    }
+
+    // Refused at a line.
+    #[tactic(auto, unfolding(crate::specs::Runs::refused_run))]
+    fn refuse(&mut self, refusal: Refusal, line: u64)
+        ensures { self.new ≡ refused_run self.old (number_of refusal) line }
+    {
+        self.stage = Stage::Refused(refusal.number());
+        self.line = line;
     }
 }
 
 // A line that lacks its byte 10 or has over 64 bytes. Constant time.
+#[tactic(auto, unfolding(crate::specs::Runs::unformed_run, crate::specs::Runs::HasLines, crate::specs::Runs::HasFew, crate::specs::Runs::is_refused))]
 fn unformed_line(run: Run) -> Run
     requires { HasLines run 1 × HasFew run }
     ensures { result ≡ unformed_run run.stage run }
 {
-    let stage = run.stage;
-    match stage {
-        Stage::Entries => unformed_entry(run),
-        Stage::Opening => refused_run(run, 7, run.line + 1),
-        Stage::Calls => refused_run(run, 7, run.line + 1),
-        Stage::Refused => run,
+    let mut next = run;
+    match run.stage {
+        Stage::Entries => {
+            let n = run.chart.count;
+            let refusal = if 32 <= n {
+                Refusal::ChartTooLong
+            } else {
+                Refusal::MalformedEntry
+            };
+            next.refuse(refusal, n as u64 + 1);
+        }
+        Stage::Opening | Stage::Calls => next.refuse(Refusal::MalformedCall, run.line + 1),
+        Stage::Refused(_) => {}
     }
-}
-
-// Such a line in the chart, where a 33rd line comes first. Constant time.
-fn unformed_entry(run: Run) -> Run
-    requires { run.chart.count ≤ 32 }
-    ensures { result ≡ refused_run run (cond (leb 32 run.chart.count) 2 3) (run.chart.count + 1) }
-{
-    let chart = run.chart;
-    let n = chart.count;
-    let line = (n + 1) as u64;
-    if 32 <= n {
-        return refused_run(run, 2, line);
-    }
-    refused_run(run, 3, line)
+    next
 }
 
 // No further line comes. Constant time.
+#[tactic(auto, unfolding(crate::specs::Runs::end_run, crate::specs::Runs::HasLines, crate::specs::Runs::is_refused))]
 fn end_of_input(run: Run) -> Run
     requires { HasLines run 1 }
     ensures { result ≡ end_run run.stage run }
 {
-    let stage = run.stage;
-    match stage {
-        Stage::Entries => end_of_entries(run),
-        Stage::Opening => refused_run(run, 7, run.line + 1),
-        Stage::Calls => run,
-        Stage::Refused => run,
+    let mut next = run;
+    match run.stage {
+        Stage::Entries if run.chart.count == 0 => next.refuse(Refusal::NoLine, 1),
+        Stage::Entries | Stage::Opening => next.refuse(Refusal::MalformedCall, run.line + 1),
+        Stage::Calls | Stage::Refused(_) => {}
     }
+    next
 }
 
-fn end_of_entries(run: Run) -> Run
-    requires { run.line + 1 < 2 ^ 64 }
-    ensures { result ≡ end_run Stage.Entries run }
-{
-    let chart = run.chart;
-    if chart.count == 0 {
-        return refused_run(run, 1, 1);
-    }
-    refused_run(run, 7, run.line + 1)
-}
-
-// What is left behind the last whole line: kept, or refused where it has 64 bytes. Constant time.
+// What is left behind the last whole line: kept, or refused where it has 64 bytes; of a run that was refused no byte is kept. Constant time.
+#[tactic(auto, unfolding(crate::specs::Runs::settled_run))]
 fn settled(run: Run, used: usize, n: usize) -> Fed
     requires { (used ≤ n) × HasLines run 1 × HasFew run }
-    ensures { result ≡ settled_at run.stage run used n }
+    ensures { result ≡ settled_run run used n }
 {
-    let stage = run.stage;
-    match stage {
-        Stage::Refused => Fed { run, used: n },
-        Stage::Entries => settled_going(run, used, n),
-        Stage::Opening => settled_going(run, used, n),
-        Stage::Calls => settled_going(run, used, n),
-    }
-}
-
-fn settled_going(run: Run, used: usize, n: usize) -> Fed
-    requires { (used ≤ n) × HasLines run 1 × HasFew run }
-    ensures { result ≡ settled_going run used n }
-{
-    if 64 <= n - used {
-        let refused = unformed_line(run);
+    if is_refused(run) || 64 <= n - used {
         return Fed {
-            run: refused,
+            run: unformed_line(run),
             used: n,
         };
     }
     Fed { run, used }
 }
 
-// Plays whole lines up to the log's opening. One look at each byte, and one more for a line of the chart.
-fn feed_early(run: Run, table: &mut [i32], s: &[u8]) -> Fed
-    requires { Reached (record { run = run; table = table.old }) × HasLines run (length s.now) }
-    ensures { Read (record { run = run; table = table.old }) (record { run = result.run; table = table.new }) result.used s.now × (is_early result.run.stage ≡ true → line_size (drop result.used s.now) ≡ 0) }
+// The first line of the log, without its byte 10: the watch that it opens. One pass over the table.
+#[tactic(auto, using(crate::proofs::Lines::narrowed_open), unfolding(crate::specs::Runs::open_step))]
+fn open_line(chart: Chart, table: &mut [i32], s: &[u8]) -> Result<Watch, Refusal>
+    ensures { record { answer = answer_of (empty_state (pos 0)) result; table = table.new } ≡ open_step chart table.old (call_of s.now) }
 {
-    let mut next = run;
-    let mut at: usize = 0;
-    let mut size = text::line_size(s);
-    while size != 0 {
-        if !is_early(next) {
-            return Fed {
-                run: next,
-                used: at,
-            };
-        }
-        let end = at + size - 1;
-        next = early_line(next, table, &s[at..end]);
-        at += size;
-        size = text::line_size(&s[at..]);
-    }
-    Fed {
-        run: next,
-        used: at,
+    match log_line::read_call(s) {
+        Some(Call::Open(o)) => Watch::opening(chart, table, narrowed(o)),
+        _ => Err(Refusal::MalformedCall),
     }
 }
 
-// Whether the run is before the calls of the log.
-fn is_early(run: Run) -> bool
-    ensures { result ≡ is_early run.stage }
-{
-    let stage = run.stage;
-    match stage {
-        Stage::Entries => true,
-        Stage::Opening => true,
-        Stage::Calls => false,
-        Stage::Refused => false,
-    }
-}
-
-// A line before the calls of the log, without its byte 10.
-fn early_line(run: Run, table: &mut [i32], s: &[u8]) -> Run
-    requires { Reached (record { run = run; table = table.old }) × HasLines run 1 × (is_early run.stage ≡ true) × (length s.now < 64) }
-    ensures { record { run = result; table = table.new } ≡ after_line (record { run = run; table = table.old }) (whole s.now) }
-{
-    let stage = run.stage;
-    match stage {
-        Stage::Entries => entries_line(run, s),
-        Stage::Opening => opening_line(run, table, s),
-        Stage::Calls => run,
-        Stage::Refused => run,
-    }
-}
-
-// A line of the chart, or the empty line that ends it. Each byte is looked at twice at most.
-fn entries_line(run: Run, s: &[u8]) -> Run
-    requires { (run.line + 1 < 2 ^ 64) × (run.chart.count ≤ 32) }
-    ensures { result ≡ cond (is_empty (whole s.now)) (chart_end run) (entry_run run (read_lines run.chart (whole s.now ∷ []))) }
-{
-    let watch = run.watch;
-    let chart = run.chart;
-    if s.len() == 0 {
-        if chart.count == 0 {
-            return refused_run(run, 1, 1);
-        }
-        return next_run(run, Stage::Opening, chart, watch);
-    }
-    let a = chart::add_line(chart, s);
-    if a.refusal != 0 {
-        return refused_run(run, a.refusal, a.line as u64);
-    }
-    let longer = a.chart;
-    next_run(run, Stage::Entries, longer, watch)
-}
-
-// The first line of the log.
-fn opening_line(run: Run, table: &mut [i32], s: &[u8]) -> Run
-    requires { (run.line + 1 < 2 ^ 64) × (is_usable run.chart ≡ true) }
-    ensures { record { run = result; table = table.new } ≡ opening_line run table.old (call_of s.now) }
-{
-    let c = log_line::read_call(s);
-    match c {
-        Call::Open(o) => open_at(run, table, o),
-        Call::Malformed => refused_run(run, 7, run.line + 1),
-        Call::Event(_) => refused_run(run, 7, run.line + 1),
-        Call::Clock(_) => refused_run(run, 7, run.line + 1),
-        Call::Forget(_) => refused_run(run, 7, run.line + 1),
-    }
-}
-
-// Opens the watch. One pass over the table.
-fn open_at(run: Run, table: &mut [i32], o: i64) -> Run
-    requires { (run.line + 1 < 2 ^ 64) × (is_usable run.chart ≡ true) }
-    ensures { record { run = result; table = table.new } ≡ stepped run (opening_step run.chart table.old o) }
-{
-    if !interval::is_wide_instant(o) {
-        return refused_run(run, 8, run.line + 1);
-    }
-    let chart = run.chart;
-    let a = Watch::opening(chart, table, o as i32);
-    if a.refusal != 0 {
-        return refused_run(run, a.refusal, run.line + 1);
-    }
-    let watch = a.watch;
-    next_run(run, Stage::Calls, chart, watch)
-}
-
-// Plays whole lines of the log after its opening. One look at each byte, the reading of the call, and the call. No line of a log alters the entries:
-// they are left where they are, so that their 32 instants are not copied for each line.
-fn feed_calls(run: Run, table: &mut [i32], s: &[u8]) -> Fed
-    requires { Reached (record { run = run; table = table.old }) × (run.stage ≡ Stage.Calls) × (run.line + length s.now < 2 ^ 64) }
-    ensures { Read (record { run = run; table = table.old }) (record { run = result.run; table = table.new }) result.used s.now × (is_refused result.run.stage ≡ false → line_size (drop result.used s.now) ≡ 0) }
-{
-    let chart = run.chart;
-    let watch = run.watch;
-    let mut state = watch.state;
-    let mut line = run.line;
-    let mut at: usize = 0;
-    let mut size = text::line_size(s);
-    while size != 0 {
-        let end = at + size - 1;
-        let a = call_line(chart, Watch { state }, table, &s[at..end]);
-        let refusal = a.refusal;
-        if refusal != 0 {
-            return Fed {
-                run: stopped_run(chart, Watch { state }, refusal, line + 1),
-                used: at,
-            };
-        }
-        let answered = a.watch;
-        let next = answered.state;
-        let codes = next.codes;
-        state.instant = next.instant;
-        state.floor = next.floor;
-        state.events = next.events;
-        state.rows = next.rows;
-        state.pending = next.pending;
-        state.codes = codes;
-        line += 1;
-        at += size;
-        size = text::line_size(&s[at..]);
-    }
-    Fed {
-        run: calls_run(chart, Watch { state }, line),
-        used: at,
-    }
-}
-
-fn calls_run(chart: Chart, watch: Watch, line: u64) -> Run
-    ensures { result ≡ calls_run chart watch line }
-{
-    Run {
-        stage: Stage::Calls,
-        refusal: 0,
-        line,
-        chart,
-        watch,
-    }
-}
-
-fn stopped_run(chart: Chart, watch: Watch, refusal: u32, line: u64) -> Run
-    ensures { result ≡ refused_run (calls_run chart watch 0) refusal line }
-{
-    Run {
-        stage: Stage::Refused,
-        refusal,
-        line,
-        chart,
-        watch,
-    }
-}
-
-// A line of the log after its opening, without its byte 10, on a watch and table that are consistent.
-fn call_line(chart: Chart, watch: Watch, table: &mut [i32], s: &[u8]) -> Answer
+// A line of the log after its opening, without its byte 10, on a watch and table that are consistent: the watch after its call.
+#[tactic(auto, using(crate::proofs::Lines::narrowed_clock, crate::proofs::Lines::narrowed_forget, watch::proofs::Steps::event_passed, watch::proofs::Steps::clock_passed, watch::proofs::Steps::forget_passed), unfolding(crate::specs::Runs::call_step))]
+fn call_line(chart: Chart, watch: Watch, table: &mut [i32], s: &[u8]) -> Result<Watch, Refusal>
     requires { check_number chart watch.state table.old ≡ 0 }
-    ensures { record { answer = result; table = table.new } ≡ call_step (record { watch = watch.state; table = table.old; chart = chart }) (call_of s.now) }
+    ensures { record { answer = answer_of watch.state result; table = table.new } ≡ call_step (record { watch = watch.state; table = table.old; chart = chart }) (call_of s.now) }
 {
-    let c = log_line::read_call(s);
-    match c {
-        Call::Event(k) => watch.event_unchecked(chart, table, k),
-        Call::Clock(x) => watch.clock_unchecked(chart, table, narrowed(x)),
-        Call::Forget(f) => watch.forget_unchecked(chart, table, narrowed(f)),
-        Call::Malformed => Answer { refusal: 7, watch },
-        Call::Open(_) => Answer { refusal: 7, watch },
+    match log_line::read_call(s) {
+        Some(Call::Event(k)) => watch.event_unchecked(k),
+        Some(Call::Clock(x)) => watch.clock_unchecked(chart, table, narrowed(x)),
+        Some(Call::Forget(f)) => watch.forget_unchecked(chart, table, narrowed(f)),
+        Some(Call::Open(_)) | None => Err(Refusal::MalformedCall),
     }
 }
 
 // A number of the log as an instant; where it is none, another that is none, so that the call refuses it.
+#[tactic(auto, unfolding(crate::specs::Runs::narrowed, interval::specs::Instants::is_instant))]
 fn narrowed(x: i64) -> i32
     ensures { result ≡ narrowed x }
 {
-    if !interval::is_wide_instant(x) {
+    if !interval::is_instant(x) {
         return 2000000000;
     }
     x as i32

@@ -2,8 +2,7 @@
 // Every function takes constant time, but for one store for each entry that is opened or added.
 #![tactic(auto)]
 
-ghost use Rattle.std.specs.Prelude.{◌≡◌, ◌+◌, ◌-◌, ◌<◌, ◌≤◌, replicate};
-ghost use Rattle.std.proofs.lemmas.List.Edits.{sets};
+ghost use Rattle.std.specs.Prelude.{◌≡◌, ◌+◌, ◌<◌, ◌≤◌};
 ghost use Rattle.state.specs.State.{empty_state, with_entries, open_state, extended, with_event, marked, raised};
 
 // Open instant, floor, count of events, count of rows, and the events of the open instant: how many, and their codes in their order
@@ -32,9 +31,9 @@ pub fn empty(instant: i32) -> WatchState
         events: 0,
         rows: 0,
         pending: 0,
-        codes: [0u8; 64],
+        codes: [0; 64],
         entries: 0,
-        since: [0i32; 32],
+        since: [0; 32],
     }
 }
 
@@ -46,39 +45,19 @@ pub fn opened(n: usize, instant: i32) -> WatchState
     empty(instant).with_entries(n, interval::first_floor())
 }
 
-// The instants with those from place n to before place e set to x.
-fn set_part(since: [i32; 32], n: usize, e: usize, x: i32) -> [i32; 32]
-    requires { (n ≤ e) × (e ≤ 32) }
-    ensures { result ≡ sets since n (replicate (e - n) x) }
-{
-    let mut next = since;
-    let mut i = n;
-    while i < e {
-        next[i] = x;
-        i += 1;
-    }
-    next
-}
-
 impl WatchState {
     // So many entries more, which count from x.
     fn with_entries(self, n: usize, x: i32) -> WatchState
         requires { self.entries + n ≤ 32 }
         ensures { result ≡ with_entries self n x }
     {
-        let codes = self.codes;
-        let old = self.since;
         let entries = self.entries + n;
-        let since = set_part(old, self.entries, entries, x);
+        let mut since = self.since;
+        since[self.entries..entries].fill(x);
         WatchState {
-            instant: self.instant,
-            floor: self.floor,
-            events: self.events,
-            rows: self.rows,
-            pending: self.pending,
-            codes,
             entries,
             since,
+            ..self
         }
     }
 
@@ -95,19 +74,13 @@ impl WatchState {
         requires { (self.pending < 64) × (self.events < 1000000) }
         ensures { result ≡ with_event self k }
     {
-        let n = self.pending;
         let mut codes = self.codes;
-        codes[n] = k;
-        let since = self.since;
+        codes[self.pending] = k;
         WatchState {
-            instant: self.instant,
-            floor: self.floor,
             events: self.events + 1,
-            rows: self.rows,
-            pending: n + 1,
+            pending: self.pending + 1,
             codes,
-            entries: self.entries,
-            since,
+            ..self
         }
     }
 
@@ -115,16 +88,12 @@ impl WatchState {
     pub fn marked(self, instant: i32, n: usize) -> WatchState
         ensures { result ≡ marked self instant n }
     {
-        let since = self.since;
         WatchState {
             instant,
-            floor: self.floor,
-            events: self.events,
             rows: n,
             pending: 0,
-            codes: [0u8; 64],
-            entries: self.entries,
-            since,
+            codes: [0; 64],
+            ..self
         }
     }
 
@@ -132,17 +101,10 @@ impl WatchState {
     pub fn raised(self, floor: i32, rows: usize) -> WatchState
         ensures { result ≡ raised self floor rows }
     {
-        let codes = self.codes;
-        let since = self.since;
         WatchState {
-            instant: self.instant,
             floor,
-            events: self.events,
             rows,
-            pending: self.pending,
-            codes,
-            entries: self.entries,
-            since,
+            ..self
         }
     }
 }

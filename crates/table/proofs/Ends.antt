@@ -1,14 +1,18 @@
 -- Laws of the binary search by end: what passes at a row passes before it, and how many pass. No code here.
-use Prim.Native.Nat.{ℕ, zero, suc, ◌+◌, ◌≤◌, ◌<◌, min}
+use Prim.Native.Nat.{ℕ, zero, suc, ◌+◌, ◌*◌, ◌≤◌, ◌<◌, min}
 use native.Mathlib.Omega.{arith}
 use native.Mathlib.Decide.{dec_lt}
 use mathlib.Core.Path.{◌≡◌, refl, sym, ap, ◌∙◌}
 use mathlib.Core.Bool.{Bool, true, false}
 use mathlib.Core.List.{List, [], ◌∷◌}
-use lib.IntN.{ℤ}
-use lib.ListN.{length, length-append}
+use lib.IntN.{ℤ, pos}
+use lib.ListN.{length, get_or, drop, length-append}
+use Rattle.std.proofs.lemmas.List.{get_or-take, get_or-drop}
+use Rattle.std.specs.List.Sorted.{IsPartitionedBy, IsPartitionPoint}
+use Rattle.std.specs.Simd.{first_chunks}
 use lib.Signed.{le_z}
 use Rattle.interval.proofs.Signed.{never, signed}
+use Rattle.text.proofs.Chunks.{length-chunks, chunk_at}
 use Rattle.model.specs.Lists.{keep}
 use Rattle.model.specs.Order.{Row}
 use Rattle.model.proofs.Sorted.{keep_append}
@@ -22,33 +26,14 @@ earlier_passes : (included : Bool) (e a b : ℤ) → le_z a b ≡ true → ends_
 earlier_passes true e a b h p = omega (arith, signed)
 earlier_passes false e a b h p = omega (arith, signed)
 
--- the search: the rows below low pass, those from high on do not
-pub record Searched (included : Bool) (rows : ℕ) (e : ℤ) (t : List ℤ) (low high : ℕ) : Type 0 where
-  pub apart : low ≤ high
-  pub inside : high ≤ rows
-  pub below : (k : ℕ) → k < low → ends_before included e (cell t k 4) ≡ true
-  pub above : (k : ℕ) → high ≤ k → k < rows → ends_before included e (cell t k 4) ≡ false
+-- the end of a row that is lent as five numbers
+abbrev pub row_end : List ℤ → ℤ
+row_end row = get_or row 4 (pos 0)
+
+chunk_end : (rows i : ℕ) (t d : List ℤ) → i < rows → row_end (get_or (first_chunks 5 rows t) i d) ≡ cell t i 4
+chunk_end rows i t d h = ap row_end (chunk_at 5 rows t i d h) ∙ get_or-take 5 (drop (i * 5) t) 4 (pos 0) (omega arith) ∙ get_or-drop (i * 5) t 4 (pos 0)
 
 module _ (included : Bool) (rows : ℕ) (e : ℤ) (t : List ℤ) where
-  pub search_holds : Searched included rows e t 0 rows
-  search_holds = record { apart = omega arith; inside = omega arith; below = λ k h. absurd (omega arith); above = λ k h g. absurd (omega arith) }
-
-  module _ (o : Ordered rows t) (low high : ℕ) (s : Searched included rows e t low high) (mid : ℕ) (l : low ≤ mid) (h : mid < high) where
-    pub search_up : ends_before included e (cell t mid 4) ≡ true → Searched included rows e t (mid + 1) high
-    search_up p = record {
-      apart = omega arith;
-      inside = s.inside;
-      below = λ k g. earlier_passes included e (cell t k 4) (cell t mid 4) (o k mid (omega arith) (omega (arith, s.inside))) p;
-      above = s.above;
-    }
-
-    pub search_down : ends_before included e (cell t mid 4) ≡ false → Searched included rows e t low mid
-    search_down p = record { apart = l; inside = omega (arith, s.inside); below = s.below; above = λ k g i. go k g i (ends_before included e (cell t k 4)) refl }
-      where
-        go : (k : ℕ) → mid ≤ k → k < rows → (b : Bool) → ends_before included e (cell t k 4) ≡ b → b ≡ false
-        go k g i true q = never (sym p ∙ earlier_passes included e (cell t mid 4) (cell t k 4) (o mid k g i) q)
-        go k g i false q = refl
-
   -- how many of the first n rows pass
   abbrev passes : Row → Bool
   passes x = ends_before included e x.end
@@ -59,17 +44,35 @@ module _ (included : Bool) (rows : ℕ) (e : ℤ) (t : List ℤ) where
   count_none : length (keep passes (rows_in 0 t)) ≡ 0
   count_none = ap (λ l. length (keep passes l)) (rows_none t)
 
-  module _ (low high : ℕ) (s : Searched included rows e t low high) (m : high ≤ low) where
-    count_first : (n : ℕ) → n ≤ rows → length (keep passes (rows_in n t)) ≡ min n low
-    count_first zero h = count_none ∙ omega arith
-    count_first (suc n) h = count_snoc n ∙ go (dec_lt n low) (count_first n (omega arith))
-      where
-        go : Dec (n < low) → length (keep passes (rows_in n t)) ≡ min n low → length (keep passes (rows_in n t)) + length (keep passes (table_row t n ∷ [])) ≡ min (suc n) low
-        go (yes l) r = rw (s.below n l) (omega arith)
-        go (no l) r = rw (s.above n (omega arith) (omega arith)) (omega arith)
+  -- a search by std finds it: the rows below n pass, those from n on do not
+  abbrev pub row_passes : List ℤ → Bool
+  row_passes row = ends_before included e (row_end row)
 
-    pub search_ends : low ≡ count_ending included rows e t
-    search_ends = omega (arith, s.inside, count_first rows (omega arith))
+  module _ (n : ℕ) (h : n ≤ rows) (p : IsPartitionPoint (λ row. row_passes row ≡ true) (λ row. row_passes row ≡ false) (first_chunks 5 rows t) n) where
+    passes_below : (k : ℕ) → k < n → ends_before included e (cell t k 4) ≡ true
+    passes_below k g = ap (ends_before included e) (sym (chunk_end rows k t [] (omega arith))) ∙ p.0 k [] (omega arith) g
+
+    fails_above : (k : ℕ) → n ≤ k → k < rows → ends_before included e (cell t k 4) ≡ false
+    fails_above k g i = ap (ends_before included e) (sym (chunk_end rows k t [] i)) ∙ p.1 k [] g (rw (length-chunks 5 rows t) i)
+
+    count_first : (m : ℕ) → m ≤ rows → length (keep passes (rows_in m t)) ≡ min m n
+    count_first zero g = count_none ∙ omega arith
+    count_first (suc m) g = count_snoc m ∙ go (dec_lt m n) (count_first m (omega arith))
+      where
+        go : Dec (m < n) → length (keep passes (rows_in m t)) ≡ min m n → length (keep passes (rows_in m t)) + length (keep passes (table_row t m ∷ [])) ≡ min (suc m) n
+        go (yes l) r = rw (passes_below m l) (omega arith)
+        go (no l) r = rw (fails_above m (omega arith) (omega arith)) (omega arith)
+
+  pub rows_parted : Ordered rows t → IsPartitionedBy row_passes (first_chunks 5 rows t)
+  rows_parted o i j d h g p =
+      let q : j < rows = rw (length-chunks 5 rows t) at g in
+      let f = ends_before included e in
+      ap f (chunk_end rows i t d (omega arith)) ∙ earlier_passes included e (cell t i 4) (cell t j 4) (o i j h q) (ap f (sym (chunk_end rows j t d q)) ∙ p)
+
+  pub search_counts : (n : ℕ) → n ≤ length (first_chunks 5 rows t) → IsPartitionPoint (λ row. row_passes row ≡ true) (λ row. row_passes row ≡ false) (first_chunks 5 rows t) n → n ≡ count_ending included rows e t
+  search_counts n h p =
+      let few : n ≤ rows = rw (length-chunks 5 rows t) at h in
+      omega (arith, count_first n few p rows (omega arith))
 
   -- those that pass are the first ones: no more do than stand before one that does not
   module _ (o : Ordered rows t) (j : ℕ) (f : ends_before included e (cell t j 4) ≡ false) where

@@ -7,7 +7,7 @@ use mathlib.Core.Logic.{⊎_elim}
 use mathlib.Core.List.{List, [], ◌∷◌, ◌++◌, map}
 use lib.ListN.{length, get_or, length-append, length-map, get_or-append, get_or-map}
 use lib.Seq.{get_or-append-add, ext_get_or}
-use Rattle.text.proofs.Laws.{lt_or_le}
+use Rattle.std.proofs.lemmas.Bool.{cases_lt}
 use Rattle.chart.specs.Operators.{kind_of, shape_of}
 use Rattle.chart.specs.Records.{entry}
 use Rattle.chart.specs.Charts.{entry_at, with_entries}
@@ -140,7 +140,7 @@ module _ (c : Chart) (es : List Entry) where
       lengths = omega (arith, added_count c es, length-append (operators_of c) (map entry_operator es), length_operators c, length-map es entry_operator)
 
       at : (i : ℕ) → i < length (operators_of (with_entries c es)) → get_or (operators_of (with_entries c es)) i past ≡ get_or (operators_of c ++ map entry_operator es) i past
-      at i h = ⊎_elim (own_place i) added (lt_or_le i c.count)
+      at i h = ⊎_elim (own_place i) added (cases_lt i c.count)
         where
           added : c.count ≤ i → get_or (operators_of (with_entries c es)) i past ≡ get_or (operators_of c ++ map entry_operator es) i past
           added g =

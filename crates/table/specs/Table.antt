@@ -1,7 +1,7 @@
 -- The caller's table. Document 01, "Instants, events, rows": "A row is five signed 32-bit numbers: entry, left, right, start, end.
 -- Rows are numbered from 0."
--- `Filled`, `filled` and `fill` alone serve the proofs.
-use Rattle.std.specs.Prelude.{ℕ, suc, ◌+◌, ◌*◌, ◌-◌, Bool, cond, List, [], ◌∷◌, ◌++◌, map, ltb, ℤ, pos, nat_abs, length, get_or, take, drop, replicate}
+-- `Filled`, `filled`, `fill` and `count_in` alone serve the proofs.
+use Rattle.std.specs.Prelude.{ℕ, suc, ◌+◌, ◌*◌, ◌-◌, Bool, cond, List, [], ◌∷◌, ◌++◌, map, ltb, ℤ, pos, nat_abs, length, get_or, take, drop, replicate, Option, Some, None}
 use Rattle.std.proofs.lemmas.List.Edits.{sets}
 use Rattle.std.proofs.Math.Seq.{slice}
 use Rattle.interval.specs.Instants.{eq_z}
@@ -60,6 +60,11 @@ filled n t = record { count = n; table = t }
 unfoldable pub fill : ℕ → ℕ → List Row → List ℤ → Filled
 fill room n [] t = filled n t
 fill room n (r ∷ rs) t = cond (ltb n room) (fill room (suc n) rs (put_row n r t)) (filled (suc room) t)
+
+-- the count by what code answers: the rows there are, or nothing where a row found no room
+abbrev pub count_in : ℕ → Option ℕ → ℕ
+count_in room (Some n) = n
+count_in room None = suc room
 
 -- the numbers from index a to before index e, and the table with zeros there
 abbrev pub part : ℕ → ℕ → List ℤ → List ℤ

@@ -2,31 +2,34 @@
 // callers have shown. What reads or writes one row takes constant time.
 #![tactic(auto)]
 
-ghost use Rattle.std.specs.Prelude.{◌≡◌, true, [], ◌∷◌, ◌+◌, ◌*◌, ◌≤◌, pos, length};
+ghost use Rattle.std.specs.Prelude.{◌≡◌, true, [], ◌∷◌, ◌*◌, ◌+◌, ◌≤◌, pos, length};
 ghost use Rattle.std.specs.Int.Signed.{le_z};
+ghost use Rattle.std.specs.Simd.{first_chunks};
 ghost use Rattle.chart.specs.Charts.{is_usable};
 ghost use Rattle.model.specs.Capacity.{capacity};
-ghost use Rattle.table.specs.Table.{stored_row, model_row, put_row, fill, are_zeros, zeroed};
+ghost use Rattle.table.specs.Table.{stored_row, model_row, put_row, fill, count_in, are_zeros, zeroed};
 ghost use Rattle.table.specs.Operators.{entry_operator, arity_of, arities_of};
-ghost use Rattle.table.specs.Ends.{Ordered, ends_before, count_ending, ending_before, ending_by};
+ghost use Rattle.table.specs.Ends.{Ordered, ending_before, ending_by};
 
 use chart::operator::Shape;
 use chart::{Chart, Entry};
+use interval::Tenths;
+
+// The most rows that a table holds.
+const MOST_ROWS: usize = 65535;
 
 // How many rows a table of `len` numbers holds: a fifth, found without a division for hosts where that is slow. From the largest k down, 2^k rows
 // are taken where what is left has room for them. 16 turns; none for 65,535 rows or more.
 pub fn rows_that_fit(len: usize) -> usize
     ensures { result ≡ capacity len }
 {
-    if 327675 <= len {
-        return 65535;
+    if MOST_ROWS * 5 <= len {
+        return MOST_ROWS;
     }
     let mut left = len;
-    let mut rows: usize = 0;
-    let mut k: usize = 16;
-    while 0 < k {
-        k -= 1;
-        let numbers: usize = 5 << k;
+    let mut rows = 0;
+    for k in (0..16usize).rev() {
+        let numbers = 5 << k;
         if numbers <= left {
             left -= numbers;
             rows += 1 << k;
@@ -60,34 +63,30 @@ pub fn row_at(t: &[i32], i: usize) -> Row
     }
 }
 
-// Writes row i.
+// Writes row i. Five stores: where an array of the five is copied, it is made first, which takes half as long again.
 pub fn put_row(t: &mut [i32], i: usize, row: Row)
     requires { (i * 5 + 5 ≤ length t.old) × (le_z (pos 0) row.entry ≡ true) }
     ensures { t.new ≡ put_row i (model_row row) t.old }
 {
     let at = i * 5;
-    let entry = row.entry;
-    let left = row.left;
-    let right = row.right;
-    let start = row.start;
-    let end = row.end;
-    t[at] = entry;
-    t[at + 1] = left;
-    t[at + 2] = right;
-    t[at + 3] = start;
-    t[at + 4] = end;
+    t[at] = row.entry;
+    t[at + 1] = row.left;
+    t[at + 2] = row.right;
+    t[at + 3] = row.start;
+    t[at + 4] = row.end;
 }
 
-// Appends a row to the n there are, where there is room for it: one row more, or one more than the table holds and nothing written.
-pub fn push_row(t: &mut [i32], n: usize, room: usize, row: Row) -> usize
+// Appends a row to the n there are, where there is room for it: how many there are then. Without room nothing is written.
+#[tactic(auto, unfolding(crate::specs::Table::fill))]
+pub fn push_row(t: &mut [i32], n: usize, room: usize, row: Row) -> Option<usize>
     requires { (n ≤ room) × (room * 5 ≤ length t.old) × (le_z (pos 0) row.entry ≡ true) }
-    ensures { (result ≡ (fill room n (model_row row ∷ []) t.old).count) × (t.new ≡ (fill room n (model_row row ∷ []) t.old).table) }
+    ensures { (count_in room result ≡ (fill room n (model_row row ∷ []) t.old).count) × (t.new ≡ (fill room n (model_row row ∷ []) t.old).table) }
 {
-    if n < room {
-        put_row(t, n, row);
-        return n + 1;
+    if room <= n {
+        return None;
     }
-    room + 1
+    put_row(t, n, row);
+    Some(n + 1)
 }
 
 // Fills the numbers from index a to before index e with zeros.
@@ -95,11 +94,7 @@ pub fn zero_part(t: &mut [i32], a: usize, e: usize)
     requires { (a ≤ e) × (e ≤ length t.old) }
     ensures { t.new ≡ zeroed a e t.old }
 {
-    let mut i = a;
-    while i < e {
-        t[i] = 0;
-        i += 1;
-    }
+    t[a..e].fill(0);
 }
 
 // Whether all numbers from index a to before index e are zeros. One look at each of them, also behind one that is not zero: such a loop
@@ -108,88 +103,55 @@ pub fn are_zeros(t: &[i32], a: usize, e: usize) -> bool
     requires { (a ≤ e) × (e ≤ length t.now) }
     ensures { result ≡ are_zeros a e t.now }
 {
-    let mut zeros = true;
-    let mut i = a;
-    while i < e {
-        let at = i;
-        i += 1;
-        if t[at] != 0 {
-            zeros = false;
-        }
-    }
-    zeros
+    t[a..e].iter().fold(true, |zeros, z| zeros & (*z == 0))
 }
 
-// How many of the rows end before e; they stand by end. Binary search: at most 16 of 65,535 rows are looked at.
-pub fn ending_before(table: &[i32], rows: usize, e: i32) -> usize
-    requires { (rows * 5 ≤ length table.now) × Ordered rows table.now }
-    ensures { result ≡ ending_before rows e table.now }
-{
-    count_ending(table, rows, e as i64, false)
-}
-
-// How many of the rows end at e or before. Binary search: at most 16 of 65,535 rows are looked at.
-pub fn ending_by(table: &[i32], rows: usize, e: i32) -> usize
-    requires { (rows * 5 ≤ length table.now) × Ordered rows table.now }
-    ensures { result ≡ ending_by rows e table.now }
-{
-    count_ending(table, rows, e as i64, true)
-}
-
-// Whether an end is before e, or at e where that is included.
-fn ends_before(end: i32, e: i64, included: bool) -> bool
-    ensures { result ≡ ends_before included e end }
-{
-    let z = end as i64;
-    if included {
-        return interval::is_wide_no_later(z, e);
-    }
-    interval::is_wide_before(z, e)
-}
-
-// The search behind both: the rows below low pass, those from high on do not. A logarithm of the rows. e is wider than an end: the
+// How many of the rows end before e; they stand by end. Binary search: at most 17 of 65,535 rows are looked at. e may be wider than an end: the
 // beginning of a wait may be earlier than all instants.
-pub fn count_ending(table: &[i32], rows: usize, e: i64, included: bool) -> usize
+pub fn ending_before<T: Tenths>(table: &[i32], rows: usize, e: T) -> usize
     requires { (rows * 5 ≤ length table.now) × Ordered rows table.now }
-    ensures { result ≡ count_ending included rows e table.now }
+    ensures { result ≡ ending_before rows (T.tenths e) table.now }
 {
-    let mut low: usize = 0;
-    let mut high = rows;
-    while low < high {
-        let mid = low + (high - low) / 2;
-        let end = table[mid * 5 + 4];
-        if ends_before(end, e, included) {
-            low = mid + 1;
-        } else {
-            high = mid;
-        }
-    }
-    low
+    let e = e.tenths();
+    stored_rows(table, rows).partition_point(|row| i64::from(row[4]) < e)
+}
+
+// How many of the rows end at e or before; as above.
+pub fn ending_by<T: Tenths>(table: &[i32], rows: usize, e: T) -> usize
+    requires { (rows * 5 ≤ length table.now) × Ordered rows table.now }
+    ensures { result ≡ ending_by rows (T.tenths e) table.now }
+{
+    let e = e.tenths();
+    stored_rows(table, rows).partition_point(|row| i64::from(row[4]) <= e)
+}
+
+// The first rows, five numbers each. One division by 5, which compilers make a multiplication.
+fn stored_rows(table: &[i32], rows: usize) -> &[[i32; 5]]
+    requires { rows * 5 ≤ length table.now }
+    ensures { result.now ≡ first_chunks 5 rows table.now }
+{
+    table[..rows * 5].as_chunks().0
 }
 
 // How many references the rows of each entry are written with; an event's row has none. One look at each entry in use.
+#[tactic(auto, using(chart::proofs::Usable::usable_few))]
 pub fn arities_of(chart: Chart) -> [u8; 32]
     requires { is_usable chart ≡ true }
     ensures { result ≡ arities_of chart }
 {
-    let mut arities = [0u8; 32];
-    let count = chart.count;
-    let mut n: usize = 0;
-    while n < count {
-        let e = chart.entries[n];
-        arities[n] = arity_of(e);
-        n += 1;
+    let mut arities = [0; 32];
+    for n in 0..chart.count {
+        arities[n] = arity_of(chart.entries[n]);
     }
     arities
 }
 
 // How many references the rows of an entry are written with.
+#[tactic(auto, using(crate::proofs::Operators::shape_arity))]
 fn arity_of(e: Entry) -> u8
     ensures { result ≡ arity_of (entry_operator e) }
 {
-    let kind = chart::operator::kind_of(e.op);
-    let shape = chart::operator::shape_of(kind);
-    match shape {
+    match chart::operator::shape_of(chart::operator::kind_of(e.op)) {
         Shape::Leaf => 0,
         Shape::Single => 1,
         Shape::Arms => 2,

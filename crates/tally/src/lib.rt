@@ -21,6 +21,7 @@ pub struct Report {
 }
 
 // The number of a refusal and nothing else. Constant time.
+#[tactic(auto, unfolding(crate::specs::Tally::refused_report))]
 pub fn refused(number: u32) -> Report
     ensures { result ≡ refused_report number }
 {
@@ -29,7 +30,7 @@ pub fn refused(number: u32) -> Report
         entries: 0,
         rows: 0,
         read: 0,
-        tallies: [0usize; 32],
+        tallies: [0; 32],
     }
 }
 
@@ -38,15 +39,12 @@ pub fn count_rows(chart: Chart, table: &[i32], rows: usize) -> Report
     requires { Ready chart rows table.now }
     ensures { result ≡ report_of chart.count (rows_in rows table.now) }
 {
-    let mut tallies = [0usize; 32];
-    let mut read: usize = 0;
-    let mut i: usize = 0;
-    while i < rows {
+    let mut tallies = [0; 32];
+    let mut read = 0;
+    for i in 0..rows {
         let row = table::row_at(table, i);
         read += 1;
-        let entry = row.entry as usize;
-        tallies[entry] += 1;
-        i += 1;
+        tallies[row.entry as usize] += 1;
     }
     Report {
         refusal: 0,

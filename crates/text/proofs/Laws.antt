@@ -1,41 +1,21 @@
 -- Laws of lines and fields: the first byte 10 or tab cuts off the first line or field. Upper crates go by these and open no definition.
 use Prim.Native.Nat.{ℕ, zero, suc, ◌+◌, ◌-◌, ◌≤◌, ◌<◌, min}
 use native.Mathlib.Omega.{arith}
-use native.Mathlib.Nat.{le_of_eq}
-use native.Mathlib.Numerals.{add-one}
 use mathlib.Core.Path.{◌≡◌, refl, sym, ap, ap₂, ◌∙◌}
 use mathlib.Core.Bool.{Bool, true, false, cond}
 use mathlib.Core.Logic.{◌⊎◌, inl, inr, ⊎_elim}
 use mathlib.Core.List.{List, [], ◌∷◌, ◌++◌, append-nil, append_assoc}
-use borrow.Author.Tests.{eq-eqb, ne_eqb, eqb-true, lt-ltb, le-ltb, ltb-true, ltb-false}
-use lib.Dec.{eqb, ltb}
-use lib.ListN.{length, take, drop, get_or, drop_of_length-le, length-take, length-drop}
-use lib.Seq.{drop-cons, take_all, length-take-le}
-use Rattle.text.specs.Text.{index_of, split, in_front, Line, whole, broken, ended, lines, is_record, line_size}
-
-pub lt_or_le : (a b : ℕ) → (a < b) ⊎ (b ≤ a)
-lt_or_le a b = go (ltb a b) refl
-  where
-    go : (t : Bool) → ltb a b ≡ t → (a < b) ⊎ (b ≤ a)
-    go true e = inl (ltb-true a b e)
-    go false e = inr (ltb-false a b e)
-
--- the search goes on from place i
-pub index_hit : (x : ℕ) (s : List ℕ) (i : ℕ) → i < length s → get_or s i 0 ≡ x → index_of x (drop i s) ≡ 0
-unfolding index_of
-index_hit x s i h e = rw (drop-cons s i 0 h, eq-eqb _ _ e)
-
-pub index_on : (x : ℕ) (s : List ℕ) (i : ℕ) → i < length s → (get_or s i 0 ≡ x → ⊥) → index_of x (drop i s) ≡ suc (index_of x (drop (i + 1) s))
-unfolding index_of
-index_on x s i h e = rw (drop-cons s i 0 h, ne_eqb _ _ e, add-one)
-
--- what was passed and what is left make the whole, also one byte on
-pub index_step : (x : ℕ) (s : List ℕ) (i k : ℕ) → i + index_of x (drop i s) ≡ index_of x s → k ≡ i + 1 → i < length s → (get_or s i 0 ≡ x → ⊥) → k + index_of x (drop k s) ≡ index_of x s
-index_step x s i k p q h e = rw q (omega (arith, index_on x s i h e))
-
-pub index_none : (x : ℕ) (s : List ℕ) (i : ℕ) → length s ≤ i → index_of x (drop i s) ≡ 0
-unfolding index_of
-index_none x s i h = rw (drop_of_length-le s h)
+use borrow.Author.Tests.{eq-eqb, eqb-true, lt-ltb, le-ltb, ltb-true}
+use lib.Dec.{eqb}
+use lib.ListN.{length, take, drop, length-take, length-drop}
+use lib.Seq.{take_all, length-take-le, drop-drop}
+use Rattle.std.specs.Prelude.{Option, Some, None}
+pub use Rattle.std.proofs.lemmas.Bool.{cases_lt as lt_or_le}
+use Rattle.std.proofs.lemmas.List.{take_rest}
+use Rattle.std.proofs.lemmas.Option.{cond_some, none-some}
+use Rattle.std.specs.List.{position, position_or_len}
+use Rattle.std.proofs.lemmas.List.Recursion.{is_position_or_len}
+use Rattle.text.specs.Text.{index_of, found_at, split, in_front, Line, whole, broken, ended, lines, is_record, line_size}
 
 -- a search goes no further than the length, and is the same in a part at the front where it finds something there
 pub index_le : (x : ℕ) (s : List ℕ) → index_of x s ≤ length s
@@ -69,6 +49,17 @@ module _ (x : ℕ) where
       go : (t : Bool) → (index_of x (take n s) ≡ length (take n s) → length (take n s) ≤ index_of x s) → cond t 0 (suc (index_of x (take n s))) ≡ suc (length (take n s)) → suc (length (take n s)) ≤ cond t 0 (suc (index_of x s))
       go true f g = absurd (omega arith)
       go false f g = let p : length (take n s) ≤ index_of x s = f (omega arith) in omega arith
+
+  -- a front part without x is passed over
+  index_skip : (n : ℕ) (s : List ℕ) → n ≤ length s → index_of x (take n s) ≡ length (take n s) → index_of x s ≡ n + index_of x (drop n s)
+  unfolding index_of
+  index_skip zero s h e = omega arith
+  index_skip (suc n) [] h e = absurd (omega arith)
+  index_skip (suc n) (b ∷ s) h e = go (eqb b x) (index_skip n s (omega arith)) e
+    where
+      go : (t : Bool) → (index_of x (take n s) ≡ length (take n s) → index_of x s ≡ n + index_of x (drop n s)) → cond t 0 (suc (index_of x (take n s))) ≡ suc (length (take n s)) → cond t 0 (suc (index_of x s)) ≡ suc n + index_of x (drop n s)
+      go true f g = absurd (omega arith)
+      go false f g = omega (arith, f (omega arith))
 
 -- the first x ends the first part
 module _ (x : ℕ) where
@@ -256,57 +247,116 @@ first_broken (b ∷ s) h e = go (lt_or_le m (suc (length s)))
 
 -- the part of a slice from k on, as code lends it
 pub part_from : (k : ℕ) (s : List ℕ) → take (length s - k) (drop k s) ≡ drop k s
-part_from k s = take_all (length s - k) (drop k s) (le_of_eq (length-drop k s))
+part_from k s = take_rest s k
+
+-- the first x by std's words
+pub index_position : (x : ℕ) (s : List ℕ) → index_of x s ≡ position_or_len (λ b. eqb b x) s
+unfolding index_of
+index_position x s = is_position_or_len (index_of x) (λ b. eqb b x) refl (λ b l. let e : suc (index_of x l) ≡ 1 + index_of x l = omega arith in ap (cond (eqb b x) 0) e) s
+
+-- what a search finds
+module _ (x : ℕ) (s : List ℕ) where
+  pub found_some : index_of x s < length s → found_at x s ≡ Some (index_of x s)
+  unfolding found_at
+  found_some h = simp (lt-ltb _ _ h)
+
+  pub found_none : length s ≤ index_of x s → found_at x s ≡ None
+  unfolding found_at
+  found_none h = simp (le-ltb _ _ h)
+
+  pub found_told : (i : ℕ) → found_at x s ≡ Some i → (index_of x s ≡ i) × (i < length s)
+  unfolding found_at
+  found_told i e = let t = cond_some _ _ _ e in (t.1, omega (arith, t.1, ltb-true _ _ t.0))
+
+  pub none_told : found_at x s ≡ None → index_of x s ≡ length s
+  none_told e = ⊎_elim (λ h. absurd (none-some _ (sym e ∙ found_some h))) (λ h. omega (arith, h, index_le x s)) (lt_or_le (index_of x s) (length s))
+
+-- a search piece by piece: p, from place `at` on, is looked at by std's `position`
+module _ (x : ℕ) (s : List ℕ) (at n : ℕ) (passed : at + index_of x (drop at s) ≡ index_of x s) (h : at + n ≤ length s) {p : List ℕ} (e : p ≡ take n (drop at s)) {r : Option ℕ} (d : r ≡ position (λ b. eqb b x) p) where
+  searched : r ≡ found_at x (take n (drop at s))
+  unfolding found_at
+  searched = rw (index_position, ← e) d
+
+  size : length (take n (drop at s)) ≡ n
+  size = length-take-le n (drop at s) (omega (arith, length-drop at s))
+
+  pub piece_some : (k : ℕ) → r ≡ Some k → Some (at + k) ≡ found_at x s
+  piece_some k f =
+      let t = found_told x (take n (drop at s)) k (sym searched ∙ f) in
+      let g : index_of x (drop at s) ≡ k = index_front x n (drop at s) (omega (arith, t.0, t.1)) ∙ t.0 in
+      let i : index_of x s ≡ at + k = omega (arith, g, passed) in
+      ap Some (sym i) ∙ sym (found_some x s (omega (arith, i, t.1, size)))
+
+  pub piece_none : r ≡ None → at + n + index_of x (drop (at + n) s) ≡ index_of x s
+  piece_none f =
+      let g : index_of x (drop at s) ≡ n + index_of x (drop n (drop at s)) = index_skip x n (drop at s) (omega (arith, length-drop at s)) (none_told x (take n (drop at s)) (sym searched ∙ f)) in
+      rw (← passed, g, drop-drop n at s) (omega arith)
+
+  pub piece_last : at + n ≡ length s → r ≡ None → None ≡ found_at x s
+  piece_last all f = sym (found_none x s (omega (arith, piece_none f)))
 
 -- the first line's size, where its byte 10 is among the first 64 bytes and where not
-pub size_found : (s : List ℕ) → index_of 10 (take 64 s) < length (take 64 s) → line_size s ≡ index_of 10 (take 64 s) + 1
+pub size_found : (s : List ℕ) → index_of 10 (take 64 s) < length (take 64 s) → line_size s ≡ Some (index_of 10 (take 64 s) + 1)
 unfolding line_size
 size_found s h = simp (lt-ltb _ _ h)
 
-pub size_none : (s : List ℕ) → length (take 64 s) ≤ index_of 10 (take 64 s) → line_size s ≡ 0
+pub size_none : (s : List ℕ) → length (take 64 s) ≤ index_of 10 (take 64 s) → line_size s ≡ None
 unfolding line_size
 size_none s h = simp (le-ltb _ _ h)
 
--- the window of at most 64 bytes
-pub window_is : (s : List ℕ) → take (min 64 (length s)) s ≡ take 64 s
-window_is s =
-    ⊎_elim
-    (λ h. take_all (min 64 (length s)) s (omega arith) ∙ sym (take_all 64 s (omega arith)))
-    (λ h. let m : min 64 (length s) ≡ 64 = omega arith in ap (λ n. take n s) m)
-    (lt_or_le (length s) 64)
+pub size_told : (s : List ℕ) (n : ℕ) → line_size s ≡ Some n → (index_of 10 (take 64 s) + 1 ≡ n) × (n ≤ length (take 64 s))
+unfolding line_size
+size_told s n e = let t = cond_some _ _ _ e in (t.1, omega (arith, t.1, ltb-true _ _ t.0))
+
+-- a search in the window of at most 64 bytes tells it
+module _ (s : List ℕ) {n : ℕ} {r : Option ℕ} (m : n ≡ min (length s) 64) (e : r ≡ found_at 10 (take n s)) where
+  windowed : r ≡ found_at 10 (take 64 s)
+  windowed =
+      e ∙ ap (found_at 10)
+      (⊎_elim
+      (λ h. take_all n s (omega arith) ∙ sym (take_all 64 s (omega arith)))
+      (λ h. let k : n ≡ 64 = omega arith in ap (λ n. take n s) k)
+      (lt_or_le (length s) 64))
+
+  pub window_some : (i : ℕ) → r ≡ Some i → (i < 64) × (Some (i + 1) ≡ line_size s)
+  window_some i d =
+      let t = found_told 10 (take 64 s) i (sym windowed ∙ d) in
+      (omega (arith, t.1, length-take 64 s), ap (λ n. Some (n + 1)) (sym t.0) ∙ sym (size_found s (omega (arith, t.0, t.1))))
+
+  pub window_none : r ≡ None → None ≡ line_size s
+  window_none d = sym (size_none s (omega (arith, none_told 10 (take 64 s) (sym windowed ∙ d))))
 
 -- byte 10 is among the first 64 bytes or not
 early : (s : List ℕ) → (index_of 10 (take 64 s) < length (take 64 s)) ⊎ (length (take 64 s) ≤ index_of 10 (take 64 s))
 early s = lt_or_le (index_of 10 (take 64 s)) (length (take 64 s))
 
-pub size_le : (s : List ℕ) → line_size s ≤ length s
-size_le s = ⊎_elim (λ h. omega (arith, size_found s h, length-take 64 s)) (λ h. omega (arith, size_none s h)) (early s)
+pub size_le : (s : List ℕ) (n : ℕ) → line_size s ≡ Some n → n ≤ length s
+size_le s n e = omega (arith, (size_told s n e).1, length-take 64 s)
 
 -- a first line of at most 64 bytes cuts off the first part
-pub record FirstPart (s : List ℕ) : Type 0 where
-  pub some : 0 < line_size s
-  pub short : line_size s ≤ 64
-  pub parts : split 10 s ≡ take (line_size s - 1) s ∷ split 10 (drop (line_size s) s)
+pub record FirstPart (s : List ℕ) (n : ℕ) : Type 0 where
+  pub some : 0 < n
+  pub short : n ≤ 64
+  pub inside : n ≤ length s
+  pub parts : split 10 s ≡ take (n - 1) s ∷ split 10 (drop n s)
 
-pub first_part : (s : List ℕ) → (line_size s ≡ 0 → ⊥) → FirstPart s
-first_part s h = ⊎_elim found (λ n. absurd (h (size_none s n))) (early s)
-  where
-    i : ℕ
-    i = index_of 10 (take 64 s)
-
-    found : i < length (take 64 s) → FirstPart s
-    found small =
-        let k : line_size s ≡ i + 1 = size_found s small in
-        let f : index_of 10 s ≡ i = index_front 10 64 s small in
-        let x : index_of 10 s ≡ line_size s - 1 = omega (arith, f, k) in
-        let y : suc (index_of 10 s) ≡ line_size s = omega (arith, f, k) in
-        record {
-          some = omega (arith, k);
-          short = omega (arith, k, small, length-take 64 s);
-          parts = split_cut 10 s (omega (arith, f, small, length-take 64 s)) ∙ ap₂ (λ m n. take m s ∷ split 10 (drop n s)) x y;
-        }
+pub first_part : (s : List ℕ) (n : ℕ) → line_size s ≡ Some n → FirstPart s n
+first_part s n e =
+    let i = index_of 10 (take 64 s) in
+    let t = size_told s n e in
+    let f : index_of 10 s ≡ i = index_front 10 64 s (omega (arith, t.0, t.1)) in
+    let x : index_of 10 s ≡ n - 1 = omega (arith, f, t.0) in
+    let y : suc (index_of 10 s) ≡ n = omega (arith, f, t.0) in
+    record {
+      some = omega (arith, t.0);
+      short = omega (arith, t.1, length-take 64 s);
+      inside = size_le s n e;
+      parts = split_cut 10 s (omega (arith, y, size_le s n e)) ∙ ap₂ (λ m k. take m s ∷ split 10 (drop k s)) x y;
+    }
 
 -- without one the first byte 10, if there is any, comes after the first 64 bytes
-pub none_early : (s : List ℕ) → line_size s ≡ 0 → length (take 64 s) ≤ index_of 10 s
-none_early s z =
-    ⊎_elim (λ h. absurd (omega (arith, size_found s h, z))) (λ h. index_past 10 64 s (omega (arith, h, index_le 10 (take 64 s)))) (early s)
+pub no_line : (s : List ℕ) → line_size s ≡ None → index_of 10 (take 64 s) ≡ length (take 64 s)
+no_line s z = ⊎_elim (λ h. absurd (none-some _ (sym z ∙ size_found s h))) (λ h. omega (arith, h, index_le 10 (take 64 s))) (early s)
+
+pub none_early : (s : List ℕ) → line_size s ≡ None → length (take 64 s) ≤ index_of 10 s
+none_early s z = index_past 10 64 s (no_line s z)

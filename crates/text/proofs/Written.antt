@@ -4,9 +4,12 @@ use native.Mathlib.Omega.{arith}
 use native.Mathlib.Nat.{add-zero, le_of_eq}
 use mathlib.Core.Path.{◌≡◌, refl, sym, ap, ◌∙◌}
 use mathlib.Core.Bool.{Bool, true, false}
-use mathlib.Core.List.{List, [], ◌∷◌, ◌++◌, append-nil}
+use mathlib.Core.List.{List, [], ◌∷◌, ◌++◌, append-nil, append_assoc}
 use lib.ListN.{length, set, take, drop, length-append, length-drop, drop_of_length-le}
 use lib.Seq.{sets, sets-eq, length-sets, take-append_seam}
+use borrow.Rule.Slice.PartMut.{put_mid}
+use Rattle.std.proofs.lemmas.Slice.{put_mid-paste}
+use Rattle.std.proofs.lemmas.List.Edits.{paste_all}
 use Rattle.text.specs.Output.{length_where, output_where}
 
 pub sets_append : (out : List ℕ) (at : ℕ) (l r : List ℕ) → sets out at (l ++ r) ≡ sets (sets out at l) (at + length l) r
@@ -14,6 +17,10 @@ sets_append out at [] r = rw (add-zero at)
 sets_append out at (b ∷ l) r =
     let e : suc at + length l ≡ at + suc (length l) = omega arith in
     sets_append (set out at b) (suc at) l r ∙ rw e
+
+-- a part put in the place of as many
+pub put_sets : {X : Type 0} (out s : List X) (at k : ℕ) → k ≡ length s → at + length s ≤ length out → put_mid at k out s ≡ sets out at s
+put_sets out s at k e h = put_mid-paste at k out s s (length s) refl (sym e) refl ∙ paste_all out at s (length s) refl ∙ sym (append_assoc (take at out) s (drop (at + length s) out)) ∙ sym (sets-eq s out at h)
 
 -- at the front of the output
 pub front_written : (out b : List ℕ) → length b ≤ length out → sets out 0 b ≡ b ++ drop (length b) out
@@ -79,13 +86,6 @@ module _ (room : Bool) (s out : List ℕ) where
   pub output_no_room : room ≡ false → output_where room s out ≡ out
   unfolding output_where
   output_no_room e = rw e
-
--- The same as the code answers it: nothing written, and the text written at the front.
-pub none_where : {room : Bool} (s out : List ℕ) → room ≡ false → (0 ≡ length_where room s) × (out ≡ output_where room s out)
-none_where {room} s out e = (sym (length_no_room room s out e), sym (output_no_room room s out e))
-
-pub text_where : {room : Bool} (s out : List ℕ) {r : ℕ} {l : List ℕ} → room ≡ true → length s ≤ length out → (r ≡ 0 + length s) × (l ≡ sets out 0 s) → (r ≡ length_where room s) × (l ≡ output_where room s out)
-text_where {room} s out e h w = (omega (arith, w.0, length_room room s out e), w.1 ∙ front_written out s h ∙ sym (output_room room s out e))
 
 -- An output that keeps its length has room for what is answered.
 pub front_within : (room : Bool) (s out : List ℕ) → length (output_where room s out) ≡ length out → length_where room s ≤ length out

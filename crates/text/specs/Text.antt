@@ -1,11 +1,15 @@
 -- Lines and fields. Document 01, "Chart and log on paper": "One record a line, fields parted by one tab, each line ended by byte 10
 -- and at most 64 bytes with it."
-use Rattle.std.specs.Prelude.{ℕ, suc, ◌+◌, Bool, true, false, cond, ◌&&◌, List, [], ◌∷◌, ◌++◌, eqb, ltb, length, take}
+use Rattle.std.specs.Prelude.{ℕ, suc, ◌+◌, Bool, true, false, cond, ◌&&◌, List, [], ◌∷◌, ◌++◌, eqb, ltb, length, take, Option, Some, None}
 
 -- the place of the first x, or the length where there is none
 unfoldable pub index_of : ℕ → List ℕ → ℕ
 index_of x [] = 0
 index_of x (b ∷ s) = cond (eqb b x) 0 (suc (index_of x s))
+
+-- that place, where there is an x
+unfoldable pub found_at : ℕ → List ℕ → Option ℕ
+found_at x s = cond (ltb (index_of x s) (length s)) (Some (index_of x s)) None
 
 abbrev pub in_front : ℕ → List (List ℕ) → List (List ℕ)
 in_front b [] = []
@@ -46,9 +50,9 @@ lines s = ended (split 10 s)
 abbrev pub is_record : Line → Bool
 is_record l = l.ended && ltb (length l.bytes) 64
 
--- how many bytes the first line has with its byte 10, or 0 where that is not among the first 64 bytes
-unfoldable pub line_size : List ℕ → ℕ
-line_size s = cond (ltb (index_of 10 (take 64 s)) (length (take 64 s))) (index_of 10 (take 64 s) + 1) 0
+-- how many bytes the first line has with its byte 10, where that is among the first 64 bytes
+unfoldable pub line_size : List ℕ → Option ℕ
+line_size s = cond (ltb (index_of 10 (take 64 s)) (length (take 64 s))) (Some (index_of 10 (take 64 s) + 1)) None
 
 -- an input that comes in pieces: the pieces put together
 unfoldable pub joined : List (List ℕ) → List ℕ

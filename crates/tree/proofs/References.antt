@@ -1,9 +1,9 @@
 -- References and the rows they name: they are lower, and a row's bytes are made of those of its references.
 use Prim.Native.Nat.{ℕ, zero, suc, ◌≤◌, ◌<◌}
 use native.Mathlib.Omega.{arith}
-use mathlib.Core.Path.{◌≡◌, refl, ap, ◌∙◌}
+use mathlib.Core.Path.{◌≡◌, refl, ◌∙◌}
 use mathlib.Core.Bool.{true, false}
-use mathlib.Core.List.{List, map}
+use mathlib.Core.List.{List, [], ◌∷◌, ◌++◌, map}
 use lib.IntN.{ℤ, pos, negsuc, nat_abs}
 use lib.ListN.{length}
 use lib.Signed.{le_z, lt_z}
@@ -19,9 +19,11 @@ use Rattle.table.specs.Operators.{operators_of, arity_of, arities_of}
 use Rattle.table.specs.Ready.{Ready, Refers}
 use Rattle.table.proofs.Arities.{same_arity, event_arity}
 use Rattle.table.proofs.Ready.{entry_low, refers_below}
+use Rattle.decimal.specs.Spelling.{spelled}
 use Rattle.tree.specs.declared.Node.{Node}
+use Rattle.tree.specs.declared.Node.TheVariants.{Event, One, Two}
 use Rattle.tree.specs.Tree.{arity_at, row_bytes, reference_bytes, tree_within, tree_over, tree_bytes}
-use Rattle.tree.specs.Following.{node_at, rows_to, Followable}
+use Rattle.tree.specs.Following.{node_by, node_at, rows_to, Followable}
 
 -- references
 refers_lower : (i : ℕ) (z : ℤ) → Refers i z → rows_to z ≤ i
@@ -87,41 +89,47 @@ module _ (chart : Chart) (rows : ℕ) (t : List ℤ) (ready : Ready chart rows t
 abbrev pub Follows : List ℕ → List ℤ → ℤ → ℤ → Type 0
 Follows arities t z l = (rows_to l < rows_to z) × Followable arities t l
 
--- What is known of a reference z to a row that is made of `node`, both held as 32-bit numbers.
-pub record Known (arities : List ℕ) (t : List ℤ) (z : ℤ) (node : Node) : Type 0 where
-  pub bytes : let R = reference_bytes (tree_over arities t) in R z ≡ row_bytes node.arity node.left (R node.left) (R node.right)
-  pub left : (node.arity ≡ 0 → ⊥) → SFits w32 node.left → Follows arities t z (to_z w32 (of_z w32 node.left))
-  pub right : SFits w32 node.right → Follows arities t z (to_z w32 (of_z w32 node.right))
+-- What is known of a reference z to a row that is made of `node`: its bytes, by those of its references, which may be followed.
+abbrev pub Known : List ℕ → List ℤ → ℤ → Node → Type 0
+Known arities t z (Event s) = reference_bytes (tree_over arities t) z ≡ 101 ∷ spelled s
+Known arities t z (One l) = let R = reference_bytes (tree_over arities t) in (R z ≡ 60 ∷ R l ++ 62 ∷ []) × Follows arities t z l
+Known arities t z (Two l r) = let R = reference_bytes (tree_over arities t) in (R z ≡ 60 ∷ R l ++ (44 ∷ R r ++ 62 ∷ [])) × Follows arities t z l × Follows arities t z r
 
-module _ (arities : List ℕ) (t : List ℤ) (z : ℤ) (w : Followable arities t z) (fits : SFits w32 z) (test : lt_z (to_z w32 (of_z w32 z)) (pos 0) ≡ false) where
-  up : le_z (pos 0) z ≡ true
-  up = let e = rw (same32 z fits) at test in omega (arith, signed)
+module _ (arities : List ℕ) (t : List ℤ) (z : ℤ) (w : Followable arities t z) (up : le_z (pos 0) z ≡ true) where
+  abbrev R : ℤ → List ℕ
+  R = reference_bytes (tree_over arities t)
 
-  low : nat_abs z < rows_to z
+  abbrev i : ℕ
+  i = nat_abs z
+
+  low : i < rows_to z
   low = omega (arith, rows_to_lem z up)
 
-  pub is_row : Followable arities t (to_z w32 (of_z w32 z)) × (le_z (pos 0) (to_z w32 (of_z w32 z)) ≡ true)
-  is_row = rw (same32 z fits) (w, up)
+  lower : (l : ℤ) → rows_to l ≤ i → Follows arities t z l
+  lower l h = (
+    omega (arith, low),
+    record {
+      fit = omega (arith, w.fit, low);
+      entry_above = λ j k. w.entry_above j (omega (arith, low));
+      entry_below = λ j k. w.entry_below j (omega (arith, low));
+      left = λ j k. w.left j (omega (arith, low));
+      right = λ j k. w.right j (omega (arith, low));
+    },
+  )
 
-  lower : (l : ℤ) → SFits w32 l → rows_to l ≤ nat_abs z → Follows arities t z (to_z w32 (of_z w32 l))
-  lower l f h =
-      rw (same32 l f) (
-        omega (arith, low),
-        record {
-          fit = omega (arith, w.fit, low);
-          entry_above = λ i k. w.entry_above i (omega (arith, low));
-          entry_below = λ i k. w.entry_below i (omega (arith, low));
-          left = λ i k. w.left i (omega (arith, low));
-          right = λ i k. w.right i (omega (arith, low));
-        },
-      )
+  bytes : R z ≡ row_bytes (arity_at arities t i) (cell t i 1) (R (cell t i 1)) (R (cell t i 2))
+  unfolding reference_bytes
+  bytes = rw (← pos_of z up) (row_bytes_lem arities t z w i low)
 
-  pub known : (node : Node) → node ≡ node_at arities t (nat_abs (to_z w32 (of_z w32 z))) → Known arities t z node
-  unfolding node_at reference_bytes
-  known node is =
-      let e : node ≡ node_at arities t (nat_abs z) = rw (same32 z fits) at is in
-      record {
-        bytes = rw (e, ← pos_of z up) (row_bytes_lem arities t z w (nat_abs z) low);
-        left = λ d f. lower node.left f (rw e (w.left (nat_abs z) low (λ q. d (ap (λ (n : Node). n.arity) e ∙ q))));
-        right = λ f. lower node.right f (rw e (w.right (nat_abs z) low));
-      }
+  known_by : (a : ℕ) → arity_at arities t i ≡ a → Known arities t z (node_by a (cell t i 1) (cell t i 2))
+  unfolding row_bytes
+  known_by zero e = rw e at bytes
+  known_by (suc zero) e = (rw e at bytes, lower (cell t i 1) (w.left i low (λ q. omega (arith, e, q))))
+  known_by (suc (suc a)) e = (rw e at bytes, lower (cell t i 1) (w.left i low (λ q. omega (arith, e, q))), lower (cell t i 2) (w.right i low))
+
+-- the same as the code looks at it, which holds z as a 32-bit number
+pub known : (arities : List ℕ) (t : List ℤ) (z : ℤ) → Followable arities t z → SFits w32 z → lt_z (to_z w32 (of_z w32 z)) (pos 0) ≡ false → (node : Node) → node ≡ node_at arities t (nat_abs (to_z w32 (of_z w32 z))) → Known arities t z node
+unfolding node_at
+known arities t z w fits test node is =
+    let up : le_z (pos 0) z ≡ true = let e = rw (same32 z fits) at test in omega (arith, signed) in
+    rw (is, same32 z fits) (known_by arities t z w up (arity_at arities t (nat_abs z)) refl)

@@ -1,17 +1,23 @@
 -- What the functions that follow references are lent and ask. Nothing here has to be believed: only contracts of inner functions cite this file.
-use Rattle.std.specs.Prelude.{ℕ, suc, ◌*◌, ◌≤◌, ◌<◌, ◌≡◌, true, cond, List, eqb, ℤ, pos, negsuc, nat_abs, length}
+use Rattle.std.specs.Prelude.{ℕ, zero, suc, ◌*◌, ◌-◌, ◌≤◌, ◌<◌, ◌≡◌, true, cond, Option, Some, None, List, leb, ℤ, pos, negsuc, nat_abs, length}
 use Rattle.std.specs.Int.Signed.{le_z}
 use Rattle.table.specs.Table.{cell}
 use Rattle.tree.specs.Tree.{arity_at}
 use Rattle.tree.specs.declared.Node.{Node}
+use Rattle.tree.specs.declared.Node.TheVariants.{Event, One, Two}
 
--- what row i's tree is made of
+-- what row i's tree is made of, by how many references it is written with
+abbrev pub node_by : ℕ → ℤ → ℤ → Node
+node_by zero l r = Event l
+node_by (suc zero) l r = One l
+node_by (suc (suc n)) l r = Two l r
+
 unfoldable pub node_at : List ℕ → List ℤ → ℕ → Node
-node_at arities t i = record { arity = arity_at arities t i; left = cell t i 1; right = cell t i 2 }
+node_at arities t i = node_by (arity_at arities t i) (cell t i 1) (cell t i 2)
 
--- how many bytes a row of one or two references has besides them: `<>` or `<,>`
-abbrev pub delimiters_of : ℕ → ℕ
-delimiters_of a = cond (eqb a 1) 2 3
+-- what is left of a limit behind n bytes, where they are no more
+abbrev pub rest_of : ℕ → ℕ → Option ℕ
+rest_of limit n = cond (leb n limit) (Some (limit - n)) None
 
 -- how many rows there are up to the one that a reference names
 abbrev pub rows_to : ℤ → ℕ

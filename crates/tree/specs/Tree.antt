@@ -1,7 +1,7 @@
 -- The bytes of a tree. Document 01, "Reading": "A tree is written `e` and serial for an event; `<L,R>` for two; `<L,_>` or `<_,R>`
 -- for or; `<L>` for one."
 -- `length_within` alone serves the proofs.
-use Rattle.std.specs.Prelude.{ℕ, zero, suc, ◌<◌, ◌≡◌, cond, List, [], ◌∷◌, ◌++◌, map, leb, ℤ, pos, negsuc, nat_abs, length, get_or}
+use Rattle.std.specs.Prelude.{ℕ, zero, suc, ◌<◌, ◌≡◌, cond, Option, Some, None, List, [], ◌∷◌, ◌++◌, map, leb, ℤ, pos, negsuc, nat_abs, length, get_or}
 use Rattle.decimal.specs.Spelling.{spelled}
 use Rattle.model.specs.Recognitions.{Event, Operator, only, left, right, delayed, Recognition, of_event, of_one, of_two}
 use Rattle.model.specs.Statements.{IsRecognition, Reads}
@@ -47,9 +47,9 @@ tree_over arities t i = tree_within arities t (suc i) i
 unfoldable pub tree_bytes : List Operator → List ℤ → ℕ → List ℕ
 tree_bytes ops t i = tree_over (map arity_of ops) t i
 
--- how many bytes there are, or 0 where they are more than the limit; a tree has at least two
-unfoldable pub length_within : ℕ → List ℕ → ℕ
-length_within limit s = cond (leb (length s) limit) (length s) 0
+-- how many bytes there are, where they are no more than the limit
+unfoldable pub length_within : ℕ → List ℕ → Option ℕ
+length_within limit s = cond (leb (length s) limit) (Some (length s)) None
 
 -- "A row's references, followed down, give its recognition's own tree", and the bytes of the row are those of that recognition.
 abbrev pub TreeHolds : Type 0

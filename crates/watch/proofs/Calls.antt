@@ -11,13 +11,20 @@ use lib.IntN.{ℤ, pos}
 use Rattle.interval.specs.Instants.{is_instant, is_mark_refused, is_forget_refused}
 use Rattle.chart.specs.Charts.{is_usable, read_added}
 use Rattle.chart.specs.declared.Chart.{Chart}
+use Rattle.model.proofs.Capacity.{capacity_fits}
+use Rattle.table.specs.Ends.{Ordered}
+use Rattle.table.specs.Ready.{Ready}
 use Rattle.table.specs.Table.{zeroed, room_in}
 use Rattle.consistency.proofs.Theorems as consistency
 use Rattle.state.specs.State.{empty_state, open_state, extended, marked, raised}
 use Rattle.consistency.specs.Consistency.{are_consistent}
-use Rattle.closing.specs.Closed.{closed_rows, closed_number, closed_table}
-use Rattle.closing.proofs.Entries.{number_fits, number_over}
+use Rattle.closing.specs.Closed.{Closable, closed_rows, closed_count, closed_table}
+use Rattle.interval.proofs.Signed.{is_lt}
+use Rattle.interval.proofs.Laws.{mark_taken}
 use Rattle.forgetting.specs.Forgetting.{kept_rows, forgotten_table}
+use Rattle.refusal.specs.declared.Refusal.{Refusal}
+use Rattle.std.specs.Option.{ok_or}
+use Rattle.std.specs.Prelude.{Option, Some, None, Result, Err}
 use Rattle.watch.specs.Steps.{Step, refused_step, taken_step, opening_step, check_number, checked, clock_own, forget_own, addition, add_own, add_step}
 use Rattle.state.specs.declared.WatchState.{WatchState}
 
@@ -36,14 +43,6 @@ module _ (chart : Chart) (t : List ℤ) (o : ℤ) where
 
 -- the check before each call
 module _ (chart : Chart) (w : WatchState) (t : List ℤ) where
-  pub check_14 : is_usable chart ≡ false → check_number chart w t ≡ 14
-  unfolding check_number
-  check_14 e = rw e
-
-  pub check_13 : is_usable chart ≡ true → are_consistent chart w t ≡ false → check_number chart w t ≡ 13
-  unfolding check_number
-  check_13 e d = rw (e, d)
-
   pub check_0 : is_usable chart ≡ true → are_consistent chart w t ≡ true → check_number chart w t ≡ 0
   unfolding check_number
   check_0 e d = rw (e, d)
@@ -66,19 +65,10 @@ module _ (chart : Chart) (w : WatchState) (t : List ℤ) where
   unfolding checked
   check_passed own z = let j = check_told z in rw (j.usable, j.consistent)
 
-  -- a call whose check gives n
-  module _ (own : Step) (n : ℕ) (e : n ≡ check_number chart w t) where
-    pub went_on : n ≡ 0 → checked chart w t own ≡ own
-    went_on z = check_passed own (sym e ∙ z)
-
-    pub was_refused : (n ≡ 0 → ⊥) → checked chart w t own ≡ refused_step n w t
-    unfolding checked check_number
-    was_refused d = go (is_usable chart) (are_consistent chart w t) e
-      where
-        go : (a b : Bool) → n ≡ cond a (cond b 0 13) 14 → cond a (cond b own (refused_step 13 w t)) (refused_step 14 w t) ≡ refused_step n w t
-        go true true z = absurd (d z)
-        go true false z = rw z
-        go false b z = rw z
+-- the refusal of a None that is given one
+pub refused_with : {A : Type 0} (n : Option A) (e f : Refusal) → ◌≡◌ {A = Result A Refusal} (Err f) (ok_or n e) → f ≡ e
+refused_with None e f h = cc
+refused_with (Some x) e f h = absurd cc
 
 -- what an equation of steps says of answer and table
 pub parts : {x y : Step} → x ≡ y → (y.answer ≡ x.answer) × (y.table ≡ x.table)
@@ -88,38 +78,46 @@ parts e = (sym (ap (λ (s : Step). s.answer) e), sym (ap (λ (s : Step). s.table
 pub told : (chart : Chart) (w : WatchState) (t : List ℤ) → check_number chart w t ≡ 0 → consistency.Consistent chart w t
 told chart w t z = let j = check_told chart w t z in consistency.consistent_ready chart w t j.usable j.consistent
 
+pub ready : (chart : Chart) (w : WatchState) (t : List ℤ) → check_number chart w t ≡ 0 → Ready chart w.rows t
+ready chart w t z = (told chart w t z).ready
+
+-- the rows in use lie in the table, in the order of their ends
+pub readable : (chart : Chart) (w : WatchState) (t : List ℤ) → check_number chart w t ≡ 0 → (w.rows * 5 ≤ length t) × Ordered w.rows t
+readable chart w t z = let r = ready chart w t z in (omega (arith, r.fit, capacity_fits (length t)), r.ordered)
+
 -- a clock mark, by the tests that lead to its answer
 module _ (chart : Chart) (w : WatchState) (t : List ℤ) (x : ℤ) where
   abbrev pub early : Bool
   early = is_mark_refused w.instant x
 
-  abbrev size : ℕ
-  size = length (closed_rows chart w x t)
+  -- what closing asks
+  pub closable : check_number chart w t ≡ 0 → early ≡ false → Closable chart w x t
+  closable z e =
+      let j = told chart w t z in
+      record { ready = j.ready; ended = j.ended; few = j.few; counted = j.counted; most = j.most; later = is_lt w.instant x (mark_taken w.instant x e).later }
 
   pub clock_8 : early ≡ true → clock_own chart w t x ≡ refused_step 8 w t
   unfolding clock_own
   clock_8 e = rw e
 
-  pub clock_12 : early ≡ false → room_in t < closed_number chart w x t → (clock_own chart w t x ≡ refused_step 12 w t) × (closed_table chart w x t ≡ t)
-  unfolding clock_own
-  clock_12 e h = go (leb size (room_in t)) refl
-    where
-      go : (b : Bool) → leb size (room_in t) ≡ b → (clock_own chart w t x ≡ refused_step 12 w t) × (closed_table chart w x t ≡ t)
-      go true p = absurd (omega (arith, leb-true size (room_in t) p, (number_fits chart w x t (leb-true size (room_in t) p)).0))
-      go false p =
-          let l = leb-false size (room_in t) p in
-          (rw (e, lt-ltb (room_in t) size l), (number_over chart w x t l).1)
+  abbrev size : ℕ
+  size = length (closed_rows chart w x t)
 
-  pub clock_taken : early ≡ false → closed_number chart w x t ≤ room_in t → clock_own chart w t x ≡ taken_step (marked w x (closed_number chart w x t)) (closed_table chart w x t)
-  unfolding clock_own
-  clock_taken e h = go (leb size (room_in t)) refl
+  pub clock_12 : early ≡ false → closed_count chart w x t ≡ None → (clock_own chart w t x ≡ refused_step 12 w t) × (closed_table chart w x t ≡ t)
+  unfolding clock_own closed_count closed_table
+  clock_12 e n = go (leb size (room_in t)) refl n
     where
-      go : (b : Bool) → leb size (room_in t) ≡ b → clock_own chart w t x ≡ taken_step (marked w x (closed_number chart w x t)) (closed_table chart w x t)
-      go true p =
-          let l = leb-true size (room_in t) p in
-          let f = number_fits chart w x t l in
-          rw (e, le-ltb (room_in t) size l, f.0, f.1)
-      go false p = absurd (omega (arith, (number_over chart w x t (leb-false size (room_in t) p)).0))
+      go : (b : Bool) → leb size (room_in t) ≡ b → cond b (Some size) None ≡ None → (clock_own chart w t x ≡ refused_step 12 w t) × (closed_table chart w x t ≡ t)
+      go true p q = absurd cc
+      go false p q = (rw (e, lt-ltb (room_in t) size (leb-false size (room_in t) p)), rw p)
+
+  pub clock_taken : (k : ℕ) → early ≡ false → closed_count chart w x t ≡ Some k → clock_own chart w t x ≡ taken_step (marked w x k) (closed_table chart w x t)
+  unfolding clock_own closed_count closed_table
+  clock_taken k e n = go (leb size (room_in t)) refl n
+    where
+      go : (b : Bool) → leb size (room_in t) ≡ b → cond b (Some size) None ≡ Some k → clock_own chart w t x ≡ taken_step (marked w x k) (closed_table chart w x t)
+      go true p q = let z : size ≡ k = cc in rw (e, le-ltb (room_in t) size (leb-true size (room_in t) p), p, z)
+      go false p q = absurd cc
 
 -- a forget
 module _ (chart : Chart) (w : WatchState) (t : List ℤ) (f : ℤ) where

@@ -12,7 +12,7 @@ use Rattle.interval.specs.Conditions.{is_related, is_forbidding, has_length}
 use Rattle.text.specs.Text.{split, lines}
 use Rattle.text.specs.Quoted.{bytes, tabbed, unended, text}
 use Rattle.decimal.specs.Spelling.{is_digit, all_digits, value_from, has_leading_zero, is_number, number_of, milliseconds_of, in_tenths, has_point, length_of, digits_within, spelled_number, signed}
-use Rattle.chart.specs.Operators.{words, same_bytes, place_of, operator_of, edges_of, relation_of, length_test_of, kind_of, in_range, are_lower}
+use Rattle.chart.specs.Operators.{words, place_of, operator_of, edges_of, relation_of, length_test_of, kind_of, in_range, are_lower}
 use Rattle.chart.specs.Records.{entry, with_code, event_line, with_operands, second_of, second_operand, operands_line, by_operator, operator_line, numbered, parsed_line, checked_entry, checked_line, answer_to}
 use Rattle.chart.specs.Charts.{no_entries, with_entry, refused_chart, read_lines, or_no_line, read_chart, fault_in, entries_of, added_verdict, with_entries, read_added, entry_fits, all_below, is_usable}
 use Rattle.chart.specs.declared.Chart.{Chart}
@@ -107,7 +107,7 @@ pub check_cases : List Check
 check_cases = charts ++ first_chart ++ out_of_joint
 
 pub checks : map (λ (c : Check). check_number c.chart c.watch c.table) check_cases ≡ map (λ (c : Check). c.number) check_cases
-unfolding check_cases consistency.cases is_instant first_floor is_length is_related has_length split lines bytes tabbed unended text is_digit all_digits value_from has_leading_zero is_number number_of milliseconds_of in_tenths has_point length_of words same_bytes place_of operator_of edges_of relation_of length_test_of kind_of in_range are_lower with_code event_line with_operands second_of second_operand operands_line by_operator operator_line numbered parsed_line checked_entry checked_line answer_to no_entries with_entry refused_chart read_lines or_no_line read_chart entry_fits all_below is_usable capacity rows_in are_zeros operator_by operators_of is_rising is_watch_in_range is_table_row_consistent are_consistent check_number
+unfolding check_cases consistency.cases is_instant first_floor is_length is_related has_length split lines bytes tabbed unended text is_digit all_digits value_from has_leading_zero is_number number_of milliseconds_of in_tenths has_point length_of words place_of operator_of edges_of relation_of length_test_of kind_of in_range are_lower with_code event_line with_operands second_of second_operand operands_line by_operator operator_line numbered parsed_line checked_entry checked_line answer_to no_entries with_entry refused_chart read_lines or_no_line read_chart entry_fits all_below is_usable capacity rows_in are_zeros operator_by operators_of is_rising is_watch_in_range is_table_row_consistent are_consistent check_number
 checks = refl
 
 -- What a call hands back: its number, the watch and the table after it.
@@ -155,7 +155,7 @@ opening_cases =
     opens no_entry used (pos 1000000001) (outcome 14 (empty_at (pos 0)) used) ∷ []
 
 pub openings : map (λ (c : Opening). of_step (opening_step c.chart c.table c.instant)) opening_cases ≡ map (λ (c : Opening). c.expected) opening_cases
-unfolding opening_cases is_instant first_floor split lines bytes tabbed unended text is_digit all_digits value_from has_leading_zero is_number number_of milliseconds_of in_tenths has_point length_of words same_bytes place_of operator_of kind_of in_range are_lower with_code event_line by_operator operator_line numbered parsed_line checked_entry checked_line answer_to no_entries with_entry refused_chart read_lines or_no_line read_chart entry_fits all_below is_usable capacity zeroed opening_step
+unfolding opening_cases is_instant first_floor split lines bytes tabbed unended text is_digit all_digits value_from has_leading_zero is_number number_of milliseconds_of in_tenths has_point length_of words place_of operator_of kind_of in_range are_lower with_code event_line by_operator operator_line numbered parsed_line checked_entry checked_line answer_to no_entries with_entry refused_chart read_lines or_no_line read_chart entry_fits all_below is_usable capacity zeroed opening_step
 openings = refl
 
 -- Events, clock marks and forgets: chart, watch, table and call, and what is handed back.
@@ -303,7 +303,7 @@ pub call_cases : List Called
 call_cases = first_checks ++ event_calls ++ mark_order ++ marks ++ jumps ++ forgets ++ later_entries
 
 pub calls : map (λ (c : Called). of_call (call (record { watch = c.watch; table = c.table; chart = c.chart }) c.call)) call_cases ≡ map (λ (c : Called). c.expected) call_cases
-unfolding call_cases is_instant first_floor is_length is_mark_refused is_forget_refused is_related is_forbidding has_length split lines bytes tabbed unended text is_digit all_digits value_from has_leading_zero is_number number_of milliseconds_of in_tenths has_point length_of words same_bytes place_of operator_of length_test_of kind_of in_range are_lower with_code event_line with_operands second_of second_operand operands_line by_operator operator_line numbered parsed_line checked_entry checked_line answer_to no_entries with_entry refused_chart read_lines or_no_line read_chart entry_fits all_below is_usable capacity extend_rows close_rows close_instants keep_rows forget_rows rows_in put_row put_rows are_zeros zeroed operator_by operators_of is_rising is_watch_in_range is_table_row_consistent are_consistent checked event_own event_step closed_rows clock_own clock_step kept_rows forgotten_table forget_own forget_step call
+unfolding call_cases is_instant first_floor is_length is_mark_refused is_forget_refused is_related is_forbidding has_length split lines bytes tabbed unended text is_digit all_digits value_from has_leading_zero is_number number_of milliseconds_of in_tenths has_point length_of words place_of operator_of length_test_of kind_of in_range are_lower with_code event_line with_operands second_of second_operand operands_line by_operator operator_line numbered parsed_line checked_entry checked_line answer_to no_entries with_entry refused_chart read_lines or_no_line read_chart entry_fits all_below is_usable capacity extend_rows close_rows close_instants keep_rows forget_rows rows_in put_row put_rows are_zeros zeroed operator_by operators_of is_rising is_watch_in_range is_table_row_consistent are_consistent checked event_own event_step closed_rows clock_own clock_step kept_rows forgotten_table forget_own forget_step call
 calls = refl
 
 -- Additions (request N13): chart, watch, table and lines, and the whole answer.
@@ -348,7 +348,7 @@ adding_cases =
     turns_back one_entry (empty_at (pos 5)) ("1 event 2" ∷ []) 13 0 ∷ []
 
 pub additions : map (λ (c : Adding). add_step c.chart c.watch c.table c.lines) adding_cases ≡ map (λ (c : Adding). c.expected) adding_cases
-unfolding adding_cases is_instant first_floor is_length split lines bytes tabbed unended text is_digit all_digits value_from has_leading_zero is_number number_of milliseconds_of in_tenths has_point length_of words same_bytes place_of operator_of edges_of relation_of length_test_of kind_of in_range are_lower with_code event_line with_operands second_of second_operand operands_line by_operator operator_line numbered parsed_line checked_entry checked_line answer_to no_entries with_entry refused_chart read_lines or_no_line read_chart fault_in entries_of added_verdict with_entries read_added entry_fits all_below is_usable capacity rows_in are_zeros operator_by operators_of is_rising is_watch_in_range is_table_row_consistent are_consistent check_number add_own add_step
+unfolding adding_cases is_instant first_floor is_length split lines bytes tabbed unended text is_digit all_digits value_from has_leading_zero is_number number_of milliseconds_of in_tenths has_point length_of words place_of operator_of edges_of relation_of length_test_of kind_of in_range are_lower with_code event_line with_operands second_of second_operand operands_line by_operator operator_line numbered parsed_line checked_entry checked_line answer_to no_entries with_entry refused_chart read_lines or_no_line read_chart fault_in entries_of added_verdict with_entries read_added entry_fits all_below is_usable capacity rows_in are_zeros operator_by operators_of is_rising is_watch_in_range is_table_row_consistent are_consistent check_number add_own add_step
 additions = refl
 
 -- Trees of the five rows: chart, watch, row and output lent; the number, the length and the output after it.
@@ -388,7 +388,7 @@ tree_cases =
     tree no_entry (five (pos 7) 5) 5 "" (written 14 0 "") ∷ []
 
 pub trees : map (λ (c : Tree). of_tree (tree_step c.chart c.watch (table five_rows) c.row c.out)) tree_cases ≡ map (λ (c : Tree). c.expected) tree_cases
-unfolding tree_cases is_instant first_floor is_related split lines bytes tabbed unended text is_digit all_digits value_from has_leading_zero is_number number_of milliseconds_of in_tenths has_point length_of digits_within spelled_number signed words same_bytes place_of operator_of kind_of in_range are_lower with_code event_line with_operands second_of second_operand operands_line by_operator operator_line numbered parsed_line checked_entry checked_line answer_to no_entries with_entry refused_chart read_lines or_no_line read_chart entry_fits all_below is_usable capacity rows_in are_zeros operator_by operators_of is_rising is_watch_in_range is_table_row_consistent are_consistent arity_of row_bytes reference_bytes tree_within tree_bytes check_number tree_own tree_step
+unfolding tree_cases is_instant first_floor is_related split lines bytes tabbed unended text is_digit all_digits value_from has_leading_zero is_number number_of milliseconds_of in_tenths has_point length_of digits_within spelled_number signed words place_of operator_of kind_of in_range are_lower with_code event_line with_operands second_of second_operand operands_line by_operator operator_line numbered parsed_line checked_entry checked_line answer_to no_entries with_entry refused_chart read_lines or_no_line read_chart entry_fits all_below is_usable capacity rows_in are_zeros operator_by operators_of is_rising is_watch_in_range is_table_row_consistent are_consistent arity_of row_bytes reference_bytes tree_within tree_bytes check_number tree_own tree_step
 trees = refl
 
 -- Reads of the five rows: chart, watch and end; the first row of the part, how many rows it has, and the part.
@@ -420,7 +420,7 @@ read_cases =
     reads no_entry (five (pos 0) 5) (pos 5) (found 0 0 []) ∷ []
 
 pub parts : map (λ (c : Read). record { rows = end_rows c.chart c.watch (table five_rows) c.end; part = end_part c.chart c.watch (table five_rows) c.end }) read_cases ≡ map (λ (c : Read). c.expected) read_cases
-unfolding read_cases is_instant first_floor is_related split lines bytes tabbed unended text is_digit all_digits value_from has_leading_zero is_number number_of milliseconds_of in_tenths has_point length_of words same_bytes place_of operator_of kind_of in_range are_lower with_code event_line with_operands second_of second_operand operands_line by_operator operator_line numbered parsed_line checked_entry checked_line answer_to no_entries with_entry refused_chart read_lines or_no_line read_chart entry_fits all_below is_usable capacity rows_in are_zeros operator_by operators_of is_rising is_watch_in_range is_table_row_consistent are_consistent check_number end_part end_rows
+unfolding read_cases is_instant first_floor is_related split lines bytes tabbed unended text is_digit all_digits value_from has_leading_zero is_number number_of milliseconds_of in_tenths has_point length_of words place_of operator_of kind_of in_range are_lower with_code event_line with_operands second_of second_operand operands_line by_operator operator_line numbered parsed_line checked_entry checked_line answer_to no_entries with_entry refused_chart read_lines or_no_line read_chart entry_fits all_below is_usable capacity rows_in are_zeros operator_by operators_of is_rising is_watch_in_range is_table_row_consistent are_consistent check_number end_part end_rows
 parts = refl
 
 -- Reports on the five rows (request N3): chart and watch; the report.
@@ -449,5 +449,5 @@ report_cases =
     reports no_entry (five (pos 7) 5) (only_number 14) ∷ []
 
 pub reported : map (λ (c : Reporting). report_step c.chart c.watch (table five_rows)) report_cases ≡ map (λ (c : Reporting). c.expected) report_cases
-unfolding report_cases is_instant first_floor is_related split lines bytes tabbed unended text is_digit all_digits value_from has_leading_zero is_number number_of milliseconds_of in_tenths has_point length_of words same_bytes place_of operator_of kind_of in_range are_lower with_code event_line with_operands second_of second_operand operands_line by_operator operator_line numbered parsed_line checked_entry checked_line answer_to no_entries with_entry refused_chart read_lines or_no_line read_chart entry_fits all_below is_usable capacity rows_in are_zeros operator_by operators_of is_rising is_watch_in_range is_table_row_consistent are_consistent check_number tally tallies counts report_of refused_report report_step
+unfolding report_cases is_instant first_floor is_related split lines bytes tabbed unended text is_digit all_digits value_from has_leading_zero is_number number_of milliseconds_of in_tenths has_point length_of words place_of operator_of kind_of in_range are_lower with_code event_line with_operands second_of second_operand operands_line by_operator operator_line numbered parsed_line checked_entry checked_line answer_to no_entries with_entry refused_chart read_lines or_no_line read_chart entry_fits all_below is_usable capacity rows_in are_zeros operator_by operators_of is_rising is_watch_in_range is_table_row_consistent are_consistent check_number tally tallies counts report_of refused_report report_step
 reported = refl

@@ -15,11 +15,11 @@ use Rattle.model.proofs.Capacity.{capacity_fits}
 use Rattle.table.specs.Table.{part, rows_in}
 use Rattle.table.specs.Operators.{operators_of}
 use Rattle.table.specs.Ends.{ending_before, ending_by}
-use Rattle.tree.specs.Tree.{tree_bytes, length_within}
-use Rattle.tree.proofs.Lengths.{tree_some, over_told, within_told}
+use Rattle.tree.specs.Tree.{tree_bytes}
 use Rattle.tally.specs.Tally.{report_of, refused_report}
-use Rattle.tally.proofs.Laws.{report_taken, report_entries, report_long, refused_number, refused_entries}
-use Rattle.watch.specs.Steps.{check_number, end_part, end_rows, row_part, refused_tree, taken_tree, tree_own, tree_step, report_step}
+use Rattle.tally.proofs.Laws.{report_taken, report_entries, report_tallies, length_tallies, refused_number}
+use Rattle.model.specs.Order.{Row}
+use Rattle.watch.specs.Steps.{check_number, end_part, end_rows, row_part, taken_tree, tree_own, tree_step, report_step}
 use Rattle.state.specs.declared.WatchState.{WatchState}
 use Rattle.watch.specs.declared.Part.{Part}
 use Rattle.watch.proofs.Calls.{told}
@@ -87,32 +87,13 @@ module _ (chart : Chart) (w : WatchState) (t : List ℤ) where
     abbrev bytes : List ℕ
     bytes = tree_bytes (operators_of chart) t i
 
-    pub tree_15 : w.rows ≤ i → tree_own chart w t i out ≡ refused_tree 15 out
-    unfolding tree_own
-    tree_15 h = rw (le-leb w.rows i h)
-
-    pub tree_16 : i < w.rows → length out < length bytes → tree_own chart w t i out ≡ refused_tree 16 out
-    unfolding tree_own
-    tree_16 h g = rw (lt-leb w.rows i h, lt-ltb (length out) (length bytes) g)
-
     pub tree_taken : i < w.rows → length bytes ≤ length out → tree_own chart w t i out ≡ taken_tree bytes out
     unfolding tree_own
     tree_taken h g = rw (lt-leb w.rows i h, le-ltb (length out) (length bytes) g)
 
-    -- what a count of its bytes says, n, which is 0 where they are too many
-    pub tree_over : (n : ℕ) → n ≡ length_within (length out) bytes → n ≡ 0 → length out < length bytes
-    tree_over n e z = over_told (length out) bytes n e (omega (arith, tree_some (operators_of chart) t i)) z
-
-    pub tree_within : (n : ℕ) → n ≡ length_within (length out) bytes → (n ≡ 0 → ⊥) → length bytes ≤ length out
-    tree_within n e d = (within_told (length out) bytes n e d).1
-
     pub tree_passed : check_number chart w t ≡ 0 → tree_step chart w t i out ≡ tree_own chart w t i out
     unfolding tree_step
     tree_passed z = rw (eq-eqb (check_number chart w t) 0 z)
-
-    pub tree_refused : (check_number chart w t ≡ 0 → ⊥) → tree_step chart w t i out ≡ refused_tree (check_number chart w t) out
-    unfolding tree_step
-    tree_refused d = rw (ne_eqb (check_number chart w t) 0 d)
 
   -- a report
   pub report_passed : check_number chart w t ≡ 0 → report_step chart w t ≡ report_of chart.count (rows_in w.rows t)
@@ -132,12 +113,9 @@ module _ (chart : Chart) (w : WatchState) (t : List ℤ) where
       go false p = ap (λ r. r.refusal) (report_refused (eqb-false (check_number chart w t) 0 p)) ∙ refused_number (check_number chart w t)
 
   -- it has no more entries than tallies
-  pub report_within : (report_step chart w t).entries ≤ length (report_step chart w t).tallies
-  report_within = go (eqb (check_number chart w t) 0) refl
-    where
-      go : (b : Bool) → eqb (check_number chart w t) 0 ≡ b → (report_step chart w t).entries ≤ length (report_step chart w t).tallies
-      go true p =
-          let z = eqb-true (check_number chart w t) 0 p in
-          let few = usable_few chart (told chart w t z).ready.usable in
-          rw (report_passed z, report_entries chart.count (rows_in w.rows t), report_long chart.count (rows_in w.rows t) few) few
-      go false p = rw (report_refused (eqb-false (check_number chart w t) 0 p), refused_entries (check_number chart w t)) (omega arith)
+  pub report_few : check_number chart w t ≡ 0 → (report_of chart.count (rows_in w.rows t)).entries ≤ 32
+  report_few z = rw (report_entries chart.count (rows_in w.rows t)) (usable_few chart (told chart w t z).ready.usable)
+
+-- and as many are shown
+pub report_shown : (n : ℕ) (rs : List Row) → (report_of n rs).entries ≡ length (take (report_of n rs).entries (report_of n rs).tallies)
+report_shown n rs = rw (report_tallies n rs, length_tallies n rs, report_entries n rs)

@@ -1,3 +1,4 @@
 pub mod Steps
+pub mod Answers
 pub mod Histories
 pub mod Demands

@@ -1,31 +1,21 @@
--- `is_usable` meets its contract: the entries passed fit, and one that does not ends the search.
-use mathlib.Core.Path.{◌≡◌, refl, sym, ◌∙◌}
-use native.Mathlib.Omega.{arith}
-use Rattle.chart.proofs.Below.{none_below, one_more}
-use Rattle.chart.proofs.Charts.{usable_none, usable_over, usable_broken, usable}
+-- `is_usable` meets its contract: all entries up to the count are looked at, each with its number.
+use Rattle.std.proofs.Common.{rules, ◌≡◌, ℕ, List, take, refl, ◌∙◌, arith}
+use borrow.Author.Tests.{tests}
+use Rattle.std.specs.List.{list_all, enumerate_from}
+use Rattle.std.proofs.lemmas.Iterator.{YieldsList-from_slice}
+use Rattle.std.proofs.lemmas.Iterator.Consumers.{YieldsList-at, YieldsList-from_enumerate}
+use Rattle.std.proofs.lemmas.Iterator.Search.{all_from_yields_List}
+use Rattle.chart.specs.Charts.{entry_fits}
+use Rattle.chart.specs.declared.Entry.{Entry}
+use Rattle.chart.specs.Records.{entry}
+use Rattle.chart.proofs.Below.{test}
+use Rattle.chart.proofs.Charts.{usable_listed}
 use Rattle.chart.proofs.is_usable.Goals as goal
-
-pub returns-then-count-eq0 : goal.returns-then-count-eq0
-returns-then-count-eq0 c = sym (usable_none _ c.if-count-eq0.true)
-
-pub returns-then-count-gt32 : goal.returns-then-count-gt32
-returns-then-count-gt32 c = sym (usable_over _ c.if-count-gt32.true)
-
-pub loop-i-init : goal.loop-i-init
-loop-i-init c = (omega arith, omega arith, omega arith, refl, none_below _)
-
-pub returns-then-not-entry_fits : goal.returns-then-not-entry_fits
-returns-then-not-entry_fits c =
-    let l = c in
-    sym (usable_broken _ l.loop-i.i (omega arith) (sym c.entry_fits.ensures ∙ c.if-not-entry_fits.true))
-
-pub loop-i-preserved : goal.loop-i-preserved
-loop-i-preserved c =
-    let l = c in
-    (omega arith, omega arith, omega arith, refl, one_more _ _ l.loop-i.invariant.4 (sym c.entry_fits.ensures ∙ c.if-not-entry_fits.false))
 
 pub returns : goal.returns
 returns c =
-    let l = c in
-    let all : l.loop-i.i ≡ l.args.chart.count = omega arith in
-    sym (usable _ (omega arith) (omega arith) (rw (← all) l.loop-i.invariant.4))
+    let n : ℕ = c.args.chart.count in
+    let es : List Entry = take n c.args.chart.entries in
+    let listed = YieldsList-from_enumerate (YieldsList-at c.enumerate.ensures.source (YieldsList-from_slice es c.iter.ensures.rest)) c.enumerate.ensures.count in
+    let all : c.all.result ≡ list_all (test entry_fits es (entry 0 0 0)) (enumerate_from 0 es) = all_from_yields_List (test entry_fits es (entry 0 0 0)) _ _ _ c.all.ensures.ran listed (λ x b q k. search (rules, tests)) in
+    all ∙ usable_listed c.args.chart es refl (omega arith) (omega arith) (search rules)

@@ -9,27 +9,27 @@ use Rattle.std.proofs.Common.{rules}
 use Rattle.interval.proofs.Machine.{same32, same64, earlier_fits}
 use Rattle.table.proofs.EndParts.{ends_low, ends_few}
 use Rattle.closing.specs.Added.{waited_from, waited_to, delayed_rows}
-use Rattle.closing.proofs.delayed_rows.Goals.{After-count_ending-2}
+use Rattle.closing.proofs.delayed_rows.Goals.{After-ending_by}
 use Rattle.closing.proofs.delayed_rows.Goals as goal
 
 -- where the rows begin whose wait ends at the instant, and where they end
-first : (c : After-count_ending-2) → let g = c.args in c.count_ending.result ≡ waited_from g.f.instant g.d g.f.end g.t.now
+first : (c : After-ending_by) → let g = c.args in c.ending_before.result ≡ waited_from g.f.instant g.d g.f.end g.t.now
 first c =
     let g = c.args in
     let instant : SFits w32 g.f.instant = search rules in
     let from : c.earlier_by-from.result ≡ g.f.instant -ℤ pos g.d = simp (same32 _ instant) at c.earlier_by-from.ensures in
-    simp (from, same64 _ (earlier_fits _ g.d instant (omega arith))) at c.count_ending.ensures
+    simp (from, same64 _ (earlier_fits _ g.d instant (omega arith))) at c.ending_before.ensures
 
-past : (c : After-count_ending-2) → let g = c.args in c.count_ending-2.result ≡ waited_to g.f.instant g.d g.f.end g.t.now
+past : (c : After-ending_by) → let g = c.args in c.ending_by.result ≡ waited_to g.f.instant g.d g.f.end g.t.now
 past c =
     let g = c.args in
     let instant : SFits w32 g.f.instant = search rules in
     let from : c.earlier_by-from.result ≡ g.f.instant -ℤ pos g.d = simp (same32 _ instant) at c.earlier_by-from.ensures in
-    simp (from, same64 _ (earlier_fits _ g.d instant (omega arith))) at c.count_ending-2.ensures
+    simp (from, same64 _ (earlier_fits _ g.d instant (omega arith))) at c.ending_by.ensures
 
 pub taken_rows-requires : goal.taken_rows-requires
 taken_rows-requires c =
-    let y = (goal.at.taken_rows-requires c).After-count_ending-2 in
+    let y = (goal.at.taken_rows-requires c).After-ending_by in
     let g = c.args in
     let a = c.requires in
     let o = g.f.instant -ℤ pos g.d in
@@ -52,7 +52,7 @@ taken_rows-requires c =
 pub returns : goal.returns
 unfolding delayed_rows
 returns c =
-    let y = (goal.at.returns c).After-count_ending-2 in
+    let y = (goal.at.returns c).After-ending_by in
     let entry : SFits w32 c.args.f.entry = search rules in
     let instant : SFits w32 c.args.f.instant = search rules in
     let since : SFits w32 c.args.f.since = search rules in

@@ -22,7 +22,7 @@ use Rattle.closing.specs.Closed.{closed_rows}
 use Rattle.closing.proofs.Growth.{settled_later}
 use Rattle.closing.proofs.Entries.{closing_none, same_size, closing_ended}
 use Rattle.closing.proofs.Instants.{instants_first, instants_ended, instants_fewer, turn_full, turn_next}
-use Rattle.closing.proofs.due_rows.Goals.{After-all_rows-closed, At-loop-chart, Start}
+use Rattle.closing.proofs.due_rows.Goals.{After-all_rows-closed, At-loop-instant, Start}
 use Rattle.closing.proofs.due_rows.Invariants.{left}
 use Rattle.closing.proofs.due_rows.Goals as goal
 
@@ -35,14 +35,14 @@ whole c =
     simp (same32 _ opened, same32 _ c.ranges.mark, add-one, c.requires.1, c.requires.2) (instants_first g.chart g.state g.mark g.t.now)
 
 -- the table as the loop has it
-size : (c : At-loop-chart) → length c.loop-chart.t ≡ length c.args.t.now
-size c = same_size c.loop-chart.invariant.3
+size : (c : At-loop-instant) → length c.loop-instant.t ≡ length c.args.t.now
+size c = same_size c.loop-instant.invariant.3
 
 -- the rows of the instant were appended, or found no room
 module _ (d : After-all_rows-closed) where
   -- the instant and the mark, as the loop has them, and the next due instant
   abbrev instant : ℤ
-  instant = to_z w32 d.loop-chart.instant-bits
+  instant = to_z w32 d.loop-instant.instant-bits
 
   abbrev mark : ℤ
   mark = to_z w32 (of_z w32 d.args.mark)
@@ -53,12 +53,12 @@ module _ (d : After-all_rows-closed) where
   abbrev next : ℤ
   next = d.all_rows-closed.result.next
 
-  held : d.args.room * 5 ≤ length d.loop-chart.t
-  held = let r : d.args.room ≡ capacity (length d.args.t.now) = d.requires.3 in omega (arith, same_size d.loop-chart.invariant.3, capacity_fits (length d.args.t.now))
+  held : d.args.room * 5 ≤ length d.loop-instant.t
+  held = let r : d.args.room ≡ capacity (length d.args.t.now) = d.requires.3 in omega (arith, same_size d.loop-instant.invariant.3, capacity_fits (length d.args.t.now))
 
   -- the instant is before the mark
   early : instant <ᶻ mark
-  early = lt_true instant mark (sym d.is_before.ensures ∙ d.loop-chart-test.true)
+  early = lt_true instant mark d.loop-instant-test.true
 
   fit : SFits w32 next
   fit = search rules
@@ -82,8 +82,8 @@ overflow_sub-first c = omega (arith, c.requires.0.counted)
 pub overflow_add-first : goal.overflow_add-first
 overflow_add-first c = omega (arith, c.requires.0.most)
 
-pub loop-chart-init : goal.loop-chart-init
-loop-chart-init c =
+pub loop-instant-init : goal.loop-instant-init
+loop-instant-init c =
     let g = c.args in
     let p = c.requires.0 in
     let o = g.state.instant in
@@ -94,10 +94,10 @@ loop-chart-init c =
 
 pub all_rows-closed-requires : goal.all_rows-closed-requires
 all_rows-closed-requires c =
-    let l = (goal.at.all_rows-closed-requires c).At-loop-chart in
+    let l = (goal.at.all_rows-closed-requires c).At-loop-instant in
     let p = c.requires.0 in
-    let i = c.loop-chart.invariant in
-    let instant = to_z w32 c.loop-chart.instant-bits in
+    let i = c.loop-instant.invariant in
+    let instant = to_z w32 c.loop-instant.instant-bits in
     let mark = to_z w32 (of_z w32 c.args.mark) in (
       p.ready.usable,
       i.2,
@@ -105,30 +105,30 @@ all_rows-closed-requires c =
       c.requires.3 ∙ ap capacity (sym (size l)),
       record { few = omega (arith, p.few); most = omega (arith, p.counted, p.most) },
       omega (arith, p.few),
-      is_lt instant mark (lt_true instant mark (sym c.is_before.ensures ∙ c.loop-chart-test.true)),
+      is_lt instant mark (lt_true instant mark c.loop-instant-test.true),
     )
 
 pub shape_of-t-then-room-n : goal.shape_of-t-then-room-n
-shape_of-t-then-room-n c = c.all_rows-closed.auto.t ∙ same_size c.loop-chart.invariant.3
+shape_of-t-then-room-n c = c.all_rows-closed.auto.t ∙ same_size c.loop-instant.invariant.3
 
 pub returns-then-room-n : goal.returns-then-room-n
 returns-then-room-n c =
     let g = c.args in
-    let x = c.loop-chart in
+    let x = c.loop-instant in
     let d = (goal.at.returns-then-room-n c).After-all_rows-closed in
     subst (λ z. Tried g.room g.state.rows z g.t.now c.all_rows-closed.result.rows c.all_rows-closed.new.t) (whole (goal.at.returns-then-room-n c).Start) (turn_full g.chart g.since (instant d) (mark d) (early d) (first d) (take x.pending g.codes) x.n x.t x.invariant.3 (held d) c.all_rows-closed.ensures.0 c.if-room-n.true)
 
-pub loop-chart-smaller : goal.loop-chart-smaller
-loop-chart-smaller c =
-    let d = (goal.at.loop-chart-smaller c).After-all_rows-closed in
+pub loop-instant-smaller : goal.loop-instant-smaller
+loop-instant-smaller c =
+    let d = (goal.at.loop-instant-smaller c).After-all_rows-closed in
     let h = c.if-room-n.false in
     rw (same32 _ (fit d)) (instants_fewer (instant d) (next d) (mark d) (from d h) (most d h))
 
-pub loop-chart-preserved : goal.loop-chart-preserved
-loop-chart-preserved c =
+pub loop-instant-preserved : goal.loop-instant-preserved
+loop-instant-preserved c =
     let g = c.args in
-    let x = c.loop-chart in
-    let d = (goal.at.loop-chart-preserved c).After-all_rows-closed in
+    let x = c.loop-instant in
+    let d = (goal.at.loop-instant-preserved c).After-all_rows-closed in
     let h = c.if-room-n.false in
     rw (same32 _ (fit d)) (
       most d h,
@@ -138,13 +138,13 @@ loop-chart-preserved c =
     )
 
 pub shape_of-t : goal.shape_of-t
-shape_of-t c = same_size c.loop-chart.invariant.3
+shape_of-t c = same_size c.loop-instant.invariant.3
 
 pub returns : goal.returns
 returns c =
     let g = c.args in
-    let x = c.loop-chart in
+    let x = c.loop-instant in
     let instant = to_z w32 x.instant-bits in
     let mark = to_z w32 (of_z w32 g.mark) in
-    let late = lt_false instant mark (sym c.is_before.ensures ∙ c.loop-chart-test.false) in
+    let late = lt_false instant mark c.loop-instant-test.false in
     subst (λ z. Tried g.room g.state.rows z g.t.now x.n x.t) (whole (goal.at.returns c).Start) (closing_ended x.invariant.3 (instants_ended g.chart g.since instant mark _ x.n x.t x.invariant.0 late))

@@ -14,8 +14,8 @@ use Rattle.closing.proofs.due_rows.Given as goal
 abbrev pub left : Chart → List ℤ → ℤ → ℤ → ℕ → ℕ → List ℕ → ℕ → List ℤ → List Row
 left chart since o x first k codes n t = left_instants chart since o x (events_at o (pending_from first k) codes) n t
 
-abbrev pub invariant-loop-chart : goal.invariant-loop-chart
-invariant-loop-chart l =
+abbrev pub invariant-loop-instant : goal.invariant-loop-instant
+invariant-loop-instant l =
     let o : ℤ = l.instant in
     let x : ℤ = l.mark in
     (o ≤ᶻ x) ×
@@ -23,5 +23,5 @@ invariant-loop-chart l =
     Settled o l.n l.t ×
     Closing l.room l.initial.n (left l.chart l.since l.initial.instant x l.first l.initial.pending l.codes l.initial.n l.initial.t) l.initial.t l.n (left l.chart l.since o x l.first l.pending l.codes l.n l.t) l.t
 
-abbrev pub decreases-loop-chart : goal.decreases-loop-chart
-decreases-loop-chart l = instants_to l.instant l.mark
+abbrev pub decreases-loop-instant : goal.decreases-loop-instant
+decreases-loop-instant l = instants_to l.instant l.mark

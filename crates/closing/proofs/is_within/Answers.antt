@@ -1,5 +1,6 @@
 -- `is_within` meets its contract: the row before place j, if there is one.
-use mathlib.Core.Path.{sym, ◌∙◌}
+use mathlib.Core.Path.{sym, ap, ◌∙◌}
+use lib.Signed.{le_z}
 use mir.Syntax.{w32}
 use mir.Val.{SFits}
 use Rattle.std.proofs.Common.{rules}
@@ -15,4 +16,4 @@ returns-then-j-eq0 c = simp c.if-j-eq0.true
 pub returns : goal.returns
 returns c =
     let f : SFits w32 c.row_at-row.result.end = search rules in
-    simp c.row_at-row.ensures at (simp (same32, f, c.ranges.start) at c.is_no_later.ensures) ∙ sym (within_at c.args.start c.args.t.now c.args.j c.if-j-eq0.false)
+    simp (same32, f, c.ranges.start) (ap (λ r. le_z c.args.start r.end) c.row_at-row.ensures ∙ sym (within_at c.args.start c.args.t.now c.args.j c.if-j-eq0.false))

@@ -1,33 +1,22 @@
--- `is_pair_row` meets its contract: only lower rows are read.
-use mathlib.Core.Path.{◌≡◌, sym, ◌∙◌}
-use borrow.Author.Tests.{lt-ltb, le-ltb}
-use Rattle.table.specs.Table.{stored_row}
-use Rattle.consistency.specs.Rows.{part_at, spans_parts, is_pair_row}
-use Rattle.consistency.proofs.is_pair_row.Goals.{After-part_at-right, After-spans_parts}
+-- `is_pair_row` meets its contract, by the two rows found.
+use Rattle.std.proofs.Common.{rules, ◌≡◌, ◌∙◌, sym, Some, w32, to_z, of_z}
+use Rattle.consistency.specs.Rows.{part_at, is_pair_row}
 use Rattle.consistency.proofs.is_pair_row.Goals as goal
-
-right : (c : After-part_at-right) → let g = c.args in part_at g.t.now g.i g.row.right g.b ≡ c.part_at-right.result
-right c = sym (simp c.exchanged.ensures at c.part_at-right.ensures)
-
-spans : (c : After-spans_parts) → let r = c in let g = r.args in spans_parts g.row (stored_row g.t.now r.part_at-left.result) (stored_row g.t.now c.part_at-right.result) ≡ c.spans_parts.result
-spans c = sym (simp (c.row_at-p.ensures, c.row_at-q.ensures) at c.spans_parts.ensures)
-
-pub returns-then-i-left : goal.returns-then-i-left
-unfolding is_pair_row
-returns-then-i-left c = simp (← c.part_at-left.ensures, le-ltb _ _ c.if-i-left.true)
-
-pub returns-then-i-right : goal.returns-then-i-right
-unfolding is_pair_row
-returns-then-i-right c = let d = c in simp (← d.part_at-left.ensures, right (goal.at.returns-then-i-right c).After-part_at-right, lt-ltb _ _ d.if-i-left.false, le-ltb _ _ c.if-i-right.true)
 
 pub returns-then-spans_parts : goal.returns-then-spans_parts
 unfolding is_pair_row
 returns-then-spans_parts c =
-    let w = goal.at.returns-then-spans_parts c in
-    simp (← c.part_at-left.ensures, right w.After-part_at-right, lt-ltb _ _ c.if-i-left.false, lt-ltb _ _ c.if-i-right.false, spans w.After-spans_parts ∙ c.if-spans_parts.true, c.meets_condition.ensures, c.row_at-p.ensures, c.row_at-q.ensures)
+    let left : to_z w32 (of_z w32 c.args.row.left) ≡ c.args.row.left = search rules in
+    let right : to_z w32 (of_z w32 c.args.row.right) ≡ c.args.row.right = search rules in
+    let p : part_at c.args.lower.now c.args.row.left c.args.a ≡ Some c.in-Some.p = rw left at (sym c.part_at.ensures ∙ c.in-Some.is) in
+    let q : part_at c.args.lower.now c.args.row.right c.args.b ≡ Some c.in-Some-part_at.q = rw right at (sym c.part_at-2.ensures ∙ c.in-Some-part_at.is) in
+    rw (p, q, sym c.spans_parts.ensures ∙ c.if-spans_parts.true) c.meets_condition.ensures
 
 pub returns-else-spans_parts : goal.returns-else-spans_parts
 unfolding is_pair_row
 returns-else-spans_parts c =
-    let w = goal.at.returns-else-spans_parts c in
-    simp (← c.part_at-left.ensures, right w.After-part_at-right, lt-ltb _ _ c.if-i-left.false, lt-ltb _ _ c.if-i-right.false, spans w.After-spans_parts ∙ c.if-spans_parts.false, c.if-spans_parts.false)
+    let left : to_z w32 (of_z w32 c.args.row.left) ≡ c.args.row.left = search rules in
+    let right : to_z w32 (of_z w32 c.args.row.right) ≡ c.args.row.right = search rules in
+    let p : part_at c.args.lower.now c.args.row.left c.args.a ≡ Some c.in-Some.p = rw left at (sym c.part_at.ensures ∙ c.in-Some.is) in
+    let q : part_at c.args.lower.now c.args.row.right c.args.b ≡ Some c.in-Some-part_at.q = rw right at (sym c.part_at-2.ensures ∙ c.in-Some-part_at.is) in
+    rw (p, q, sym c.spans_parts.ensures ∙ c.if-spans_parts.false) c.if-spans_parts.false

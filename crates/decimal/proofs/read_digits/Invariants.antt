@@ -1,18 +1,6 @@
-use mathlib.Core.Path.{◌≡◌}
-use mathlib.Core.Bool.{cond}
-use mathlib.Core.List.{List}
-use Prim.Native.Nat.{ℕ, ◌-◌, ◌≤◌, ◌<◌, ◌^◌}
-use lib.ListN.{length, drop}
-use Rattle.decimal.specs.declared.Number.{Number}
-use Rattle.decimal.specs.Spelling.{all_digits, value_from}
+use Rattle.std.proofs.Common.{◌≡◌, ◌<◌, ◌^◌, drop}
+use Rattle.decimal.proofs.Digits.{carried}
 use Rattle.decimal.proofs.read_digits.Given as goal
 
--- what digits after a value n give
-abbrev pub carried : ℕ → List ℕ → Number
-carried n s = cond (all_digits s) (Number.Value (value_from n s)) Number.Malformed
-
-abbrev pub invariant-loop-i : goal.invariant-loop-i
-invariant-loop-i l = (l.i ≤ length l.s) × (l.value < 10 ^ l.i) × (carried l.value (drop l.i l.s) ≡ carried 0 l.s)
-
-abbrev pub decreases-loop-i : goal.decreases-loop-i
-decreases-loop-i l = length l.s - l.i
+abbrev pub invariant-loop-b : goal.invariant-loop-b
+invariant-loop-b l = (l.value < 10 ^ l.b-index) × (carried l.value (drop l.b-index l.s) ≡ carried 0 l.s)

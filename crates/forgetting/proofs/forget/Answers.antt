@@ -10,12 +10,12 @@ use Rattle.forgetting.proofs.forget.Goals as goal
 asks : (c : After-arities_of-arities) → RowsReady (event_in c.arities_of-arities.result) c.args.state.rows c.args.table.now
 asks c = ready_rows _ c.args.state _ c.args.floor c.requires _ c.arities_of-arities.ensures
 
-pub first_early-first-requires : goal.first_early-first-requires
-first_early-first-requires c = let a = asks (goal.at.first_early-first-requires c).After-arities_of-arities in (a.few, a.fit)
+pub late_rows-first-requires : goal.late_rows-first-requires
+late_rows-first-requires c = let a = asks (goal.at.late_rows-first-requires c).After-arities_of-arities in (a.few, a.fit)
 
 pub keep_rows-kept-requires : goal.keep_rows-kept-requires
 keep_rows-kept-requires c =
-    (asks (goal.at.keep_rows-kept-requires c).After-arities_of-arities, c.first_early-first.ensures.0, c.first_early-first.ensures.1)
+    (asks (goal.at.keep_rows-kept-requires c).After-arities_of-arities, c.late_rows-first.ensures.0, c.late_rows-first.ensures.1)
 
 pub overflow_mul-rows : goal.overflow_mul-rows
 overflow_mul-rows c = omega (arith, (asks (goal.at.overflow_mul-rows c).After-arities_of-arities).few)

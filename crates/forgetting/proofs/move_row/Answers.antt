@@ -1,31 +1,50 @@
 -- `move_row` meets its contract: the row written is the row read, with its references renumbered unless it is an event's.
-use Prim.Native.Nat.{ℕ}
-use mathlib.Core.Path.{◌≡◌, ap}
-use mathlib.Core.Bool.{Bool, false}
-use mathlib.Core.List.{List}
-use native.Mathlib.Omega.{arith}
-use lib.IntN.{ℤ, pos, nat_abs}
-use lib.Signed.{lt_z}
-use mir.Syntax.{w32}
-use mir.Val.{SFits, to_z, of_z}
-use Rattle.std.proofs.Common.{rules}
-use Rattle.interval.proofs.Machine.{same32}
+use Rattle.std.proofs.Common.{rules, ◌≡◌, ◌∙◌, ℕ, ◌+◌, ◌*◌, false, Bool, List, ap, pos, nat_abs, ℤ, arith, w32, to_z, of_z}
+use Rattle.std.specs.Int.Signed.{lt_z}
+use Rattle.std.proofs.Math.Facts.{to_z_pos}
+use Rattle.std.proofs.lemmas.Bool.{ne_eqb, eq-eqb}
 use Rattle.table.specs.declared.Row.{Row}
 use Rattle.table.specs.Ready.{Refers}
 use Rattle.table.proofs.Ready.{refers_below}
-use Rattle.forgetting.specs.Walk.{HasMark, Movable}
+use Rattle.forgetting.specs.Walk.{event_in, moved_row, HasMark, Movable}
+use Rattle.table.specs.Table.{model_row, put_row}
+use Rattle.forgetting.proofs.Marks.{pos_above}
+use Rattle.forgetting.proofs.References.{moved_event, moved_other}
+use Rattle.forgetting.proofs.move_row.Goals.{then-arities-entry-ne0, else-arities-entry-ne0}
 use Rattle.forgetting.proofs.move_row.Goals as goal
 
 -- the row that a reference is to has its mark
-there : {event : Bool} {i p e : ℕ} {t : List ℤ} → Movable event i p e t → (z y : ℤ) → SFits w32 z → z ≡ y → Refers i y → lt_z (to_z w32 (of_z w32 z)) (pos 0) ≡ false → HasMark t (nat_abs (to_z w32 (of_z w32 z)))
-there {i} m z y f e r = rw (same32 z f, e) (λ q. m.marks (nat_abs y) (omega (arith, refers_below i y r q)))
+there : {event : Bool} {i p e : ℕ} {t : List ℤ} → Movable event i p e t → (z y : ℤ) → to_z w32 (of_z w32 z) ≡ z → z ≡ y → Refers i y → lt_z (to_z w32 (of_z w32 z)) (pos 0) ≡ false → HasMark t (nat_abs (to_z w32 (of_z w32 z)))
+there {i} m z y f e r = rw (f, e) (λ q. m.marks (nat_abs y) (omega (arith, refers_below i y r q)))
 
 pub place_of-requires : goal.place_of-requires
 place_of-requires c =
-    let f : SFits w32 c.row_at-row.result.left = search rules in
-    there c.requires _ _ f (ap (λ (r : Row). r.left) c.row_at-row.ensures) (c.requires.left c.if-event.false)
+    there c.requires _ _ (search rules) (ap (λ (r : Row). r.left) c.row_at-row.ensures) (c.requires.left (ne_eqb _ _ c.if-arities-entry-ne0.true))
 
-pub place_of-requires-2 : goal.place_of-requires-2
-place_of-requires-2 c =
-    let f : SFits w32 c.row_at-row.result.right = search rules in
-    there c.requires _ _ f (ap (λ (r : Row). r.right) c.row_at-row.ensures) c.requires.right
+pub place_of-requires-then-arities-entry-ne0 : goal.place_of-requires-then-arities-entry-ne0
+place_of-requires-then-arities-entry-ne0 c = there c.requires _ _ (search rules) (ap (λ (r : Row). r.right) c.row_at-row.ensures) c.requires.right
+
+pub put_row-requires : goal.put_row-requires
+put_row-requires c =
+    let few = (c.requires.marks c.args.p (omega (arith, c.requires.lower))).lower in
+    let entry = to_z_pos w32 {n = c.args.entry + c.shift_at.result * 32} (omega (arith, c.requires.small, c.requires.few, c.requires.lower, few, c.shift_at.ensures)) in (
+      omega (arith, c.requires.fit, c.requires.lower),
+      elim c.if-arities-entry-ne0.branch [ then-arities-entry-ne0 w ↦ rw (w.row-is, entry) (pos_above _) | else-arities-entry-ne0 w ↦ rw (w.row-is, entry) (pos_above _) ],
+    )
+
+pub returns : goal.returns
+returns c =
+    let t = c.args.table.now in
+    let r = c.row_at-row.result in
+    let few = (c.requires.marks c.args.p (omega (arith, c.requires.lower))).lower in
+    let entry = to_z_pos w32 {n = c.args.entry + c.shift_at.result * 32} (omega (arith, c.requires.small, c.requires.few, c.requires.lower, few, c.shift_at.ensures)) ∙ ap (λ n. pos (c.args.entry + n * 32)) c.shift_at.ensures in
+    let left : to_z w32 (of_z w32 r.left) ≡ r.left = search rules in
+    let right : to_z w32 (of_z w32 r.right) ≡ r.right = search rules in
+    let same : model_row c.if-arities-entry-ne0.row ≡ moved_row (event_in c.args.arities.now c.args.entry) c.args.i c.args.p c.args.entry t = elim c.if-arities-entry-ne0.branch [
+      | then-arities-entry-ne0 w ↦
+          let a : to_z w32 (of_z w32 w.place_of.result) ≡ w.place_of.result = search rules in
+          let b : to_z w32 (of_z w32 w.place_of-then-arities-entry-ne0.result) ≡ w.place_of-then-arities-entry-ne0.result = search rules in
+          rw (w.row-is, a, b) (moved_other _ c.args.i c.args.p c.args.entry t r c.row_at-row.ensures _ entry _ _ (ne_eqb _ _ w.if-arities-entry-ne0.true) (rw left at w.place_of.ensures) (rw right at w.place_of-then-arities-entry-ne0.ensures))
+      | else-arities-entry-ne0 w ↦ rw w.row-is (moved_event _ c.args.i c.args.p c.args.entry t r c.row_at-row.ensures _ entry (eq-eqb _ _ w.if-arities-entry-ne0.false))
+    ] in
+    c.put_row.ensures ∙ ap (λ q. put_row c.args.p q t) same

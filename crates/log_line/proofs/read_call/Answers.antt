@@ -1,48 +1,45 @@
 -- `read_call` meets its contract: the word in front says what is read behind it, and no word in front is no call.
-use mathlib.Core.Path.{sym, ◌∙◌}
-use Rattle.log_line.proofs.Laws.{open_word_lem, event_word_lem, clock_word_lem, forget_word_lem, word_room, word_read, no_call}
+use Rattle.std.proofs.Common.{sym, ap, ◌∙◌, arith}
+use Rattle.std.proofs.lemmas.Grind.{common_steps}
+use borrow.Author.Tests.{le-leb, lt-leb}
+use Rattle.log_line.specs.declared.Call.{Call}
+use Rattle.log_line.specs.Log.{open_word, event_word, clock_word, forget_word, event_call, instant_call, word_call}
+use Rattle.log_line.proofs.Laws.{answered, word_found, word_missed, instant_mapped, no_call, open_word_lem, event_word_lem, clock_word_lem, forget_word_lem}
 use Rattle.log_line.proofs.read_call.Goals as goal
 
-pub slice_bounds-read_event-count : goal.slice_bounds-read_event-count
-slice_bounds-read_event-count c = word_room event_word_lem _ c.starts_with.ensures c.if-starts_with.true
+pub returns-in_err-code : goal.returns-in_err-code
+unfolding event_call word_call
+returns-in_err-code c =
+    let d = c.in-Some.ensures.cases in
+    answered _ _ (word_found event_word_lem _ _ d.0 d.1 ∙ ap event_call (sym (c.in_err-code.ensures)) ∙ sym c.from_residual.ensures)
 
-pub slice_bounds-read_event-start : goal.slice_bounds-read_event-start
-slice_bounds-read_event-start c = word_room event_word_lem _ c.starts_with.ensures c.if-starts_with.true
+pub returns-in-Some : goal.returns-in-Some
+unfolding event_call word_call
+returns-in-Some c =
+    let d = c.in-Some.ensures.cases in
+    answered _ _ (word_found event_word_lem _ _ d.0 d.1 ∙ ap event_call (sym c.in_ok-code.ensures) ∙ grind (arith, common_steps, le-leb, lt-leb))
 
-pub returns-then-starts_with : goal.returns-then-starts_with
-returns-then-starts_with c = word_read event_word_lem _ c.starts_with.ensures c.if-starts_with.true c.read_event.ensures
+pub returns-in-Some-strip_prefix : goal.returns-in-Some-strip_prefix
+unfolding word_call
+returns-in-Some-strip_prefix c =
+    let d = c.in-Some-strip_prefix.ensures.cases in
+    let i = c.read_instant.ensures in
+    answered _ _ (word_found clock_word_lem _ _ d.0 d.1 ∙ ap (instant_call Call.Clock) (sym i) ∙ instant_mapped Call.Clock _ c.map-in-Some-strip_prefix.ensures.cases)
 
-pub slice_bounds-read_at-count : goal.slice_bounds-read_at-count
-slice_bounds-read_at-count c = word_room clock_word_lem _ c.starts_with-2.ensures c.if-starts_with-2.true
+pub returns-in-Some-strip_prefix-2 : goal.returns-in-Some-strip_prefix-2
+unfolding word_call
+returns-in-Some-strip_prefix-2 c =
+    let d = c.in-Some-strip_prefix-2.ensures.cases in
+    let i = c.read_instant-in-Some-strip_prefix-2.ensures in
+    answered _ _ (word_found forget_word_lem _ _ d.0 d.1 ∙ ap (instant_call Call.Forget) (sym i) ∙ instant_mapped Call.Forget _ c.map-in-Some-strip_prefix-2.ensures.cases)
 
-pub slice_bounds-read_at-start : goal.slice_bounds-read_at-start
-slice_bounds-read_at-start c = word_room clock_word_lem _ c.starts_with-2.ensures c.if-starts_with-2.true
-
-pub returns-then-starts_with-2 : goal.returns-then-starts_with-2
-returns-then-starts_with-2 c = word_read clock_word_lem _ c.starts_with-2.ensures c.if-starts_with-2.true c.read_at.ensures
-
-pub slice_bounds-read_at-count-then-starts_with-3 : goal.slice_bounds-read_at-count-then-starts_with-3
-slice_bounds-read_at-count-then-starts_with-3 c = word_room forget_word_lem _ c.starts_with-3.ensures c.if-starts_with-3.true
-
-pub slice_bounds-read_at-start-then-starts_with-3 : goal.slice_bounds-read_at-start-then-starts_with-3
-slice_bounds-read_at-start-then-starts_with-3 c = word_room forget_word_lem _ c.starts_with-3.ensures c.if-starts_with-3.true
-
-pub returns-then-starts_with-3 : goal.returns-then-starts_with-3
-returns-then-starts_with-3 c = word_read forget_word_lem _ c.starts_with-3.ensures c.if-starts_with-3.true c.read_at-then-starts_with-3.ensures
-
-pub slice_bounds-read_at-count-then-starts_with-4 : goal.slice_bounds-read_at-count-then-starts_with-4
-slice_bounds-read_at-count-then-starts_with-4 c = word_room open_word_lem _ c.starts_with-4.ensures c.if-starts_with-4.true
-
-pub slice_bounds-read_at-start-then-starts_with-4 : goal.slice_bounds-read_at-start-then-starts_with-4
-slice_bounds-read_at-start-then-starts_with-4 c = word_room open_word_lem _ c.starts_with-4.ensures c.if-starts_with-4.true
-
-pub returns-then-starts_with-4 : goal.returns-then-starts_with-4
-returns-then-starts_with-4 c = word_read open_word_lem _ c.starts_with-4.ensures c.if-starts_with-4.true c.read_at-then-starts_with-4.ensures
+pub returns-in-Some-strip_prefix-3 : goal.returns-in-Some-strip_prefix-3
+unfolding word_call
+returns-in-Some-strip_prefix-3 c =
+    let d = c.in-Some-strip_prefix-3.ensures.cases in
+    let i = c.read_instant-in-Some-strip_prefix-3.ensures in
+    answered _ _ (word_found open_word_lem _ _ d.0 d.1 ∙ ap (instant_call Call.Open) (sym i) ∙ instant_mapped Call.Open _ c.map-in-Some-strip_prefix-3.ensures.cases)
 
 pub returns : goal.returns
 returns c =
-    no_call _
-    (sym c.starts_with-4.ensures ∙ c.if-starts_with-4.false)
-    (sym c.starts_with.ensures ∙ c.if-starts_with.false)
-    (sym c.starts_with-2.ensures ∙ c.if-starts_with-2.false)
-    (sym c.starts_with-3.ensures ∙ c.if-starts_with-3.false)
+    answered _ _ (no_call _ (word_missed _ open_word c.in_default-strip_prefix-3.ensures.cases) (word_missed _ event_word c.in_default.ensures.cases) (word_missed _ clock_word c.in_default-strip_prefix.ensures.cases) (word_missed _ forget_word c.in_default-strip_prefix-2.ensures.cases))

@@ -1,10 +1,6 @@
--- `write_whole` has handed over the front of the text, up to where it is.
-use Rattle.std.proofs.Common.{◌≤◌, length, take}
-use Rattle.std.specs.Io.KnownBytes.{Appends}
+-- `write_whole` has handed over the front of the text, up to what is left of it.
+use Rattle.reading.proofs.Laws.{Written}
 use Rattle.reading.proofs.write_whole.Given as goal
 
 abbrev pub invariant-loop : goal.invariant-loop
-invariant-loop g l = record {
-  inside : l.done ≤ length l.text;
-  front : Appends (g.W.Write.contents l.initial.writer) (g.W.Write.contents l.writer) (take l.done l.text);
-}
+invariant-loop g l = Written (g.W.Write.contents l.initial.writer) (g.W.Write.contents l.writer) l.text l.rest

@@ -3,10 +3,13 @@ use Prim.Native.Nat.{ℕ, suc, ◌-◌, ◌*◌, ◌%◌, ◌^◌, ◌<◌, ◌�
 use native.Mathlib.Omega.{arith}
 use native.Mathlib.Nat.{pow-suc}
 use mathlib.Core.Path.{◌≡◌}
-use mir.Facts.{Fits-below}
 use lib.Pow.{shl_exact}
 use Rattle.model.proofs.Capacity.{capacity_most, capacity_fits, capacity_all}
 use Rattle.table.proofs.rows_that_fit.Goals as goal
+
+-- a shift loses no bit
+shifted : (a k : ℕ) → a < 2 ^ 3 → k ≤ 15 → (a * 2 ^ k) % 2 ^ 64 ≡ a * 2 ^ k
+shifted a k h g = shl_exact 3 k 64 h (omega arith)
 
 -- the rows of a turn are half of those of the turn before
 halved : (k : ℕ) → 0 < k → 2 ^ k ≡ 2 ^ (k - 1) * 2
@@ -14,38 +17,18 @@ halved k h =
     let e : suc (k - 1) ≡ k = omega arith in
     rw e at (pow-suc 2 (k - 1))
 
--- a shift loses no bit
-shifted : (a k : ℕ) → a < 2 ^ 3 → k ≤ 16 → (a * 2 ^ (k - 1)) % 2 ^ 64 ≡ a * 2 ^ (k - 1)
-shifted a k h g = shl_exact 3 (k - 1) 64 h (omega arith)
-
-pub returns-then-len-ge327675 : goal.returns-then-len-ge327675
-returns-then-len-ge327675 c =
+pub returns-then-len : goal.returns-then-len
+returns-then-len c =
     let n = c.args.len in
     omega (arith, capacity_most n, capacity_all n 65535 (omega arith) (omega arith))
-
-pub loop-k-init : goal.loop-k-init
-loop-k-init c = (omega arith, omega arith, omega arith)
-
-pub overflow_add-rows : goal.overflow_add-rows
-overflow_add-rows c =
-    let l = c.loop-k in
-    let one = shifted 1 l.k (omega arith) l.invariant.2 in
-    let five = shifted 5 l.k (omega arith) l.invariant.2 in
-    Fits-below {n = 327675} tt (omega arith)
 
 pub loop-k-preserved-then-numbers-left : goal.loop-k-preserved-then-numbers-left
 loop-k-preserved-then-numbers-left c =
     let l = c.loop-k in
-    let one = shifted 1 l.k (omega arith) l.invariant.2 in
-    let five = shifted 5 l.k (omega arith) l.invariant.2 in
+    let one = shifted 1 (l.k - 1) (omega arith) (omega arith) in
+    let five = shifted 5 (l.k - 1) (omega arith) (omega arith) in
     let two = halved l.k (omega arith) in
-    (omega arith, omega arith, omega arith)
-
-pub loop-k-preserved : goal.loop-k-preserved
-loop-k-preserved c =
-    let l = c.loop-k in
-    let five = shifted 5 l.k (omega arith) l.invariant.2 in
-    (l.invariant.0, omega arith, omega arith)
+    (omega arith, omega arith)
 
 pub returns : goal.returns
 returns c =

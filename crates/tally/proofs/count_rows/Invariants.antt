@@ -1,11 +1,7 @@
-use Prim.Native.Nat.{◌-◌, ◌≤◌}
 use mathlib.Core.Path.{◌≡◌}
 use Rattle.table.specs.Table.{rows_in}
 use Rattle.tally.specs.Tally.{counts}
 use Rattle.tally.proofs.count_rows.Given as goal
 
 abbrev pub invariant-loop-i : goal.invariant-loop-i
-invariant-loop-i l = (l.i ≤ l.rows) × (l.read ≡ l.i) × (l.tallies ≡ counts l.chart.count (rows_in l.i l.table))
-
-abbrev pub decreases-loop-i : goal.decreases-loop-i
-decreases-loop-i l = l.rows - l.i
+invariant-loop-i l = (l.read ≡ l.i) × (l.tallies ≡ counts l.chart.count (rows_in l.i l.table))

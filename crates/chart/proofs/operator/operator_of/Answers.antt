@@ -1,29 +1,22 @@
--- `operator_of` meets its contract: the search of what is left of the words, added to what was passed, is the search of all.
-use mathlib.Core.Path.{refl, sym, ◌∙◌}
-use native.Mathlib.Omega.{arith}
-use Rattle.chart.specs.Operators.{words, operator_of}
-use Rattle.chart.proofs.Words.{place_hit, place_on, place_none, word_count}
+-- `operator_of` meets its contract: the place of the word among the table's, which are those of the definition.
+use Rattle.std.proofs.Common.{rules, ◌≡◌, ℕ, length, Bool, cond, ltb, List, map, refl}
+use borrow.Author.Tests.{tests}
+use denote.Ref.{Bor}
+use Rattle.std.specs.Prelude.{Some, None}
+use Rattle.std.specs.List.{position_or_len}
+use Rattle.std.proofs.lemmas.Iterator.{YieldsList-from_slice}
+use Rattle.std.proofs.lemmas.Iterator.Search.{position_from_yields_List}
+use Rattle.chart.specs.Operators.{words, same_bytes}
+use Rattle.chart.proofs.Words.{code_is}
 use Rattle.chart.proofs.operator.operator_of.Goals as goal
 
-pub loop-i-init : goal.loop-i-init
-unfolding operator_of
-loop-i-init c = (omega arith, omega arith)
-
-pub is_word-requires : goal.is_word-requires
-unfolding operator_of
-is_word-requires c = (omega arith, refl, refl)
-
-pub returns-then-is_word : goal.returns-then-is_word
-unfolding operator_of
-returns-then-is_word c =
-    let l = c in
-    omega (arith, place_hit l.args.s.now words l.loop-i.i (omega (arith, word_count)) (sym c.is_word.ensures ∙ c.if-is_word.true))
-
-pub loop-i-preserved : goal.loop-i-preserved
-loop-i-preserved c =
-    let l = c in
-    (omega arith, omega (arith, place_on l.args.s.now words l.loop-i.i (omega (arith, word_count)) (sym c.is_word.ensures ∙ c.if-is_word.false)))
-
 pub returns : goal.returns
-unfolding operator_of
-returns c = let l = c in omega (arith, place_none l.args.s.now words l.loop-i.i (omega (arith, word_count)))
+unfolding words
+returns c =
+    let ws : List (Bor (List ℕ)) = c.iter.result.rest.now in
+    let test : Bor (List ℕ) → Bool = λ w. same_bytes c.args.s.now w.now in
+    let same : c.map.result ≡ c.position.result = search rules in
+    let n : ℕ = position_or_len test ws in
+    let p : c.position.result ≡ cond (ltb n (length ws)) (Some n) None = position_from_yields_List test _ _ c.position.result c.position.ensures.ran (YieldsList-from_slice ws refl) (λ x b q k. search (rules, tests)) in
+    let table : map (λ w. w.now) ws ≡ words = search rules in
+    rw (same, p) (code_is (λ w. w.now) c.args.s.now ws table)

@@ -1,85 +1,65 @@
--- `feed` meets its contract: lines before the calls, then the calls, then what is left.
-use Prim.Native.Nat.{◌+◌}
-use mathlib.Core.Path.{◌≡◌, refl, sym, ap, ◌∙◌}
-use mathlib.Core.Bool.{false}
-use native.Mathlib.Omega.{arith}
-use lib.ListN.{drop, length-drop}
+-- `feed` meets its contract: each turn plays one line, and what is left to read gives the whole answer.
+use Rattle.std.proofs.Common.{◌≡◌, ◌+◌, ◌-◌, ◌<◌, ◌≤◌, true, false, Some, None, length, drop, arith, sym, ap, subst, ◌∙◌}
 use Rattle.interval.proofs.Signed.{never}
 use Rattle.text.specs.Text.{line_size}
 use Rattle.text.proofs.Laws.{part_from}
-use Rattle.program.specs.Runs.{Read, is_refused, is_early}
+use Rattle.program.specs.Runs.{is_refused}
 use Rattle.program.proofs.Reaching.{reached_few}
-use Rattle.program.proofs.Reading.{read_part, lines_left, lines_fewer, settled_as}
-use Rattle.program.proofs.Stages.{lines_at}
-use Rattle.program.proofs.Run.feed.Goals.{After-feed_calls-rest}
+use Rattle.program.proofs.Reading.{read_none, next_some, next_inside, next_short, read_next, lines_left, Settled, settled_as}
+use Rattle.program.proofs.Run.feed.Goals.{In-Some, in-Some+then-is_refused, in_default}
 use Rattle.program.proofs.Run.feed.Goals as goal
 
--- the lines up to the calls, and then those of the calls, as the code has read them
-abbrev All : After-feed_calls-rest → Type 0
-All c =
-    let used = c.feed_early-head.result.used + c.feed_calls-rest.result.used in
-    Read (record { run = c.args.self; table = c.args.table.now }) (record { run = c.feed_calls-rest.result.run; table = c.feed_calls-rest.new.table }) used c.args.s.now × (is_refused c.feed_calls-rest.result.run.stage ≡ false → line_size (drop used c.args.s.now) ≡ 0)
+-- the line that is played
+line : (c : In-Some) → line_size (drop c.loop-size.at c.args.s.now) ≡ Some c.in-Some.size
+line c = sym (simp part_from at c.in-Some.ensures)
 
-all : (c : After-feed_calls-rest) → All c
-unfolding is_refused
-all c = read_part _ _ _ _ _ _ c.feed_early-head.ensures.0 c.feed_calls-rest.ensures.0 (ap is_refused c.in-Calls.is) c.feed_calls-rest.ensures.1
+some : (c : In-Some) → 0 < c.in-Some.size
+some c = next_some _ _ _ _ _ c.loop-size.invariant.1 (line c)
 
-pub feed_early-head-requires : goal.feed_early-head-requires
-feed_early-head-requires c = (c.requires.0, lines_fewer _ _ _ (omega arith) c.requires.1)
-
-pub slice_bounds-feed_calls-count : goal.slice_bounds-feed_calls-count
-slice_bounds-feed_calls-count c = omega (arith, c.feed_early-head.ensures.0.inside)
-
-pub feed_calls-rest-requires : goal.feed_calls-rest-requires
-unfolding is_refused
-feed_calls-rest-requires c =
-    let told = c.in-Calls.is in
-    let h = c.feed_early-head.ensures.0 in
-    let used = c.feed_early-head.result.used in
-    (h.reached, told, lines_at _ _ told refl _ (lines_left _ _ _ _ _ _ h (rw (part_from used c.args.s.now) (omega (arith, h.inside, length-drop used c.args.s.now))) c.requires.1))
+inside : (c : In-Some) → c.loop-size.at + c.in-Some.size ≤ length c.args.s.now
+inside c = next_inside _ _ _ _ _ c.loop-size.invariant.1 (line c)
 
 pub overflow_add-at : goal.overflow_add-at
-overflow_add-at c =
-    let h = (all (goal.at.overflow_add-at c).After-feed_calls-rest).0 in
-    omega (arith, h.inside, c.well_formed.1.1.0)
+overflow_add-at c = omega (arith, inside (goal.at.overflow_add-at c).In-Some, c.well_formed.1.1.0)
+
+pub overflow_sub-at : goal.overflow_sub-at
+overflow_sub-at c = omega (arith, some (goal.at.overflow_sub-at c).In-Some)
+
+pub slice_bounds-play_line-count : goal.slice_bounds-play_line-count
+slice_bounds-play_line-count c = omega (arith, some (goal.at.slice_bounds-play_line-count c).In-Some)
+
+pub slice_bounds-play_line-start : goal.slice_bounds-play_line-start
+slice_bounds-play_line-start c = omega (arith, some (goal.at.slice_bounds-play_line-start c).In-Some)
+
+pub slice_bounds-play_line-end : goal.slice_bounds-play_line-end
+slice_bounds-play_line-end c = omega (arith, inside (goal.at.slice_bounds-play_line-end c).In-Some)
+
+pub play_line-requires : goal.play_line-requires
+play_line-requires c =
+    let d = (goal.at.play_line-requires c).In-Some in
+    let h = c.loop-size.invariant.1 in
+    (h.reached, lines_left _ _ _ 1 _ _ h (omega (arith, inside d)) c.requires.1, next_short _ _ _ _ _ h (line d))
+
+pub loop-size-smaller : goal.loop-size-smaller
+loop-size-smaller c = let d = (goal.at.loop-size-smaller c).In-Some in omega (arith, some d, inside d)
+
+pub loop-size-preserved : goal.loop-size-preserved
+loop-size-preserved c =
+    (c.play_line.auto.table ∙ c.loop-size.invariant.0, read_next _ _ _ _ _ c.loop-size.invariant.1 (line (goal.at.loop-size-preserved c).In-Some) _ c.play_line.ensures)
 
 pub settled-requires : goal.settled-requires
 settled-requires c =
-    let h = (all (goal.at.settled-requires c).After-feed_calls-rest).0 in
-    (h.inside, lines_left _ _ _ _ _ _ h (omega (arith, h.inside)) c.requires.1, reached_few _ h.reached)
+    let h = c.loop-size.invariant.1 in
+    (h.inside, lines_left _ _ _ 1 _ _ h (omega (arith, h.inside)) c.requires.1, reached_few _ h.reached)
 
-pub settled-requires-in-Entries : goal.settled-requires-in-Entries
-settled-requires-in-Entries c =
-    let h = c.feed_early-head.ensures.0 in
-    (h.inside, lines_left _ _ _ _ _ _ h (omega (arith, h.inside)) c.requires.1, reached_few _ h.reached)
-
-pub settled-requires-in-Opening : goal.settled-requires-in-Opening
-settled-requires-in-Opening c =
-    let h = c.feed_early-head.ensures.0 in
-    (h.inside, lines_left _ _ _ _ _ _ h (omega (arith, h.inside)) c.requires.1, reached_few _ h.reached)
-
-pub settled-requires-in-Refused : goal.settled-requires-in-Refused
-settled-requires-in-Refused c =
-    let h = c.feed_early-head.ensures.0 in
-    (h.inside, lines_left _ _ _ _ _ _ h (omega (arith, h.inside)) c.requires.1, reached_few _ h.reached)
-
-pub returns-in-Calls : goal.returns-in-Calls
-returns-in-Calls c = let h = all (goal.at.returns-in-Calls c).After-feed_calls-rest in let y = settled_as _ _ _ _ _ h.0 h.1 c.settled.ensures in (y.all, y.inside, y.kept)
-
-pub returns-in-Entries : goal.returns-in-Entries
-unfolding is_early is_refused
-returns-in-Entries c =
-    let y = settled_as _ _ _ _ _ c.feed_early-head.ensures.0 (λ z. c.feed_early-head.ensures.1 (ap is_early c.in-Entries.is)) c.settled-in-Entries.ensures in
+pub returns : goal.returns
+returns c =
+    let g = c.args in
+    let y = subst (λ f. Settled (record { run = g.self; table = g.table.now }) c.loop-size.table f g.s.now) (sym c.settled.ensures) (settled_as _ _ _ _ c.loop-size.invariant.1 none) in
     (y.all, y.inside, y.kept)
-
-pub returns-in-Opening : goal.returns-in-Opening
-unfolding is_early is_refused
-returns-in-Opening c =
-    let y = settled_as _ _ _ _ _ c.feed_early-head.ensures.0 (λ z. c.feed_early-head.ensures.1 (ap is_early c.in-Opening.is)) c.settled-in-Opening.ensures in
-    (y.all, y.inside, y.kept)
-
-pub returns-in-Refused : goal.returns-in-Refused
-unfolding is_early is_refused
-returns-in-Refused c =
-    let y = settled_as _ _ _ _ _ c.feed_early-head.ensures.0 (λ z. never (sym z ∙ ap is_refused c.in-Refused.is)) c.settled-in-Refused.ensures in
-    (y.all, y.inside, y.kept)
+  where
+    none : is_refused c.loop-size.run.stage ≡ false → line_size (drop c.loop-size.at c.args.s.now) ≡ None
+    none z = elim c.match-line_size.branch [
+      | in-Some+then-is_refused w ↦ never (sym z ∙ sym w.is_refused.ensures ∙ w.if-is_refused.true)
+      | in_default w ↦ sym (simp part_from at w.in_default.ensures)
+    ]

@@ -1,6 +1,0 @@
--- `chronicle_clock` meets its contract: it is that of `clock`.
-use Rattle.interval.proofs.Machine.{same32}
-use Rattle.host.proofs.chronicle_clock.Goals as goal
-
-pub returns : goal.returns
-returns c = let i = same32 _ c.ranges.instant in let own = c.clock.ensures in (simp i at own.0, simp i at own.1)

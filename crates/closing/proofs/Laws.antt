@@ -8,13 +8,12 @@ use mathlib.Core.Bool.{Bool, true, false, cond}
 use mathlib.Core.List.{List, [], ◌∷◌}
 use lib.Dec.{ltb}
 use lib.IntN.{ℤ}
-use lib.Signed.{le_z, lt_z}
+use lib.Signed.{le_z}
 use mir.Syntax.{w32}
 use mir.Val.{SFits, to_z, of_z}
 use Rattle.interval.proofs.Machine.{same32}
-use Rattle.std.specs.Int.{int_min, int_max}
-use Rattle.interval.specs.Instants.{eq_z, least, greatest}
-use Rattle.interval.proofs.Signed.{never, signed}
+use Rattle.interval.specs.Instants.{eq_z}
+use Rattle.interval.proofs.Signed.{never}
 use Rattle.interval.specs.declared.Nearest.{Nearest}
 use Rattle.interval.specs.declared.Nearest.TheVariants.{Cut, Change}
 use Rattle.interval.specs.declared.Relation.{Relation}
@@ -32,25 +31,6 @@ use Rattle.closing.specs.declared.Wanted.{Wanted}
 use Rattle.closing.specs.Added.{span, part_row, taken_row, taken_rows, forbids, is_within, is_forbidden, absence_row, top_of, SameTop, is_wanted, pair_row, right_from, pairs_of, pairs_with, next_row, least_start, left_by, left_from, latest_start, near_from, near_to, rival_from, limit_by, nearest_row, nearest_pairs, wanted_by, nearest_of, nearest_with, sought_by, nearest_rows}
 use Rattle.closing.proofs.Spans.{span_same}
 use Rattle.closing.proofs.Filling.{Kept}
-
--- `a.min(b)` and `a.max(b)`
-pub min_is : (a b : ℤ) → int_min a b ≡ least a b
-min_is a b = go (lt_z b a) (le_z a b) refl refl
-  where
-    go : (p q : Bool) → lt_z b a ≡ p → le_z a b ≡ q → cond p b a ≡ cond q a b
-    go true true e h = absurd (omega (arith, signed))
-    go true false e h = refl
-    go false true e h = refl
-    go false false e h = absurd (omega (arith, signed))
-
-pub max_is : (a b : ℤ) → int_max a b ≡ greatest a b
-max_is a b = go (lt_z b a) (le_z a b) refl refl
-  where
-    go : (p q : Bool) → lt_z b a ≡ p → le_z a b ≡ q → cond p a b ≡ cond q b a
-    go true true e h = absurd (omega (arith, signed))
-    go true false e h = refl
-    go false true e h = refl
-    go false false e h = absurd (omega (arith, signed))
 
 pub within_at : (start : ℤ) (t : List ℤ) (j : ℕ) → (j ≡ 0 → ⊥) → is_within start t j ≡ le_z start (cell t (j - 1) 4)
 unfolding is_within

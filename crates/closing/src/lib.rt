@@ -448,8 +448,8 @@ fn pair_of(f: Frame, w: Wanted, s: Row, i: usize) -> Row
     row.entry = f.entry;
     row.left = w.left as i32;
     row.right = i as i32;
-    row.start = w.start.min(s.start);
-    row.end = w.end.max(s.end);
+    row.start = interval::least_start(w.start, s.start);
+    row.end = interval::greatest_end(w.end, s.end);
     row
 }
 
@@ -580,7 +580,7 @@ fn least_start(t: &[i32], s: usize, n: usize, b: i32) -> i32
         let row = table::row_at(t, i);
         i += 1;
         if row.entry == b {
-            least = least.min(row.start);
+            least = interval::least_start(least, row.start);
         }
     }
     least
@@ -655,7 +655,7 @@ fn latest_start(t: &[i32], i: usize, e: usize, b: i32, x: i32) -> i32
             return latest;
         }
         if row.entry == b {
-            latest = latest.max(row.start);
+            latest = interval::greatest_end(latest, row.start);
         }
     }
     latest

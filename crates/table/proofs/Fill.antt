@@ -5,7 +5,7 @@ use native.Mathlib.Nat.{add-zero}
 use mathlib.Core.Path.{◌≡◌, refl, sym, ap, ◌∙◌}
 use mathlib.Core.Bool.{Bool, true, false, cond}
 use mathlib.Core.List.{List, [], ◌∷◌, ◌++◌}
-use borrow.Author.Tests.{lt-ltb, ltb-true, ltb-false}
+use borrow.Author.Tests.{lt-ltb, le-ltb, ltb-true, ltb-false}
 use lib.Dec.{ltb}
 use lib.IntN.{ℤ}
 use lib.ListN.{length, take}
@@ -13,10 +13,18 @@ use Rattle.model.specs.Order.{Row}
 use Rattle.table.specs.Table.{cell, filled, fill, put_row, put_rows}
 use Rattle.table.proofs.Rows.{length_put, cell_other}
 
--- nothing to append
+-- nothing to append; one row with room; one row without
 pub fill_none : (room n : ℕ) (t : List ℤ) → fill room n [] t ≡ filled n t
 unfolding fill
 fill_none room n t = refl
+
+pub fill_room : (room n : ℕ) (r : Row) (rs : List Row) (t : List ℤ) → n < room → fill room n (r ∷ rs) t ≡ fill room (suc n) rs (put_row n r t)
+unfolding fill
+fill_room room n r rs t h = rw (lt-ltb n room h)
+
+pub fill_over : (room n : ℕ) (r : Row) (rs : List Row) (t : List ℤ) → room ≤ n → fill room n (r ∷ rs) t ≡ filled (suc room) t
+unfolding fill
+fill_over room n r rs t h = rw (le-ltb n room h)
 
 -- all fit
 pub fill_fits : (room n : ℕ) (rs : List Row) (t : List ℤ) → n + length rs ≤ room → fill room n rs t ≡ filled (n + length rs) (put_rows n rs t)

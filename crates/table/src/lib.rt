@@ -2,7 +2,7 @@
 // callers have shown. What reads or writes one row takes constant time.
 #![tactic(auto)]
 
-ghost use Rattle.std.specs.Prelude.{◌≡◌, true, [], ◌∷◌, ◌*◌, ◌+◌, ◌≤◌, pos, length};
+ghost use Rattle.std.specs.Prelude.{◌≡◌, true, [], ◌∷◌, ◌*◌, ◌+◌, ◌≤◌, pos, length, None};
 ghost use Rattle.std.specs.Int.Signed.{le_z};
 ghost use Rattle.std.specs.Simd.{first_chunks};
 ghost use Rattle.chart.specs.Charts.{is_usable};
@@ -80,7 +80,7 @@ pub fn put_row(t: &mut [i32], i: usize, row: Row)
 #[tactic(auto, unfolding(crate::specs::Table::fill))]
 pub fn push_row(t: &mut [i32], n: usize, room: usize, row: Row) -> Option<usize>
     requires { (n ≤ room) × (room * 5 ≤ length t.old) × (le_z (pos 0) row.entry ≡ true) }
-    ensures { (count_in room result ≡ (fill room n (model_row row ∷ []) t.old).count) × (t.new ≡ (fill room n (model_row row ∷ []) t.old).table) }
+    ensures { (count_in room result ≡ (fill room n (model_row row ∷ []) t.old).count) × (t.new ≡ (fill room n (model_row row ∷ []) t.old).table) × (room ≤ n → result ≡ None) }
 {
     if room <= n {
         return None;

@@ -12,7 +12,6 @@ use Rattle.interval.proofs.Machine.{same32, eq_z_yes, eq_z_no}
 use Rattle.table.specs.Table.{cell}
 use Rattle.closing.specs.Added.{latest_from}
 use Rattle.closing.proofs.Searches.{latest_on, latest_end, latest_stop}
-use Rattle.closing.proofs.Laws.{max_is}
 use Rattle.closing.proofs.latest_start.Goals as goal
 
 pub loop-j-init : goal.loop-j-init
@@ -34,9 +33,9 @@ loop-j-preserved-then-row-b c =
     let k = c.loop-j.j - 1 in
     let entry : SFits w32 c.row_at-row.result.entry = search rules in
     let first : SFits w32 c.row_at-row.result.start = search rules in
-    let f : SFits w32 c.max-latest.result = search rules in
+    let f : SFits w32 c.greatest_end-latest.result = search rules in
     let is : eq_z (cell g.t.now k 0) b ≡ true = ap (eq_z (cell g.t.now k 0)) (same32 _ c.ranges.b) ∙ (simp c.row_at-row.ensures at (eq_z_yes _ _ entry c.ranges.b c.if-row-b.true)) in
-    let latest = same32 _ f ∙ simp c.row_at-row.ensures at (simp (same32 _ first) at c.max-latest.ensures.value) ∙ max_is (to_z w32 c.loop-j.latest-bits) (cell g.t.now k 3) in
+    let latest = same32 _ f ∙ simp c.row_at-row.ensures at (simp (same32 _ first) at c.greatest_end-latest.ensures) in
     (omega arith, omega arith, ap (λ z. latest_from b g.t.now g.i z (k - g.i)) latest ∙ latest_on b g.t.now g.i (to_z w32 c.loop-j.latest-bits) c.loop-j.j k true (omega arith) refl is ∙ c.loop-j.invariant.2)
 
 pub loop-j-preserved : goal.loop-j-preserved

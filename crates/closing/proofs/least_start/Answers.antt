@@ -11,7 +11,6 @@ use Rattle.interval.proofs.Machine.{same32, eq_z_yes, eq_z_no}
 use Rattle.table.specs.Table.{cell}
 use Rattle.closing.specs.Added.{least_from}
 use Rattle.closing.proofs.Searches.{least_on, least_end}
-use Rattle.closing.proofs.Laws.{min_is}
 use Rattle.closing.proofs.least_start.Goals as goal
 
 pub loop-i-init : goal.loop-i-init
@@ -26,9 +25,9 @@ loop-i-preserved-then-row-b c =
     let b = to_z w32 (of_z w32 g.b) in
     let entry : SFits w32 c.row_at-row.result.entry = search rules in
     let start : SFits w32 c.row_at-row.result.start = search rules in
-    let f : SFits w32 c.min-least.result = search rules in
+    let f : SFits w32 c.least_start-least.result = search rules in
     let is : eq_z (cell g.t.now c.loop-i.i 0) b ≡ true = ap (eq_z (cell g.t.now c.loop-i.i 0)) (same32 _ c.ranges.b) ∙ (simp c.row_at-row.ensures at (eq_z_yes _ _ entry c.ranges.b c.if-row-b.true)) in
-    let least = same32 _ f ∙ simp c.row_at-row.ensures at (simp (same32 _ start) at c.min-least.ensures.value) ∙ min_is (to_z w32 c.loop-i.least-bits) (cell g.t.now c.loop-i.i 3) in
+    let least = same32 _ f ∙ simp c.row_at-row.ensures at (simp (same32 _ start) at c.least_start-least.ensures) in
     (omega arith, omega arith, ap (λ x. least_from b g.t.now x (c.loop-i.i + 1) (g.n - (c.loop-i.i + 1))) least ∙ least_on b g.t.now (to_z w32 c.loop-i.least-bits) c.loop-i.i g.n true (omega arith) is ∙ c.loop-i.invariant.2)
 
 pub loop-i-preserved : goal.loop-i-preserved

@@ -1,12 +1,10 @@
 -- `pair_of` meets its contract: the numbers one by one.
 use native.Mathlib.Omega.{arith}
-use mathlib.Core.Path.{◌∙◌}
 use mir.Syntax.{w32}
 use mir.Val.{SFits}
 use mir.ValLaws.{to_z_pos}
 use Rattle.std.proofs.Common.{rules}
 use Rattle.interval.proofs.Machine.{same32}
-use Rattle.closing.proofs.Laws.{min_is, max_is}
 use Rattle.closing.proofs.pair_of.Goals as goal
 
 pub returns : goal.returns
@@ -17,6 +15,6 @@ returns c =
     let ss : SFits w32 g.s.start = search rules in
     let re : SFits w32 g.w.end = search rules in
     let se : SFits w32 g.s.end = search rules in
-    let start : SFits w32 c.min.result = search rules in
-    let end : SFits w32 c.max.result = search rules in
-    simp (same32, entry, start, end, to_z_pos w32 g.w.left (omega arith), to_z_pos w32 g.i (omega arith)) (simp ((simp (same32, rs, ss) at c.min.ensures.value) ∙ min_is g.w.start g.s.start, (simp (same32, re, se) at c.max.ensures.value) ∙ max_is g.w.end g.s.end))
+    let start : SFits w32 c.least_start.result = search rules in
+    let end : SFits w32 c.greatest_end.result = search rules in
+    simp (same32, entry, start, end, to_z_pos w32 g.w.left (omega arith), to_z_pos w32 g.i (omega arith)) (simp (simp (same32, rs, ss) at c.least_start.ensures, simp (same32, re, se) at c.greatest_end.ensures))

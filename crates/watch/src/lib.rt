@@ -1,7 +1,7 @@
 // The chronicle watch: a watch by value, its calls, and the caller's table lent to each of them.
 #![tactic(auto)]
 
-ghost use Rattle.std.specs.Prelude.{◌≡◌, pos};
+ghost use Rattle.std.specs.Prelude.{◌≡◌, ◌↔◌, IsOk, pos};
 ghost use Rattle.state.specs.State.{empty_state};
 ghost use Rattle.table.specs.Table.{rows_in};
 ghost use Rattle.tally.specs.Tally.{report_of};
@@ -287,7 +287,7 @@ impl Watch {
     // the rows, whatever the number of entries.
     #[tactic(auto, unfolding(crate::specs::Steps::report_step))]
     pub fn report(self, chart: Chart, table: &[i32]) -> Result<Report, Refusal>
-        ensures { reported result ≡ report_step chart self.state table.now }
+        ensures { (reported result ≡ report_step chart self.state table.now) × (IsOk result ↔ (check_number chart self.state table.now ≡ 0)) }
     {
         self.check(chart, table)?;
         Ok(self.report_unchecked(chart, table))

@@ -7,7 +7,7 @@ use mathlib.Core.List.{List, [], ◌∷◌, ◌++◌, append_assoc, append-nil}
 use lib.IntN.{ℤ}
 use lib.ListN.{length, take, drop, length-append}
 use lib.Seq.{length-take-le, take-add, take-length, take-append_seam}
-use Rattle.std.specs.Prelude.{Option, None, Some, Result, Ok, Err, IsErr, IfSome}
+use Rattle.std.specs.Prelude.{Option, None, Some, Result, Ok, Err, IsErr, IfSome, is_ok, ⊤}
 use Rattle.std.specs.declared.io.Error.{Error}
 use Rattle.std.specs.Io.KnownBytes.{Appends, Consumes, IsAtEnd}
 use Rattle.std.proofs.lemmas.Grind.{common_steps}
@@ -95,7 +95,7 @@ stopped_more t pieces x e =
     ap (λ y. finished y.progress y.kept) (fed_more _ pieces x) ∙ finished_stopped (fed b x).progress (fed b x).kept still ∙ same ∙ sym (finished_stopped b.progress b.kept e)
 
 -- the input has ended
-pub ended : {before after : Option (List ℕ)} {t u : List ℤ} {r : Run} {kept : ℕ} (buf : List ℕ) → Fed before after t (held r u kept buf) → kept ≤ length buf → IsAtEnd after → OfInput before after t (Ok (finished_run r kept)) u
+pub ended : {before after : Option (List ℕ)} {t u : List ℤ} {r : Run} {kept : ℕ} (buf : List ℕ) → Fed before after t (held r u kept buf) → kept ≤ length buf → IsAtEnd after → OfInput before after t (finished_run r kept) (Ok tt) u
 ended {before} {after} {t} {u} {r} {kept} buf f h e = record {
   pieces = f.pieces;
   from = record { whole = λ y. let k = f.taken in grind (arith, common_steps); front = λ y. never y };
@@ -106,7 +106,7 @@ ended {before} {after} {t} {u} {r} {kept} buf f h e = record {
 }
 
 -- the run is refused
-pub refused : {before after : Option (List ℕ)} {t u : List ℤ} {r : Run} {b : Between} → Fed before after t b → record { run = r; table = u } ≡ b.progress → is_refused r.stage ≡ true → OfInput before after t (Ok r) u
+pub refused : {before after : Option (List ℕ)} {t u : List ℤ} {r : Run} {b : Between} → Fed before after t b → record { run = r; table = u } ≡ b.progress → is_refused r.stage ≡ true → OfInput before after t r (Ok tt) u
 unfolding left_of
 refused {before} {after} {t} {u} {r} f d e =
     let stopped : Stopped (fed_run t f.pieces).progress = ap (λ x. is_refused x.progress.run.stage) (sym f.same) ∙ ap (λ x. is_refused x.run.stage) (sym d) ∙ e in
@@ -140,8 +140,9 @@ module _ (p : Progress) (buf : List ℕ) (kept n : ℕ) where
       ∙ both
 
 -- a run that was played to the end can be printed
-pub played_printable : (f : Format) (before after : Option (List ℕ)) (t u : List ℤ) (r : Run) → OfInput before after t (Ok r) u → Printable f r u
-played_printable f before after t u r q = subst (λ x. Printable f x.run x.table) (sym q.same) (whole_printable t q.pieces f)
+pub played_printable : (f : Format) (before after : Option (List ℕ)) (t u : List ℤ) (r : Run) (a : Result ⊤ Error) → OfInput before after t r a u → is_ok a ≡ true → Printable f r u
+played_printable f before after t u r (Ok n) q e = subst (λ x. Printable f x.run x.table) (sym q.same) (whole_printable t q.pieces f)
+played_printable f before after t u r (Err x) q e = never e
 
 -- what is printed for an input
 module _ (f : Format) (before after : Option (List ℕ)) (t : List ℤ) (out : List ℕ) where
@@ -158,12 +159,14 @@ module _ (f : Format) (before after : Option (List ℕ)) (t : List ℤ) (out : L
       of_known (Some s) = record { whole = λ z. sym (joined_one s); front = λ z. never z }
 
   module _ (room : bytes_for f (room_in t) ≤ length out) (u : List ℤ) where
-    pub not_printed : (e : Error) (r : Result (Option ℕ) Error) → OfInput before after t (Err e) u → IsErr r → PrintsInput f before after t out r u out
-    not_printed e (Err x) q h = record { pieces = q.pieces; from = q.from; room = λ y. has_room_lem f t out room; length = tt; table = q.same; output = refl }
-    not_printed e (Ok n) q h = never h
+    pub not_printed : (v : Run) (a : Result ⊤ Error) (r : Result (Option ℕ) Error) → OfInput before after t v a u → is_ok a ≡ false → IsErr r → PrintsInput f before after t out r u out
+    not_printed v (Err y) (Err x) q e h = record { pieces = q.pieces; from = q.from; room = λ z. has_room_lem f t out room; length = tt; table = ap (λ p. p.table) q.same; output = refl }
+    not_printed v (Ok k) r q e h = never (sym e)
+    not_printed v (Err y) (Ok n) q e h = never h
 
-    pub is_printed : (r : Run) (n : Option ℕ) (written : List ℕ) → OfInput before after t (Ok r) u → n ≡ printed_length f r u out → written ≡ printed_output f r u out → PrintsInput f before after t out (Ok n) u written
-    is_printed r n written q e o =
+    pub is_printed : (r : Run) (a : Result ⊤ Error) (n : Option ℕ) (written : List ℕ) → OfInput before after t r a u → is_ok a ≡ true → n ≡ printed_length f r u out → written ≡ printed_output f r u out → PrintsInput f before after t out (Ok n) u written
+    is_printed r (Err x) n written q h e o = never h
+    is_printed r (Ok k) n written q h e o =
         let g = whole_all (joined q.pieces) t f out room _ (one_run t q.pieces ∙ sym q.same) in
         record { pieces = q.pieces; from = q.from; room = λ y. never y; length = e ∙ g.0; table = g.1; output = o ∙ g.2 }
 
@@ -186,10 +189,7 @@ module _ (f : Format) (before after : Option (List ℕ)) (t : List ℤ) (out : L
     unfolding whole_output
     written_3000 = q.output ∙ output_room (has_room f t out) _ out room ∙ rw rows_3000
 
-    module _ (n : ℕ) (k : m ≡ Some n) where
-      size : n ≡ length text
-      size = let c = counted_3000 in cc
-
+    module _ (n : ℕ) (size : n ≡ length text) where
       shown : take n written ≡ text
       shown = rw (size, written_3000) (take-append_seam text (drop (length text) out))
 

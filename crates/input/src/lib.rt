@@ -76,31 +76,33 @@ pub fn print_input<R: Read>(
     if out.len() < program::bytes_for(format, table.len()) {
         return Ok(None);
     }
-    let run = play_input(reader, table)?;
+    let mut run = program::start();
+    play_input(reader, &mut run, table)?;
     Ok(run.print(format, table, out))
 }
 
 // A proved loop has to end, and nothing says that an input does: no run uses up so many readings, and one that did would count as one that failed.
 const READINGS: u64 = 1 << 47;
 
-// Plays an input to its end: reads behind the bytes kept, plays what came, and moves what is to be kept of it to the front. A refused run reads no further. Linear in
-// the bytes, and for each line the cost of its call on the watch.
-pub fn play_input<R: Read>(reader: &mut R, table: &mut [i32]) -> io::Result<Run>
-    ensures { OfInput (R.remaining reader.old) (R.remaining reader.new) table.old result table.new }
+// Plays an input from the start to its end: reads behind the bytes kept, plays what came, and moves what is to be kept of it to the front. Where reading fails, the run
+// is left as far as it was read; a refused run reads no further. Linear in the bytes, and for each line the cost of its call on the watch.
+pub fn play_input<R: Read>(reader: &mut R, run: &mut Run, table: &mut [i32]) -> io::Result<()>
+    ensures { OfInput (R.remaining reader.old) (R.remaining reader.new) table.old run.new result table.new }
 {
     let mut buf = [0u8; 65536];
-    let mut run = program::start();
     let mut kept = 0;
+    *run = program::start();
     for _ in 0..READINGS {
         let n = reading::read_more(reader, &mut buf, kept)?;
         if n == 0 {
-            return Ok(run.finish(kept));
+            *run = run.finish(kept);
+            return Ok(());
         }
         let end = kept + n;
         let fed = run.feed(table, &buf[..end]);
-        run = fed.run;
-        if program::is_refused(run) {
-            return Ok(run);
+        *run = fed.run;
+        if program::is_refused(*run) {
+            return Ok(());
         }
         kept = program::keep_rest(&mut buf, fed.used, end);
     }

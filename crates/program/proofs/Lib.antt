@@ -2,6 +2,7 @@ pub mod Pieces
 pub mod Playing
 pub mod Reaching
 pub mod Lines
+pub mod Entries
 pub mod Reading
 pub mod Printing
 pub mod Theorems

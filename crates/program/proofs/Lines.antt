@@ -1,12 +1,13 @@
 -- Numbers of the log as the code hands them to the calls, and a line of the log in an input.
-use Prim.Native.Nat.{ℕ, ◌≤◌}
+use Prim.Native.Nat.{ℕ, ◌≤◌, ◌<◌}
 use Rattle.std.proofs.Common.{Result, Ok, Err}
-use borrow.Author.Tests.{ne_eqb}
-use mathlib.Core.Path.{◌≡◌, refl, sym, ap₂, ◌∙◌}
+use borrow.Author.Tests.{ne_eqb, lt-ltb}
+use mathlib.Core.Path.{◌≡◌, refl, sym, ap, ap₂, ◌∙◌}
 use mathlib.Core.Logic.{inl}
 use mathlib.Core.Bool.{true, false, cond, Bool}
 use mathlib.Core.List.{List, [], ◌∷◌, map}
 use lib.IntN.{ℤ, pos}
+use lib.ListN.{length}
 use Rattle.interval.specs.Instants.{is_instant}
 use Rattle.interval.proofs.Laws.{refuses_mark, refuses_forget, out_of_range}
 use Rattle.text.specs.Text.{Line, whole}
@@ -18,6 +19,7 @@ use Rattle.refusal.specs.Numbers.{number_of}
 use Rattle.chart.specs.declared.Chart.{Chart}
 use Rattle.state.specs.State.{empty_state}
 use Rattle.state.specs.declared.WatchState.{WatchState}
+use Rattle.log_line.specs.Log.{call_of}
 use Rattle.log_line.specs.Log as whole_log
 use Rattle.watch.specs.declared.Answer.{Answer}
 use Rattle.watch.specs.Steps.{Step, refused_step, opening_step, clock_own, forget_own}
@@ -26,8 +28,9 @@ use Rattle.program.specs.Outcomes.{call_in}
 use Rattle.watch.specs.Answers.{answer_of}
 use Rattle.watch.specs.declared.Watch.{Watch}
 use Rattle.refusal.specs.declared.Refusal.{Refusal}
-use Rattle.program.specs.Runs.{answered_run, narrowed, entry_run, refused_run}
+use Rattle.program.specs.Runs.{answered_run, next_run, narrowed, entry_run, refused_run, open_step, line_step, after_line, stepped}
 use Rattle.program.specs.declared.Run.{Run}
+use Rattle.program.specs.declared.Stage.TheVariants.{Opening}
 
 -- a line of the chart that is refused
 pub entry_refused : (r : Run) (s : List ℕ) (f : Fault) → r.chart.count ≤ 32 → read_answer (Err f) ≡ add_line r.chart s → entry_run r (read_lines r.chart (whole s ∷ [])) ≡ refused_run r (number_of f.refusal) f.line
@@ -43,6 +46,18 @@ pub answered_by : (r : Run) (w : WatchState) (o : Result Watch Refusal) → answ
 unfolding answered_run
 answered_by r w (Ok x) = refl
 answered_by r w (Err e) = rw (ne_eqb (number_of e) 0 (number_some e))
+
+-- the watch that the log's first line opens, taken over with its entries before the line is counted
+pub opened_by : (r : Run) (v : Watch) → answered_run (record { stage = r.stage; line = r.line; chart = r.chart; watch = v }) (answer_of v.state (Ok v)) ≡ answered_run r (answer_of (empty_state (pos 0)) (Ok v))
+unfolding answered_run next_run
+opened_by r v = refl
+
+pub first_line : (r : Run) (t u : List ℤ) (s : List ℕ) (o : Result Watch Refusal) → r.stage ≡ Opening → length s < 64 → record { answer = answer_of (empty_state (pos 0)) o; table = u } ≡ open_step r.chart t (call_of s) → record { run = answered_run r (answer_of (empty_state (pos 0)) o); table = u } ≡ after_line (record { run = r; table = t }) (whole s)
+unfolding line_step call_in
+first_line r t u s o e short h = opened ∙ ap (λ x. line_step x r t (whole s)) (sym e)
+  where
+    opened : record { run = answered_run r (answer_of (empty_state (pos 0)) o); table = u } ≡ line_step Opening r t (whole s)
+    opened = rw (lt-ltb (length s) 64 short) (ap (stepped r) h)
 
 no_instant : is_instant (pos 2000000000) ≡ false
 unfolding is_instant

@@ -1,7 +1,7 @@
 // The listing program and the report program without their input and output: an input that comes in pieces is played on a watch, and what it comes to is printed.
 #![tactic(auto)]
 
-ghost use Rattle.std.specs.Prelude.{◌≡◌, pos, cond, ◌∷◌, [], ◌+◌, ◌≤◌, ◌<◌, ◌^◌, length, drop};
+ghost use Rattle.std.specs.Prelude.{◌≡◌, pos, IfOk, cond, ◌∷◌, [], ◌+◌, ◌≤◌, ◌<◌, ◌^◌, length, drop};
 ghost use Rattle.refusal.specs.Numbers.{number_of};
 ghost use Rattle.text.specs.Output.{rest_length, rest_moved};
 ghost use Rattle.text.specs.Text.{whole};
@@ -158,10 +158,13 @@ impl Run {
     {
         match self.stage {
             Stage::Entries => self.entries_line(s),
-            Stage::Opening => {
-                let outcome = open_line(self.chart, table, s);
-                self.step(outcome);
-            }
+            Stage::Opening => match open_line(self.chart, table, s) {
+                Ok(watch) => {
+                    self.watch = watch;
+                    self.step(Ok(watch));
+                }
+                Err(refusal) => self.step(Err(refusal)),
+            },
             Stage::Calls => {
                 let outcome = call_line(self.chart, self.watch, table, s);
                 self.step(outcome);
@@ -194,17 +197,24 @@ impl Run {
         }
     }
 
-    // Goes on to the log's next line with the watch that the line's call gives, or is refused at the line.
+    // Goes on to the log's next line with the watch that the line's call gives, or is refused at the line. No call alters the entries: they are left where they are,
+    // so that their 32 instants are not copied for each line.
     #[tactic(auto, unfolding(crate::specs::Runs::answered_run, crate::specs::Runs::next_run))]
     fn step(&mut self, outcome: Result<Watch, Refusal>)
-        requires { self.old.line + 1 < 2 ^ 64 }
+        requires { (self.old.line + 1 < 2 ^ 64) × IfOk outcome (λ w. (w.state.entries ≡ self.old.watch.state.entries) × (w.state.since ≡ self.old.watch.state.since)) }
         ensures { self.new ≡ answered_run self.old (answer_of self.old.watch.state outcome) }
     {
         match outcome {
             Ok(watch) => {
+                let next = watch.state;
                 self.stage = Stage::Calls;
                 self.line += 1;
-                self.watch = watch;
+                self.watch.state.instant = next.instant;
+                self.watch.state.floor = next.floor;
+                self.watch.state.events = next.events;
+                self.watch.state.rows = next.rows;
+                self.watch.state.pending = next.pending;
+                self.watch.state.codes.copy_from_slice(&next.codes);
             }
             Err(refusal) => self.refuse(refusal, self.line + 1),
         }

@@ -1,8 +1,9 @@
 -- Laws of specs/Spelling.antt for plain numbers and for signs: a number is read back from its spelling, it has no other spelling, how large both can be,
--- and what C is told of what is written. Lengths and instants are in Tenths.antt.
+-- and what is written of a spelling. Lengths and instants are in Tenths.antt.
 use mathlib.Core.Path.{◌≡◌, refl, sym, ap, ◌∙◌}
 use mathlib.Core.Bool.{Bool, true, false, not, cond, ◌&&◌, and-false}
 use mathlib.Core.List.{List, [], ◌∷◌, ◌++◌, append-nil}
+use mathlib.Core.Logic.{⊎_elim}
 use Rattle.std.proofs.Common.{Some, None}
 use Rattle.std.specs.Option.{unwrap_or}
 use Prim.Native.Nat.{ℕ, zero, suc, ◌+◌, ◌*◌, ◌-◌, ◌/◌, ◌%◌, ◌^◌, ◌<◌, ◌≤◌}
@@ -11,14 +12,14 @@ use native.Mathlib.Nat.{zero-add, lt_of_lt_of_le, pow-le-pow_right}
 use lib.Dec.{eqb, leb, ltb}
 use lib.Signed.{nat_abs-le}
 use lib.IntN.{ℤ, pos, negsuc, nat_abs}
-use lib.ListN.{length, get_or}
+use lib.ListN.{length, get_or, drop}
 use lib.Seq.{append_snoc}
 use mir.Syntax.{w32}
 use mir.Val.{SFits}
-use borrow.Author.Tests.{lt-ltb, le-leb, ne_eqb, ltb-true, leb-true, eqb-false, not-true}
+use borrow.Author.Tests.{lt-ltb, le-leb, lt-leb, ne_eqb, ltb-true, leb-true, eqb-false, not-true}
 use Rattle.interval.proofs.Signed.{and_first, and_second}
-use Rattle.text.proofs.Laws.{lacks}
-use Rattle.decimal.specs.Spelling.{is_digit, all_digits, value_from, digits_value, has_leading_zero, is_number, number_of, digit, spelled_number, signed, spelled, written, written_length}
+use Rattle.text.proofs.Laws.{lt_or_le, lacks}
+use Rattle.decimal.specs.Spelling.{is_digit, all_digits, value_from, digits_value, has_leading_zero, is_number, number_of, digit, spelled_number, signed, spelled, written, written_length, written_output}
 use Rattle.decimal.proofs.Digits.{digit_least, digit_most, digits_lack, spelled_small, spelled_large, spelled_value, spelled_digits, spelled_nonempty, spelled_first, length_most, value_below}
 
 -- What a number's spelling tells.
@@ -160,6 +161,30 @@ integer_length_most z f = signed_most spelled_number 10 z (length_most 9 (nat_ab
 
 pub spelled_lacks : (x : ℕ) → x < 45 → (z : ℤ) → lacks x (spelled z) ≡ true
 spelled_lacks x h z = signed_lacks spelled_number x h (spelled_number_lacks x (omega arith)) z
+
+-- What is written of a spelling: all of it where the output has room, else nothing.
+module _ (s out : List ℕ) where
+  pub written_length_all : length s ≤ length out → written_length s out ≡ length s
+  unfolding written_length
+  written_length_all h = rw (le-leb (length s) (length out) h)
+
+  pub written_output_all : length s ≤ length out → written_output s out ≡ s ++ drop (length s) out
+  unfolding written_output
+  written_output_all h = rw (le-leb (length s) (length out) h)
+
+  pub written_none : length out < length s → (0 ≡ written_length s out) × (out ≡ written_output s out)
+  unfolding written_length written_output
+  written_none h = rw (lt-leb (length s) (length out) h) (refl, refl)
+
+  pub written_length_most : written_length s out ≤ length out
+  written_length_most =
+      ⊎_elim (λ h. omega (arith, (written_none h).0)) (λ h. omega (arith, written_length_all h)) (lt_or_le (length out) (length s))
+
+  pub was_short : 1 ≤ length s → written_length s out ≡ 0 → length out < length s
+  was_short l e = ⊎_elim (λ h. h) (λ h. absurd (omega (arith, written_length_all h))) (lt_or_le (length out) (length s))
+
+  pub had_room : (written_length s out ≡ 0 → ⊥) → length s ≤ length out
+  had_room e = ⊎_elim (λ h. absurd (e (sym (written_none h).0))) (λ h. h) (lt_or_le (length out) (length s))
 
 -- What C is told of what is written: 0 where nothing is.
 pub written_or_none : (s out : List ℕ) → unwrap_or (written s out) 0 ≡ written_length s out

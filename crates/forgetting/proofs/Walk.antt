@@ -124,6 +124,9 @@ module _ {event : ℕ → Bool} (f : ℤ) {rows : ℕ} {t₀ : List ℤ} (ok : R
         go (yes q) = rw (q, own_mark) (pos_above (nat_abs (cell t i 0) + m), omega (arith, w.count, w.low, small))
         go (no d) = rw (set_cell t i mark j 0 (omega arith) d) (w.marks j (omega arith))
 
+    pub walk_small : (e : ℕ) → e ≡ nat_abs (cell t i 0) → e < 32
+    walk_small e x = rw x small
+
     pub walk_asks : (e : ℕ) (b : Bool) (u : List ℤ) → e ≡ nat_abs (cell t i 0) → b ≡ event e → u ≡ after → Movable b i p e u
     walk_asks e b u x q y = rw (q, x, y) (record {
       few = omega (arith, ok.few);

@@ -60,7 +60,7 @@ fn keep_rows(arities: &[u8; 32], table: &mut [i32], first: usize, rows: usize, f
     for i in first..rows {
         let entry = mark_row(table, i, (i - kept) * 32);
         if !is_early(table, i, floor) {
-            move_row(arities, table, i, kept, entry);
+            move_row(table, i, kept, entry, arities[entry] == 0);
             kept += 1;
         }
     }
@@ -79,13 +79,13 @@ fn mark_row(table: &mut [i32], i: usize, mark: usize) -> usize
 
 // Writes row i, of this entry, with its references renumbered, at place p, which keeps its mark. The left number of an event's row is a
 // serial and stays.
-fn move_row(arities: &[u8; 32], table: &mut [i32], i: usize, p: usize, entry: usize)
-    requires { Movable (event_in arities.now entry) i p entry table.old }
-    ensures { table.new ≡ put_row p (moved_row (event_in arities.now entry) i p entry table.old) table.old }
+fn move_row(table: &mut [i32], i: usize, p: usize, entry: usize, event: bool)
+    requires { Movable event i p entry table.old }
+    ensures { table.new ≡ put_row p (moved_row event i p entry table.old) table.old }
 {
     let mut row = table::row_at(table, i);
     row.entry = (entry + shift_at(table, p) * 32) as i32;
-    if arities[entry] != 0 {
+    if !event {
         row.left = place_of(row.left, table);
         row.right = place_of(row.right, table);
     }

@@ -1,14 +1,15 @@
 -- Laws of lines and fields: the first byte 10 or tab cuts off the first line or field. Upper crates go by these and open no definition.
 use Prim.Native.Nat.{ℕ, zero, suc, ◌+◌, ◌-◌, ◌≤◌, ◌<◌, min}
 use native.Mathlib.Omega.{arith}
+use native.Mathlib.Numerals.{add-one}
 use mathlib.Core.Path.{◌≡◌, refl, sym, ap, ap₂, ◌∙◌}
 use mathlib.Core.Bool.{Bool, true, false, cond}
 use mathlib.Core.Logic.{◌⊎◌, inl, inr, ⊎_elim}
 use mathlib.Core.List.{List, [], ◌∷◌, ◌++◌, append-nil, append_assoc}
-use borrow.Author.Tests.{eq-eqb, eqb-true, lt-ltb, le-ltb, ltb-true}
+use borrow.Author.Tests.{eq-eqb, ne_eqb, eqb-true, lt-ltb, le-ltb, ltb-true}
 use lib.Dec.{eqb}
-use lib.ListN.{length, take, drop, length-take, length-drop}
-use lib.Seq.{take_all, length-take-le, drop-drop}
+use lib.ListN.{length, take, drop, get_or, drop_of_length-le, length-take, length-drop}
+use lib.Seq.{drop-cons, take_all, length-take-le, drop-drop}
 use Rattle.std.specs.Prelude.{Option, Some, None}
 pub use Rattle.std.proofs.lemmas.Bool.{cases_lt as lt_or_le}
 use Rattle.std.proofs.lemmas.List.{take_rest}
@@ -16,6 +17,23 @@ use Rattle.std.proofs.lemmas.Option.{cond_some, none-some}
 use Rattle.std.specs.List.{position, position_or_len}
 use Rattle.std.proofs.lemmas.List.Recursion.{is_position_or_len}
 use Rattle.text.specs.Text.{index_of, found_at, split, in_front, Line, whole, broken, ended, lines, is_record, line_size}
+
+-- the search goes on from place i
+pub index_hit : (x : ℕ) (s : List ℕ) (i : ℕ) → i < length s → get_or s i 0 ≡ x → index_of x (drop i s) ≡ 0
+unfolding index_of
+index_hit x s i h e = rw (drop-cons s i 0 h, eq-eqb _ _ e)
+
+pub index_on : (x : ℕ) (s : List ℕ) (i : ℕ) → i < length s → (get_or s i 0 ≡ x → ⊥) → index_of x (drop i s) ≡ suc (index_of x (drop (i + 1) s))
+unfolding index_of
+index_on x s i h e = rw (drop-cons s i 0 h, ne_eqb _ _ e, add-one)
+
+-- what was passed and what is left make the whole, also one byte on
+pub index_step : (x : ℕ) (s : List ℕ) (i k : ℕ) → i + index_of x (drop i s) ≡ index_of x s → k ≡ i + 1 → i < length s → (get_or s i 0 ≡ x → ⊥) → k + index_of x (drop k s) ≡ index_of x s
+index_step x s i k p q h e = rw q (omega (arith, index_on x s i h e))
+
+pub index_none : (x : ℕ) (s : List ℕ) (i : ℕ) → length s ≤ i → index_of x (drop i s) ≡ 0
+unfolding index_of
+index_none x s i h = rw (drop_of_length-le s h)
 
 -- a search goes no further than the length, and is the same in a part at the front where it finds something there
 pub index_le : (x : ℕ) (s : List ℕ) → index_of x s ≤ length s
@@ -307,6 +325,14 @@ size_none s h = simp (le-ltb _ _ h)
 pub size_told : (s : List ℕ) (n : ℕ) → line_size s ≡ Some n → (index_of 10 (take 64 s) + 1 ≡ n) × (n ≤ length (take 64 s))
 unfolding line_size
 size_told s n e = let t = cond_some _ _ _ e in (t.1, omega (arith, t.1, ltb-true _ _ t.0))
+
+-- the window of at most 64 bytes
+pub window_is : (s : List ℕ) → take (min 64 (length s)) s ≡ take 64 s
+window_is s =
+    ⊎_elim
+    (λ h. take_all (min 64 (length s)) s (omega arith) ∙ sym (take_all 64 s (omega arith)))
+    (λ h. let m : min 64 (length s) ≡ 64 = omega arith in ap (λ n. take n s) m)
+    (lt_or_le (length s) 64)
 
 -- a search in the window of at most 64 bytes tells it
 module _ (s : List ℕ) {n : ℕ} {r : Option ℕ} (m : n ≡ min (length s) 64) (e : r ≡ found_at 10 (take n s)) where

@@ -87,6 +87,13 @@ module _ (room : Bool) (s out : List ℕ) where
   unfolding output_where
   output_no_room e = rw e
 
+-- The same as the code answers it: nothing written, and the text written at the front.
+pub none_where : {room : Bool} (s out : List ℕ) → room ≡ false → (0 ≡ length_where room s) × (out ≡ output_where room s out)
+none_where {room} s out e = (sym (length_no_room room s out e), sym (output_no_room room s out e))
+
+pub text_where : {room : Bool} (s out : List ℕ) {r : ℕ} {l : List ℕ} → room ≡ true → length s ≤ length out → (r ≡ 0 + length s) × (l ≡ sets out 0 s) → (r ≡ length_where room s) × (l ≡ output_where room s out)
+text_where {room} s out e h w = (omega (arith, w.0, length_room room s out e), w.1 ∙ front_written out s h ∙ sym (output_room room s out e))
+
 -- An output that keeps its length has room for what is answered.
 pub front_within : (room : Bool) (s out : List ℕ) → length (output_where room s out) ≡ length out → length_where room s ≤ length out
 unfolding length_where output_where

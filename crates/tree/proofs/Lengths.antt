@@ -3,7 +3,7 @@ use Prim.Native.Nat.{ℕ, zero, suc, ◌+◌, ◌-◌, ◌≤◌, ◌<◌}
 use native.Mathlib.Omega.{arith}
 use mathlib.Core.Path.{◌≡◌, refl, sym, ◌∙◌}
 use mathlib.Core.Bool.{Bool, true, false, cond}
-use mathlib.Core.List.{List, [], ◌∷◌, ◌++◌}
+use mathlib.Core.List.{List, [], ◌∷◌, ◌++◌, map}
 use Rattle.std.specs.Prelude.{Option, Some, None}
 use Rattle.std.specs.Option.{SomeIff}
 use lib.Dec.{leb}
@@ -12,8 +12,10 @@ use lib.ListN.{length, length-append}
 use lib.Signed.{lt_z}
 use borrow.Author.Tests.{ltb-true, leb-true, leb-false, le-leb, lt-leb}
 use Rattle.decimal.proofs.Laws.{spelled_length_least}
+use Rattle.model.specs.Recognitions.{Operator}
 use Rattle.table.specs.Table.{cell}
-use Rattle.tree.specs.Tree.{arity_at, row_bytes, reference_bytes, tree_within, tree_over, length_within}
+use Rattle.table.specs.Operators.{arity_of}
+use Rattle.tree.specs.Tree.{arity_at, row_bytes, reference_bytes, tree_within, tree_over, tree_bytes, length_within}
 use Rattle.tree.specs.Following.{rest_of}
 
 row_some : (a : ℕ) (s : ℤ) (l r : List ℕ) → 2 ≤ length (row_bytes a s l r)
@@ -26,6 +28,10 @@ row_some (suc (suc a)) s l r = simp length-append (omega arith)
 over_some : (arities : List ℕ) (t : List ℤ) (i : ℕ) → 2 ≤ length (tree_over arities t i)
 unfolding tree_within
 over_some arities t i = row_some (arity_at arities t i) (cell t i 1) _ _
+
+pub tree_some : (ops : List Operator) (t : List ℤ) (i : ℕ) → 2 ≤ length (tree_bytes ops t i)
+unfolding tree_bytes
+tree_some ops t i = over_some (map arity_of ops) t i
 
 pub reference_some : (arities : List ℕ) (t : List ℤ) (z : ℤ) → 1 ≤ length (reference_bytes (tree_over arities t) z)
 unfolding reference_bytes

@@ -1,7 +1,8 @@
 -- `read_call` meets its contract: the word in front says what is read behind it, and no word in front is no call.
-use Rattle.std.proofs.Common.{sym, ap, ◌∙◌, arith}
+use Rattle.std.proofs.Common.{rules, ◌≡◌, sym, ap, ◌∙◌, arith}
 use Rattle.std.proofs.lemmas.Grind.{common_steps}
 use borrow.Author.Tests.{le-leb, lt-leb}
+use Rattle.decimal.specs.Spelling.{instant_of}
 use Rattle.log_line.specs.declared.Call.{Call}
 use Rattle.log_line.specs.Log.{open_word, event_word, clock_word, forget_word, event_call, instant_call, word_call}
 use Rattle.log_line.proofs.Laws.{answered, word_found, word_missed, instant_mapped, no_call, open_word_lem, event_word_lem, clock_word_lem, forget_word_lem}
@@ -23,7 +24,7 @@ pub returns-in-Some-strip_prefix : goal.returns-in-Some-strip_prefix
 unfolding word_call
 returns-in-Some-strip_prefix c =
     let d = c.in-Some-strip_prefix.ensures.cases in
-    let i = c.read_instant.ensures in
+    let i : c.read_instant.result ≡ instant_of c.in-Some-strip_prefix.instant.now = search rules in
     answered _ _ (word_found clock_word_lem _ _ d.0 d.1 ∙ ap (instant_call Call.Clock) (sym i) ∙ instant_mapped Call.Clock _ c.map-in-Some-strip_prefix.ensures.cases)
 
 pub returns-in-Some-strip_prefix-2 : goal.returns-in-Some-strip_prefix-2

@@ -1,6 +1,7 @@
 -- `rest_behind` meets its contract: the references of a row are lower, so that the row's number falls; what is left behind a row is what is left behind its
 -- delimiters and its references.
 use Rattle.std.proofs.Common.{rules, ◌≡◌, ◌∙◌, sym, ap, ℕ, ◌+◌, List, length, ℤ, arith, w32, to_z, of_z}
+use Rattle.decimal.specs.Spelling.{spelled}
 use Rattle.tree.specs.Tree.{reference_bytes, tree_over}
 use Rattle.tree.specs.Following.{rest_of}
 use Rattle.tree.proofs.References.{known}
@@ -16,7 +17,7 @@ pub returns-in-Event : goal.returns-in-Event
 returns-in-Event t c =
     let serial : to_z w32 (of_z w32 c.in-Event.serial) ≡ c.in-Event.serial = search rules in
     let event = known _ _ _ c.requires c.ranges.z c.if-z-lt0.false _ c.in-Event.ensures in
-    rest_is c.args.limit _ _ c.checked_sub-in-Event.ensures ∙ ap (rest_of c.args.limit) (ap (λ n. 1 + n) (rw serial at c.integer_length.ensures) ∙ sym (ap length event ∙ omega arith))
+    rest_is c.args.limit _ _ c.checked_sub-in-Event.ensures ∙ ap (rest_of c.args.limit) (omega (arith, ap (λ s. length (spelled s)) serial, ap length event))
 
 pub returns-in_err-checked_sub-in-One : goal.returns-in_err-checked_sub-in-One
 returns-in_err-checked_sub-in-One t c =

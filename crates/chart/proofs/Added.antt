@@ -100,6 +100,15 @@ module _ (c : Chart) (s : List ℕ) where
   unfolding read_added
   added_number = refl
 
+  pub added_line : (read_added c s).line ≡ (added_verdict c.count (lines s)).line
+  unfolding read_added
+  added_line = refl
+
+  -- refused: "the old chart" stays
+  pub added_refused : ((read_added c s).refusal ≡ 0 → ⊥) → (read_added c s).chart ≡ c
+  unfolding read_added
+  added_refused d = rw (ne_eqb _ _ d)
+
   pub added_taken : (read_added c s).refusal ≡ 0 → read_added c s ≡ taken_chart (with_entries c (entries_of c.count (lines s)))
   unfolding read_added
   added_taken z =

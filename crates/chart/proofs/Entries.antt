@@ -6,7 +6,7 @@ use native.Mathlib.Nat.{add-zero}
 use native.Mathlib.Numerals.{add-one}
 use mathlib.Core.Path.{◌≡◌, refl, sym, ap, ap₂, ◌∙◌}
 use mathlib.Core.List.{List, [], ◌∷◌, ◌++◌, append-nil, append_assoc}
-use lib.ListN.{length, get_or, take, drop, replicate, length-append, length-replicate, take-append-drop, get_or-replicate, get_or-append}
+use lib.ListN.{length, get_or, take, drop, replicate, length-append, length-drop, length-replicate, take-append-drop, get_or-replicate, get_or-append}
 use lib.Seq.{length-take-le, take-append-le, take_at, append_snoc, drop-append-add, get_or-append-add, get_or-take, drop-drop, set_split}
 use Rattle.chart.specs.Records.{entry}
 use Rattle.chart.specs.Charts.{with_entry, with_entries, entry_at}
@@ -55,6 +55,13 @@ module _ (c : Chart) (es : List Entry) where
       get_or-append (own_entries c ++ es) _ _ (c.count + i) (omega (arith, front_length))
       ∙ ap (λ n. get_or (own_entries c ++ es) (n + i) (entry 0 0 0)) (sym (own_length c))
       ∙ get_or-append-add (own_entries c) es i (entry 0 0 0)
+
+  -- a list of 32 keeps its length
+  pub added_size : length c.entries ≡ 32 → c.count + length es ≤ 32 → length (with_entries c es).entries ≡ 32
+  unfolding with_entries
+  added_size h g =
+      let rest = drop (c.count + length es) c.entries in
+      omega (arith, length-append (own_entries c ++ es) rest, front_length, length-drop (c.count + length es) c.entries)
 
   -- added twice is added once
   pub added_twice : (fs : List Entry) → with_entries (with_entries c es) fs ≡ with_entries c (es ++ fs)

@@ -1,3 +1,4 @@
 pub mod Checking
 pub mod Pieces
 pub mod Counting
+pub mod Examples

@@ -12,8 +12,6 @@ use lib.Seq.{drop-drop, drop-length}
 use Rattle.std.specs.Prelude.{Option, Some, None, Ok, Err, is_ok}
 use Rattle.interval.specs.Instants.{is_instant, is_mark_refused}
 use Rattle.refusal.specs.Numbers.{number_of}
-use Rattle.refusal.specs.declared.Refusal.{Refusal}
-use Rattle.refusal.specs.declared.Refusal.TheVariants.{MalformedCall, InstantRefused, ForgetMerged}
 use Rattle.text.specs.Text.{index_of, line_size, joined}
 use Rattle.text.proofs.Laws.{size_le, lines_none, first_part}
 use Rattle.log_line.specs.Log.{call_of, call_in, calls_of}
@@ -22,6 +20,7 @@ use Rattle.log_line.specs.declared.Call.TheVariants as log
 use Rattle.logs.specs.Logs.{refusal, opening_refusal, line_refusal, instant_after, lines_refusal, opened_by, opened_in, log_refusal}
 use Rattle.checking.specs.Checks.{State, check_of, start_check, call_checked, check_call, check_calls, ended_at, end_check, fed_to, fed_rest, fed_from, fed_check, finished_check, fed_all, verdict_of, opened_of}
 use Rattle.checking.specs.Statements.{ChecksHold}
+use Rattle.checking.specs.declared.Refused.{Refused}
 use Rattle.checking.specs.declared.Check.{Check}
 use Rattle.checking.specs.declared.Fed.{Fed}
 use Rattle.log_line.proofs.ReadBack.{calls_first, calls_long, calls_last}
@@ -158,7 +157,7 @@ pieces_well c kept (p ∷ ps) z =
 abbrev going : ℕ → ℤ → ℤ → Check
 going line o t = check_of line (Ok (Some (record { opened = o; reached = t })))
 
-stopped_verdict : (line : ℕ) (r : Refusal) (ds : List (Option Call)) → verdict_of (end_check (check_calls (check_of line (Err r)) ds)) ≡ refusal (number_of r) line
+stopped_verdict : (line : ℕ) (r : Refused) (ds : List (Option Call)) → verdict_of (end_check (check_calls (check_of line (Err r)) ds)) ≡ refusal (number_of r.refusal) line
 stopped_verdict line r ds = ap (λ c. verdict_of (end_check c)) (stopped_calls (check_of line (Err r)) ds tt)
 
 lines_verdict : (line : ℕ) (o t : ℤ) (ds : List (Option Call)) → verdict_of (end_check (check_calls (going line o t) ds)) ≡ lines_refusal t (line + 1) ds
@@ -170,15 +169,15 @@ lines_verdict line o t (d ∷ ds) = go d (λ u. lines_verdict (line + 1) o u ds)
     next = omega arith
 
     go : (d : Option Call) → ((u : ℤ) → verdict_of (end_check (check_calls (going (line + 1) o u) ds)) ≡ lines_refusal u (line + 1 + 1) ds) → verdict_of (end_check (check_calls (check_call (going line o t) d) ds)) ≡ cond (eqb (line_refusal t d) 0) (lines_refusal (instant_after t d) (suc (line + 1)) ds) (refusal (line_refusal t d) (line + 1))
-    go (Some (log.Open x)) f = stopped_verdict (line + 1) MalformedCall ds
-    go None f = stopped_verdict (line + 1) MalformedCall ds
+    go (Some (log.Open x)) f = stopped_verdict (line + 1) _ ds
+    go None f = stopped_verdict (line + 1) _ ds
     go (Some (log.Event k)) f = f t ∙ ap (λ n. lines_refusal t n ds) (sym next)
-    go (Some (log.Forget x)) f = stopped_verdict (line + 1) ForgetMerged ds
+    go (Some (log.Forget x)) f = stopped_verdict (line + 1) _ ds
     go (Some (log.Clock u)) f = marked (is_mark_refused t u) refl
       where
         marked : (b : Bool) → is_mark_refused t u ≡ b → verdict_of (end_check (check_calls (check_call (going line o t) (Some (log.Clock u))) ds)) ≡ cond (eqb (cond b 8 0) 0) (lines_refusal u (suc (line + 1)) ds) (refusal (cond b 8 0) (line + 1))
         marked false e = rw e (f u ∙ ap (λ n. lines_refusal u n ds) (sym next))
-        marked true e = rw e (stopped_verdict (line + 1) InstantRefused ds)
+        marked true e = rw e (stopped_verdict (line + 1) _ ds)
 
 log_verdict : (ds : List (Option Call)) → verdict_of (end_check (check_calls start_check ds)) ≡ log_refusal ds
 unfolding check_calls log_refusal opening_refusal opened_by
@@ -187,11 +186,11 @@ log_verdict (Some (log.Open o) ∷ ds) = opened (is_instant o) refl
   where
     opened : (b : Bool) → is_instant o ≡ b → verdict_of (end_check (check_calls (check_call start_check (Some (log.Open o))) ds)) ≡ cond (eqb (cond b 0 8) 0) (lines_refusal o 2 ds) (refusal (cond b 0 8) 1)
     opened true e = rw e (lines_verdict 1 o o ds)
-    opened false e = rw e (stopped_verdict 1 InstantRefused ds)
-log_verdict (None ∷ ds) = stopped_verdict 1 MalformedCall ds
-log_verdict (Some (log.Event k) ∷ ds) = stopped_verdict 1 MalformedCall ds
-log_verdict (Some (log.Clock t) ∷ ds) = stopped_verdict 1 MalformedCall ds
-log_verdict (Some (log.Forget f) ∷ ds) = stopped_verdict 1 MalformedCall ds
+    opened false e = rw e (stopped_verdict 1 _ ds)
+log_verdict (None ∷ ds) = stopped_verdict 1 _ ds
+log_verdict (Some (log.Event k) ∷ ds) = stopped_verdict 1 _ ds
+log_verdict (Some (log.Clock t) ∷ ds) = stopped_verdict 1 _ ds
+log_verdict (Some (log.Forget f) ∷ ds) = stopped_verdict 1 _ ds
 
 -- the opening instant stays
 abbrev Stays : ℤ → State → Type 0
@@ -228,7 +227,7 @@ stays_opened c o h = go c.state h
     go (Ok (Some i)) h z = ap Some h
     go (Err r) h z = cc
 
-stopped_opened : {P : Type 0} (line : ℕ) (r : Refusal) (ds : List (Option Call)) → is_ok (end_check (check_calls (check_of line (Err r)) ds)).state ≡ true → P
+stopped_opened : {P : Type 0} (line : ℕ) (r : Refused) (ds : List (Option Call)) → is_ok (end_check (check_calls (check_of line (Err r)) ds)).state ≡ true → P
 stopped_opened line r ds z = let e = ap (λ c. is_ok (end_check c).state) (stopped_calls (check_of line (Err r)) ds tt) in cc
 
 log_opened : (ds : List (Option Call)) → is_ok (end_check (check_calls start_check ds)).state ≡ true → opened_of (end_check (check_calls start_check ds)).state ≡ Some (opened_in ds)
@@ -238,11 +237,11 @@ log_opened (Some (log.Open o) ∷ ds) z = opened (is_instant o) refl z
   where
     opened : (b : Bool) → is_instant o ≡ b → is_ok (end_check (check_calls (check_call start_check (Some (log.Open o))) ds)).state ≡ true → opened_of (end_check (check_calls (check_call start_check (Some (log.Open o))) ds)).state ≡ Some o
     opened true e = rw e (stays_opened (check_calls (going 1 o o) ds) o (calls_stay (going 1 o o) ds o refl))
-    opened false e = rw e (stopped_opened 1 InstantRefused ds)
-log_opened (None ∷ ds) z = stopped_opened 1 MalformedCall ds z
-log_opened (Some (log.Event k) ∷ ds) z = stopped_opened 1 MalformedCall ds z
-log_opened (Some (log.Clock t) ∷ ds) z = stopped_opened 1 MalformedCall ds z
-log_opened (Some (log.Forget f) ∷ ds) z = stopped_opened 1 MalformedCall ds z
+    opened false e = rw e (stopped_opened 1 _ ds)
+log_opened (None ∷ ds) z = stopped_opened 1 _ ds z
+log_opened (Some (log.Event k) ∷ ds) z = stopped_opened 1 _ ds z
+log_opened (Some (log.Clock t) ∷ ds) z = stopped_opened 1 _ ds z
+log_opened (Some (log.Forget f) ∷ ds) z = stopped_opened 1 _ ds z
 
 pub checks_hold : ChecksHold
 checks_hold pieces =

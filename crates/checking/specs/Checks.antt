@@ -11,12 +11,16 @@ use Rattle.log_line.specs.declared.Call.{Call}
 use Rattle.log_line.specs.declared.Call.TheVariants as log
 use Rattle.logs.specs.Logs.{Refusal, refusal}
 use Rattle.checking.specs.declared.Instants.{Instants}
+use Rattle.checking.specs.declared.Refused.{Refused}
 use Rattle.checking.specs.declared.Check.{Check}
 use Rattle.checking.specs.declared.Fed.{Fed}
 
--- a log's instants, none before its first line, or why it was refused
+-- a log's instants, none before its first line, or why it was refused, with the instants up to that line
 abbrev pub State : Type 0
-State = Result (Option Instants) why.Refusal
+State = Result (Option Instants) Refused
+
+abbrev pub refused_by : why.Refusal → Option Instants → State
+refused_by r i = Err (record { refusal = r; instants = i })
 
 abbrev pub check_of : ℕ → State → Check
 check_of line state = record { line = line; state = state }
@@ -52,12 +56,13 @@ abbrev pub state_after : Option Instants → Option Call → Result Instants why
 state_after None d = first_check d
 state_after (Some i) d = later_check i d
 
-abbrev pub begun : Result Instants why.Refusal → State
-begun (Ok i) = Ok (Some i)
-begun (Err r) = Err r
+-- a line that is refused leaves the instants as they were
+abbrev pub begun : Option Instants → Result Instants why.Refusal → State
+begun i (Ok j) = Ok (Some j)
+begun i (Err r) = refused_by r i
 
 abbrev pub call_checked : ℕ → State → Option Call → Check
-call_checked line (Ok i) d = check_of (line + 1) (begun (state_after i d))
+call_checked line (Ok i) d = check_of (line + 1) (begun i (state_after i d))
 call_checked line (Err r) d = check_of line (Err r)
 
 abbrev pub check_call : Check → Option Call → Check
@@ -69,7 +74,7 @@ check_calls c (d ∷ ds) = check_calls (check_call c d) ds
 
 -- no line comes any more
 abbrev pub ended_at : ℕ → State → Check
-ended_at line (Ok None) = check_of (line + 1) (Err MalformedCall)
+ended_at line (Ok None) = check_of (line + 1) (refused_by MalformedCall None)
 ended_at line (Ok (Some i)) = check_of line (Ok (Some i))
 ended_at line (Err r) = check_of line (Err r)
 
@@ -106,7 +111,7 @@ fed_all c kept (piece ∷ pieces) =
 -- what a log that has ended was turned away for
 abbrev pub turned_away : ℕ → State → Refusal
 turned_away line (Ok i) = refusal 0 0
-turned_away line (Err r) = refusal (number_of r) line
+turned_away line (Err r) = refusal (number_of r.refusal) line
 
 abbrev pub verdict_of : Check → Refusal
 verdict_of c = turned_away c.line c.state

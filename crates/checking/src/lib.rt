@@ -16,11 +16,18 @@ pub struct Instants {
     pub reached: i64,
 }
 
+// Why a log was refused, and its instants up to that line, none where it was its first.
+#[derive(Clone, Copy, PartialEq, Eq)]
+pub struct Refused {
+    pub refusal: Refusal,
+    pub instants: Option<Instants>,
+}
+
 // A log so far: how many lines it has, or the line refused; and its instants, none before its first line, or why it was refused.
 #[derive(Clone, Copy, PartialEq, Eq)]
 pub struct Check {
     pub line: u64,
-    pub state: Result<Option<Instants>, Refusal>,
+    pub state: Result<Option<Instants>, Refused>,
 }
 
 // A log after some bytes, and how many of them it needs no more.
@@ -90,7 +97,9 @@ impl Check {
         };
         Check {
             line: self.line + 1,
-            state: next.map(Some),
+            state: next
+                .map(Some)
+                .map_err(|refusal| Refused { refusal, instants }),
         }
     }
 }

@@ -123,20 +123,20 @@ refused {before} {after} {t} {u} {r} f d e =
     }
 
 -- a piece in a buffer, behind the bytes kept: the run over both, and what is moved to the front
-module _ (p : Progress) (buf : List ℕ) (kept n : ℕ) where
+module _ (p : Progress) (buf : List ℕ) (kept n end : ℕ) (same : end ≡ kept + n) where
   abbrev all : List ℕ
-  all = take (kept + n) buf
+  all = take end buf
 
   both : between p all ≡ fed (record { progress = p; kept = take kept buf }) (take n (drop kept buf))
-  both = ap (between p) (take-add kept n buf) ∙ sym (fed_one (record { progress = p; kept = take kept buf }) (take n (drop kept buf)))
+  both = ap (λ m. between p (take m buf)) same ∙ ap (between p) (take-add kept n buf) ∙ sym (fed_one (record { progress = p; kept = take kept buf }) (take n (drop kept buf)))
 
   pub piece_fed : after_bytes p all ≡ (fed (record { progress = p; kept = take kept buf }) (take n (drop kept buf))).progress
   piece_fed = ap (λ b. b.progress) both
 
-  pub piece_kept : kept + n ≤ length buf → (f : Run) (u : List ℤ) (used rest : ℕ) (out : List ℕ) → record { run = f; table = u } ≡ after_bytes p all → used ≤ length all → drop used all ≡ kept_of (after_bytes p all) all → rest ≡ rest_length used (kept + n) buf → out ≡ rest_moved used (kept + n) buf → held f u rest out ≡ fed (record { progress = p; kept = take kept buf }) (take n (drop kept buf))
+  pub piece_kept : end ≤ length buf → (f : Run) (u : List ℤ) (used : ℕ) (rest out : List ℕ) → record { run = f; table = u } ≡ after_bytes p all → used ≤ length all → drop used all ≡ kept_of (after_bytes p all) all → rest ≡ take (rest_length used end buf) out → out ≡ rest_moved used end buf → record { progress = record { run = f; table = u }; kept = rest } ≡ fed (record { progress = p; kept = take kept buf }) (take n (drop kept buf))
   piece_kept h f u used rest out e g k d o =
-      ap (λ x. record { progress = x; kept = take rest out }) e
-      ∙ ap (λ x. record { progress = after_bytes p all; kept = x }) (ap (λ x. take x out) d ∙ ap (take (rest_length used (kept + n) buf)) o ∙ rest_front buf (kept + n) h used g ∙ k)
+      ap (λ x. record { progress = x; kept = rest }) e
+      ∙ ap (λ x. record { progress = after_bytes p all; kept = x }) (d ∙ ap (take (rest_length used end buf)) o ∙ rest_front buf end h used g ∙ k)
       ∙ both
 
 -- a run that was played to the end can be printed

@@ -139,3 +139,12 @@ call_length c out = cond (leb line_most (length out) && has_line c) (Some (lengt
 
 abbrev pub call_output : Call → List ℕ → List ℕ
 call_output c out = output_where (leb line_most (length out)) (line_of c) out
+
+-- of what a line asks for: where it asks for no call there is nothing to write
+abbrev pub asked_length : Option Call → List ℕ → Option ℕ
+asked_length None out = None
+asked_length (Some c) out = call_length c out
+
+abbrev pub asked_output : Option Call → List ℕ → List ℕ
+asked_output None out = out
+asked_output (Some c) out = call_output c out

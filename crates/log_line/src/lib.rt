@@ -5,7 +5,7 @@ ghost use Rattle.std.specs.Prelude.{◌≡◌, ◌∷◌, [], ◌++◌, ◌+◌,
 ghost use Rattle.std.proofs.lemmas.List.Edits.{sets};
 ghost use Rattle.interval.specs.Instants.{is_instant};
 ghost use Rattle.decimal.specs.Spelling.{spelled_instant};
-ghost use Rattle.log_line.specs.Log.{call_of, answer_of, line_answer, call_length, call_output};
+ghost use Rattle.log_line.specs.Log.{call_of, answer_of, line_answer, asked_length, asked_output};
 
 use decimal::{Instant, Spelled};
 
@@ -52,11 +52,13 @@ pub fn read_call(s: &[u8]) -> Option<Call>
 }
 
 // Writes the line of a call, with its byte 10, at the front of the output and returns the number of bytes; None, and nothing is written, where the output has no
-// room for the longest line, and of a call whose number is no instant. Each byte is written once, with one division by 10 for each digit but the first.
+// room for the longest line, of a call whose number is no instant, and of None, which a line that is not of its form asks for. Each byte is written once, with one
+// division by 10 for each digit but the first.
 #[tactic(auto, using(crate::proofs::Writing::event_few))]
-pub fn write_call(call: Call, out: &mut [u8]) -> Option<usize>
-    ensures { (result ≡ call_length call out.old) × (out.new ≡ call_output call out.old) }
+pub fn write_call(call: Option<Call>, out: &mut [u8]) -> Option<usize>
+    ensures { (result ≡ asked_length call out.old) × (out.new ≡ asked_output call out.old) }
 {
+    let call = call?;
     if out.len() < LINE_SIZE {
         return None;
     }

@@ -11,10 +11,11 @@ use lib.Seq.{sets}
 use Rattle.std.specs.Prelude.{Option, Some, None}
 use Rattle.std.specs.Option.{unwrap_or}
 use Rattle.text.proofs.Written.{front_written, output_room}
-use Rattle.log_line.specs.Log.{open_word, clock_word, forget_word, has_line, line_of, line_most, call_length, call_output}
+use Rattle.log_line.specs.Log.{open_word, clock_word, forget_word, has_line, line_of, line_most, call_length, call_output, asked_length, asked_output}
 use Rattle.log_line.specs.declared.Call.{Call}
 use Rattle.log_line.specs.declared.Call.TheVariants as log
 use Rattle.log_line.proofs.Writing.{line_none}
+use Rattle.merging.specs.Turns.{call_text}
 
 -- a byte's code
 abbrev pub IsByte : Call → Type 0
@@ -38,3 +39,13 @@ line_written c out {r} {n} {p} byte room same told is =
     go : (b : Bool) → has_line c ≡ b → unwrap_or (cond b (Some (length (line_of c))) None) 0 ≡ length (line_of c)
     go true e = refl
     go false e = sym (ap length (no_line c byte e))
+
+-- of what may be a call: none has no text
+abbrev pub AreBytes : Option Call → Type 0
+AreBytes d = (k : ℕ) → d ≡ Some (log.Event k) → k < 256
+
+pub text_written : (d : Option Call) (out : List ℕ) {r : Option ℕ} {n : ℕ} {p : List ℕ} → AreBytes d → line_most ≤ length out → length p ≡ length out → (r ≡ asked_length d out) × (p ≡ asked_output d out) → n ≡ unwrap_or r 0 → (n ≡ length (call_text d)) × (p ≡ sets out 0 (call_text d)) × (n ≤ length out)
+text_written (Some c) out bytes room same told is = line_written c out (λ k e. bytes k (ap Some e)) room same told is
+text_written None out bytes room same told is =
+    let count = is ∙ ap (λ o. unwrap_or o 0) told.0 in
+    (count, told.1, omega (arith, count))

@@ -91,10 +91,7 @@ fn write_text(call: Option<Call>, out: &mut [u8]) -> usize
     requires { line_most ≤ length out.old }
     ensures { (result ≡ length (call_text call)) × (out.new ≡ sets out.old 0 (call_text call)) × (result ≤ length out.old) }
 {
-    match call {
-        Some(call) => log_line::write_call(call, out).unwrap_or(0),
-        None => 0,
-    }
+    log_line::write_call(call, out).unwrap_or(0)
 }
 
 // One step on the bytes of two logs, or what is wanted in place of one. Each byte of their first lines is looked at twice at most.

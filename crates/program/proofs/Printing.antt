@@ -33,8 +33,8 @@ use Rattle.watch.proofs.Shown.{Shows}
 use Rattle.watch.proofs.Steps.{opening_length, event_call, clock_call, forget_call}
 use Rattle.log_line.specs.declared.Call.{Call}
 use Rattle.log_line.specs.declared.Call.TheVariants as log
-use Rattle.std.specs.Prelude.{Option, Some, None}
-use Rattle.text.specs.Output.{output_where}
+use Rattle.std.specs.Prelude.{Option, Some, None, IfSome}
+use Rattle.text.specs.Output.{output_where, length_where}
 use Rattle.printing.specs.Listing.{written_where, listing_text, table_text, refusal_text, refusal_size, listing_length, listing_output, refusal_length, refusal_output, listing_fits, refusal_fits}
 use Rattle.printing.specs.Report.{report_text, report_fits}
 use Rattle.printing.proofs.Laws as printing
@@ -207,6 +207,29 @@ end_prints f p out h g = go p.run.stage refl h
         let o : outcome_of r.stage r t ≡ outcome_of Calls r t = ap (λ s. outcome_of s r t) e in
         (ap (λ s. length_at f s r t out) e ∙ front.0 ∙ ap (λ x. Some (length (outcome_text f x))) (sym o), ap (λ s. output_at f s r t out) e ∙ front.1 ∙ ap (λ x. outcome_text f x ++ drop (length (outcome_text f x)) out) (sym o))
     go (Refused n) e k = let front = refusal_front n r.line out room in (rw (e, refused_text f n r.line) front.0, rw (e, refused_text f n r.line) front.1)
+
+-- what is printed is in the output
+text_within : (room : Bool) (s out : List ℕ) → length (output_where room s out) ≡ length out → IfSome (written_where room s) (λ n. n ≤ length out)
+unfolding written_where output_where length_where
+text_within true s out e = front_within true s out e
+text_within false s out e = tt
+
+table_within : (f : Format) (r : Run) (t : List ℤ) (out : List ℕ) → length (table_output f r t out) ≡ length out → IfSome (table_length f r t out) (λ n. n ≤ length out)
+unfolding table_length table_output
+table_within Listing r t out h = text_within (listing_fits r.watch.state.rows t out) (table_text r.watch.state.rows t) out h
+table_within Report r t out h =
+    let p = report_of r.chart.count (rows_in r.watch.state.rows t) in
+    text_within (report_fits (take p.entries p.tallies) out) (report_text (take p.entries p.tallies) p.rows) out h
+
+pub printed_within : (f : Format) (r : Run) (t : List ℤ) (out : List ℕ) → length (printed_output f r t out) ≡ length out → IfSome (printed_length f r t out) (λ n. n ≤ length out)
+unfolding length_at output_at
+printed_within f r t out e = go r.stage e
+  where
+    go : (s : Stage) → length (output_at f s r t out) ≡ length out → IfSome (length_at f s r t out) (λ n. n ≤ length out)
+    go Entries h = table_within f r t out h
+    go Opening h = table_within f r t out h
+    go Calls h = table_within f r t out h
+    go (Refused n) h = text_within (refusal_fits out) (refusal_text n r.line) out h
 
 -- a run at its end, if not refused, has what a report asks
 end_reports : (p : Progress) → Reached p → Printable Report (at_end p).run (at_end p).table

@@ -1,9 +1,10 @@
 -- `play_input` meets its contract: what it has after each reading is what some pieces come to.
-use Rattle.std.proofs.Common.{◌≡◌, false, ◌+◌, ◌≤◌, ◌<◌, ℕ, List, [], length, take, refl, sym, ap, ◌∙◌, subst, arith, length-drop}
+use Rattle.std.proofs.Common.{◌≡◌, false, ◌+◌, ◌*◌, ◌^◌, ◌≤◌, ◌<◌, ℕ, List, [], length, take, drop, refl, sym, ap, ◌∙◌, subst, arith, length-take, length-drop}
 use Rattle.std.proofs.lemmas.Grind.{common_steps}
 use Rattle.std.specs.Prelude.{Ok}
-use lib.Seq.{length-take-le}
-use Rattle.program.specs.Runs.{Reached, is_refused}
+use Rattle.text.specs.Output.{rest_length}
+use Rattle.program.specs.Runs.{Progress, Reached, HasLines, after_bytes, kept_of, is_refused}
+use Rattle.program.specs.declared.Run.{Run}
 use Rattle.program.proofs.Reaching.{start_reached, start_goes, start_line, reached_few, bytes_on, bytes_counted}
 use Rattle.program.proofs.Reading.{lines_of, rest_few}
 use Rattle.input.proofs.Laws.{Fed, fed_none, fed_same, fed_piece, fed_end, ended, refused, piece_fed, piece_kept}
@@ -36,16 +37,22 @@ returns-then-n-eq0 g c =
     let f = fed_end (fed_same c.loop.kept c.loop.buf into c.read_more.ensures.same v.fed) _ (rw c.if-n-eq0.true at came.0) in
     rw c.finish.ensures (ended into f (omega (arith, size, v.few)) end)
 
--- what is fed is no more than the buffer has
-inside : (kept n : ℕ) (into buf : List ℕ) → length into ≡ length buf → length buf ≡ 65536 → kept + n ≤ length buf → length (take (kept + n) into) ≤ 65536
-inside kept n into buf e h k = omega (arith, length-take-le (kept + n) into (omega (arith, e, k)), k, h)
+-- there is a line number for each byte of a front of the buffer
+numbered : (r : Run) (counter end : ℕ) (buf : List ℕ) → r.line ≤ counter * 65536 → counter < 2 ^ 47 → length buf ≡ 65536 → HasLines r (length (take end buf) + 1)
+numbered r counter end buf l h e = lines_of r _ (λ z. omega (arith, l, h, e, length-take end buf))
+
+-- and a front of it adds no more lines than it has bytes
+counted : (p : Progress) (end : ℕ) (buf : List ℕ) → is_refused (after_bytes p (take end buf)).run.stage ≡ false → (after_bytes p (take end buf)).run.line ≤ p.run.line + length buf
+counted p end buf h = omega (arith, bytes_counted p (take end buf) h, length-take end buf)
+
+-- fewer than 64 bytes of it are left
+left : (p : Progress) (buf : List ℕ) (used end : ℕ) → drop used (take end buf) ≡ kept_of (after_bytes p (take end buf)) (take end buf) → end ≤ length buf → rest_length used end buf < 64
+left p buf used end e h = rest_few p buf used end h e
 
 pub feed-fed-requires : goal.feed-fed-requires
 feed-fed-requires g c =
     let v = c.loop.invariant in
-    let got : c.read_more.result ≡ Ok c.in_ok-n.n = grind (arith, common_steps) in
-    let few = inside c.loop.kept c.in_ok-n.n c.read_more.new.buf c.loop.buf c.read_more.auto.buf v.whole (rw got at c.read_more.ensures.inside) in
-    (v.reached, lines_of _ _ (λ z. omega (arith, v.lines, c.loop-test.true, few)))
+    (v.reached, numbered _ _ _ _ v.lines c.loop-test.true (omega (arith, c.read_more.auto.buf, v.whole)))
 
 pub returns-then-is_refused : goal.returns-then-is_refused
 returns-then-is_refused g c =
@@ -54,7 +61,7 @@ returns-then-is_refused g c =
     let got : c.read_more.result ≡ Ok c.in_ok-n.n = grind (arith, common_steps) in
     let came = rw got at c.read_more.ensures.bytes in
     let f = fed_piece (fed_same c.loop.kept c.loop.buf into c.read_more.ensures.same v.fed) _ _ came.0 in
-    refused f (c.feed-fed.ensures.0 ∙ piece_fed _ into c.loop.kept c.in_ok-n.n) (sym c.if-is_refused.ensures)
+    refused f (c.feed-fed.ensures.0 ∙ piece_fed _ into c.loop.kept c.in_ok-n.n _ (omega arith)) (sym c.if-is_refused.ensures)
 
 pub loop-preserved : goal.loop-preserved
 loop-preserved g c =
@@ -62,19 +69,18 @@ loop-preserved g c =
     let into = c.read_more.new.buf in
     let got : c.read_more.result ≡ Ok c.in_ok-n.n = grind (arith, common_steps) in
     let came = rw got at c.read_more.ensures.bytes in
-    let within = rw got at c.read_more.ensures.inside in
+    let within : c.loop.kept + c.in_ok-n.n ≤ length into = omega (arith, rw got at c.read_more.ensures.inside, c.read_more.auto.buf) in
     let e = c.feed-fed.ensures in
     let k = c.keep_rest-kept.ensures in
     let going : is_refused c.feed-fed.result.run.stage ≡ false = sym c.if-is_refused.ensures in
-    let fits : c.loop.kept + c.in_ok-n.n ≤ length into = omega (arith, within, c.read_more.auto.buf) in
-    let few = inside c.loop.kept c.in_ok-n.n into c.loop.buf c.read_more.auto.buf v.whole within in
-    let counted = bytes_counted _ _ (ap (λ x. is_refused x.run.stage) (sym e.0) ∙ going) in
+    let lines = counted _ _ _ (ap (λ x. is_refused x.run.stage) (sym e.0) ∙ going) in
+    let few = left _ into _ _ e.2 (omega (arith, within)) in
     let f = fed_piece (fed_same c.loop.kept c.loop.buf into c.read_more.ensures.same v.fed) _ _ came.0 in
     record {
       whole = omega (arith, c.keep_rest-kept.auto.buf, c.read_more.auto.buf, v.whole);
       reached = subst Reached (sym e.0) (bytes_on _ _ v.reached);
       goes = going;
-      lines = omega (arith, ap (λ x. x.run.line) e.0, counted, few, v.lines);
-      few = subst (λ m. m < 64) (sym k.0) (rest_few _ _ _ _ fits e.2);
-      fed = subst (Fed _ _ _) (sym (piece_kept _ into c.loop.kept c.in_ok-n.n fits _ _ _ _ _ e.0 e.1 e.2 k.0 k.1)) f;
+      lines = omega (arith, ap (λ x. x.run.line) e.0, lines, c.read_more.auto.buf, v.whole, v.lines);
+      few = omega (arith, k.0, few);
+      fed = subst (Fed _ _ _) (sym (piece_kept _ into c.loop.kept c.in_ok-n.n _ (omega arith) (omega (arith, within)) _ _ _ _ _ e.0 e.1 e.2 (grind (arith, k.0)) k.1)) f;
     }

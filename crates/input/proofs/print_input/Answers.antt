@@ -11,9 +11,11 @@ pub returns-in_err-play_input : goal.returns-in_err-play_input
 returns-in_err-play_input g c = not_printed _ _ _ _ _ (rw (← c.bytes_for.ensures) c.if-out-bytes_for.false) _ _ _ _ c.play_input.ensures (grind (arith, common_steps)) (grind (arith, common_steps))
 
 pub print-requires : goal.print-requires
-print-requires g c = played_printable c.args.format _ _ _ _ _ _ c.play_input.ensures (grind (arith, common_steps))
+print-requires g c =
+    let h = played_printable c.args.format _ _ _ _ _ _ c.play_input.ensures (grind (arith, common_steps)) in
+    search h
 
 pub returns : goal.returns
 returns g c =
     let p = c.print.ensures in
-    is_printed _ _ _ _ _ (rw (← c.bytes_for.ensures) c.if-out-bytes_for.false) _ _ _ _ _ c.play_input.ensures (grind (arith, common_steps)) p.0 p.1
+    is_printed c.args.format _ _ _ _ (rw (← c.bytes_for.ensures) c.if-out-bytes_for.false) _ _ _ _ _ c.play_input.ensures (grind (arith, common_steps)) p.0 p.1

@@ -1,7 +1,7 @@
 -- No line of a log alters the entries of a watch, so that the code leaves them where they are.
 use Prim.Native.Nat.{ℕ}
 use Rattle.std.proofs.Common.{Result, Ok, Err, Option, Some, None, IfOk}
-use mathlib.Core.Path.{◌≡◌, refl, sym, ap, subst}
+use mathlib.Core.Path.{◌≡◌, refl, sym, ap, ◌∙◌, subst}
 use mathlib.Core.Bool.{Bool, true, false, cond}
 use mathlib.Core.List.{List}
 use lib.Dec.{leb, ltb}
@@ -16,12 +16,15 @@ use Rattle.table.specs.Table.{room_in}
 use Rattle.consistency.specs.Consistency.{are_consistent}
 use Rattle.closing.specs.Closed.{closed_rows}
 use Rattle.watch.specs.Answers.{answer_of}
-use Rattle.watch.specs.Steps.{Step, answered, refused_step, checked, event_own, event_step, clock_own, clock_step, forget_own, forget_step}
+use Rattle.watch.specs.Steps.{Step, check_number, answered, refused_step, checked, event_own, event_step, clock_own, clock_step, forget_own, forget_step}
 use Rattle.watch.specs.Histories.{State}
 use Rattle.watch.specs.declared.Watch.{Watch}
 use Rattle.log_line.specs.declared.Call.{Call}
 use Rattle.log_line.specs.declared.Call.TheVariants as log
-use Rattle.program.specs.Runs.{call_step}
+use Rattle.watch.proofs.Steps.{event_passed, clock_passed, forget_passed}
+use Rattle.program.specs.Runs.{state_of, call_step, answered_run, stepped, narrowed}
+use Rattle.program.specs.declared.Run.{Run}
+use Rattle.program.proofs.Lines.{step_is, narrowed_clock, narrowed_forget}
 
 -- a watch after a line, with the entries that it had before
 abbrev pub with_old_entries : WatchState → WatchState → WatchState
@@ -71,3 +74,29 @@ module _ (s : State) where
   outcome_entries c (Ok v) u h =
       let same : SameEntries w (record { answer = answer_of w (Ok v); table = u }) = subst (SameEntries w) (sym h) (entries_same c) in
       (sym (ap (λ x. x.entries) same), sym (ap (λ x. x.since) same))
+
+-- What the outcome of a call makes of a run: the entries are those that it had, and it goes on with the call's step.
+pub record Made (r : Run) (t : List ℤ) (d : Option Call) (o : Result Watch Refusal) (u : List ℤ) : Type 0 where
+  pub kept : IfOk o (λ v. (v.state.entries ≡ r.watch.state.entries) × (v.state.since ≡ r.watch.state.since))
+  pub goes : record { run = answered_run r (answer_of r.watch.state o); table = u } ≡ stepped r (call_step (state_of r t) d)
+
+module _ (r : Run) (t : List ℤ) where
+  abbrev g : WatchState
+  g = r.watch.state
+
+  made : (d : Option Call) {o : Result Watch Refusal} {u : List ℤ} → record { answer = answer_of g o; table = u } ≡ call_step (state_of r t) d → Made r t d o u
+  made d {o} {u} h = record { kept = outcome_entries (state_of r t) d o u h; goes = ap (stepped r) h }
+
+  -- on a watch and table that are consistent, a mark and a forget at their number narrowed
+  module _ (z : check_number r.chart g t ≡ 0) where
+    pub event_made : (k : ℕ) {o : Result Watch Refusal} → answer_of g o ≡ event_own g k → Made r t (Some (log.Event k)) o t
+    unfolding call_step
+    event_made k h = made (Some (log.Event k)) (ap (λ a. record { answer = a; table = t }) h ∙ sym (event_passed r.chart g t z k))
+
+    pub clock_made : (x : ℤ) {n : ℤ} {o : Result Watch Refusal} {u : List ℤ} → n ≡ narrowed x → (answer_of g o ≡ (clock_own r.chart g t n).answer) × (u ≡ (clock_own r.chart g t n).table) → Made r t (Some (log.Clock x)) o u
+    unfolding call_step
+    clock_made x e h = made (Some (log.Clock x)) (step_is _ _ _ _ h (ap (clock_own r.chart g t) e ∙ narrowed_clock r.chart g t x ∙ sym (clock_passed r.chart g t z x)))
+
+    pub forget_made : (f : ℤ) {n : ℤ} {o : Result Watch Refusal} {u : List ℤ} → n ≡ narrowed f → (answer_of g o ≡ (forget_own r.chart g t n).answer) × (u ≡ (forget_own r.chart g t n).table) → Made r t (Some (log.Forget f)) o u
+    unfolding call_step
+    forget_made f e h = made (Some (log.Forget f)) (step_is _ _ _ _ h (ap (forget_own r.chart g t) e ∙ narrowed_forget r.chart g t f ∙ sym (forget_passed r.chart g t z f)))

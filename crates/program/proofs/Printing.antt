@@ -20,7 +20,7 @@ use Rattle.model.specs.RowSteps as rows
 use Rattle.model.proofs.Capacity.{capacity_fits}
 use Rattle.model.proofs.Theorems as model
 use Rattle.table.specs.Table.{rows_in, room_in}
-use Rattle.watch.specs.Steps.{Step, opening_step}
+use Rattle.watch.specs.Steps.{Step}
 use Rattle.watch.specs.Histories as histories
 use Rattle.watch.specs.Histories.{State, call}
 use Rattle.state.specs.declared.WatchState.{WatchState}
@@ -35,13 +35,13 @@ use Rattle.log_line.specs.declared.Call.{Call}
 use Rattle.log_line.specs.declared.Call.TheVariants as log
 use Rattle.std.specs.Prelude.{Option, Some, None, IfSome}
 use Rattle.text.specs.Output.{output_where, length_where}
-use Rattle.printing.specs.Listing.{written_where, listing_text, table_text, refusal_text, refusal_size, listing_length, listing_output, refusal_length, refusal_output, listing_fits, refusal_fits}
+use Rattle.printing.specs.Listing.{written_where, listing_text, table_text, refusal_text, refusal_size, refusal_length, refusal_output, listing_fits, refusal_fits}
 use Rattle.printing.specs.Report.{report_text, report_fits}
 use Rattle.printing.proofs.Laws as printing
-use Rattle.text.proofs.Written.{length_room, output_room, front_within}
+use Rattle.text.proofs.Written.{front_within}
 use Rattle.printing.proofs.Laws.{report_fits_lem, table_listing, refusal_fits_lem}
 use Rattle.program.specs.Outcomes.{Outcome, listed, refused, call_in, outcome_text}
-use Rattle.program.specs.Runs.{Progress, refused_run, next_run, stepped, open_step, state_of, call_step, line_step, after_line, end_run, result_of, outcome_of, OfHistory, Holds, Reached, is_refused, Printable, reported_length, reported_output, table_length, table_output, length_at, output_at, printed_length, printed_output}
+use Rattle.program.specs.Runs.{Progress, refused_run, open_step, state_of, call_step, line_step, after_line, end_run, result_of, outcome_of, OfHistory, Holds, Reached, is_refused, Printable, table_length, table_output, length_at, output_at, printed_length, printed_output}
 use Rattle.program.specs.Statements.{bytes_for}
 use Rattle.program.specs.declared.Format.{Format}
 use Rattle.program.specs.declared.Format.TheVariants.{Listing, Report}

@@ -17,8 +17,6 @@ use Rattle.text.proofs.Laws.{split_some, split_cut, split_none, index_le, size_l
 use Rattle.program.specs.Runs.{Progress, unformed_run, after_line, after_parts, after_bytes, last_part, is_refused, kept_of, Reached, Read, HasLines, settled_run, finished, finished_run}
 use Rattle.program.specs.declared.Run.{Run}
 use Rattle.program.specs.declared.Fed.{Fed}
-use Rattle.program.specs.declared.Stage.{Stage}
-use Rattle.program.specs.declared.Stage.TheVariants.{Entries, Opening, Calls, Refused}
 use Rattle.program.proofs.Reaching.{line_on, line_counted}
 use Rattle.program.proofs.Pieces.{broken_stopped, line_stopped, parts_stopped, bytes_stopped, same_unformed, unformed, unformed_run_lem, unformed_stopped}
 

@@ -12,7 +12,7 @@ ghost use Rattle.log_line.specs.Log.{call_of};
 ghost use Rattle.watch.specs.Answers.{answer_of};
 ghost use Rattle.watch.specs.Steps.{check_number};
 ghost use Rattle.program.specs.Outcomes.{is_empty};
-ghost use Rattle.program.specs.Runs.{start_run, refused_run, entry_run, chart_end, answered_run, open_step, call_step, narrowed, unformed_run, after_line, after_bytes, is_refused, kept_of, end_run, finished_run, Reached, HasLines, HasFew, settled_run, Printable, printed_length, printed_output};
+ghost use Rattle.program.specs.Runs.{start_run, refused_run, entry_run, chart_end, answered_run, open_step, call_step, stepped, narrowed, unformed_run, after_line, after_bytes, is_refused, kept_of, end_run, finished_run, Reached, HasLines, HasFew, settled_run, Printable, printed_length, printed_output};
 ghost use Rattle.program.specs.Statements.{bytes_for, whole_count, whole_table, whole_output};
 
 use chart::Chart;
@@ -151,24 +151,15 @@ impl Run {
     }
 
     // Plays a line without its byte 10, by the stage.
-    #[tactic(auto, using(crate::proofs::Lines::answered_by), unfolding(crate::specs::Runs::line_step, crate::specs::Runs::is_refused, crate::specs::Runs::Holds, crate::specs::Runs::HasLines, crate::specs::Outcomes::call_in))]
+    #[tactic(auto, unfolding(crate::specs::Runs::line_step, crate::specs::Runs::is_refused, crate::specs::Runs::Holds, crate::specs::Runs::HasLines, crate::specs::Outcomes::call_in))]
     fn play_line(&mut self, table: &mut [i32], s: &[u8])
         requires { Reached (record { run = self.old; table = table.old }) × HasLines self.old 1 × (length s.now < 64) }
         ensures { record { run = self.new; table = table.new } ≡ after_line (record { run = self.old; table = table.old }) (whole s.now) }
     {
         match self.stage {
             Stage::Entries => self.entries_line(s),
-            Stage::Opening => match open_line(self.chart, table, s) {
-                Ok(watch) => {
-                    self.watch = watch;
-                    self.step(Ok(watch));
-                }
-                Err(refusal) => self.step(Err(refusal)),
-            },
-            Stage::Calls => {
-                let outcome = call_line(self.chart, self.watch, table, s);
-                self.step(outcome);
-            }
+            Stage::Opening => self.opening_line(table, s),
+            Stage::Calls => self.call_line(table, s),
             Stage::Refused(_) => {}
         }
     }
@@ -194,6 +185,45 @@ impl Run {
                 self.line += 1;
             }
             Err(fault) => self.refuse(fault.refusal, u64::from(fault.line)),
+        }
+    }
+
+    // The first line of the log, which opens the watch. It is not put into its caller, where the watch that it makes would cost each line of the log.
+    #[inline(never)]
+    fn opening_line(&mut self, table: &mut [i32], s: &[u8])
+        requires { (self.old.stage ≡ Stage.Opening) × (self.old.line + 1 < 2 ^ 64) × (length s.now < 64) }
+        ensures { record { run = self.new; table = table.new } ≡ after_line (record { run = self.old; table = table.old }) (whole s.now) }
+    {
+        match open_line(self.chart, table, s) {
+            Ok(watch) => {
+                self.watch = watch;
+                self.step(Ok(watch));
+            }
+            Err(refusal) => self.step(Err(refusal)),
+        }
+    }
+
+    // A line of the log after its opening, without its byte 10, on a watch and table that are consistent. Each kind of call goes on by itself: one way on for all of them
+    // would have the codes of the open instant copied once more for each.
+    #[tactic(auto, using(watch::proofs::Steps::event_passed), unfolding(crate::specs::Runs::call_step))]
+    fn call_line(&mut self, table: &mut [i32], s: &[u8])
+        requires { (check_number self.old.chart self.old.watch.state table.old ≡ 0) × (self.old.line + 1 < 2 ^ 64) }
+        ensures { record { run = self.new; table = table.new } ≡ stepped self.old (call_step (record { watch = self.old.watch.state; table = table.old; chart = self.old.chart }) (call_of s.now)) }
+    {
+        match log_line::read_call(s) {
+            Some(Call::Event(k)) => {
+                let outcome = self.watch.event_unchecked(k);
+                self.step(outcome);
+            }
+            Some(Call::Clock(x)) => {
+                let outcome = self.watch.clock_unchecked(self.chart, table, narrowed(x));
+                self.step(outcome);
+            }
+            Some(Call::Forget(f)) => {
+                let outcome = self.watch.forget_unchecked(self.chart, table, narrowed(f));
+                self.step(outcome);
+            }
+            Some(Call::Open(_)) | None => self.step(Err(Refusal::MalformedCall)),
         }
     }
 
@@ -291,20 +321,6 @@ fn open_line(chart: Chart, table: &mut [i32], s: &[u8]) -> Result<Watch, Refusal
     match log_line::read_call(s) {
         Some(Call::Open(o)) => Watch::opening(chart, table, narrowed(o)),
         _ => Err(Refusal::MalformedCall),
-    }
-}
-
-// A line of the log after its opening, without its byte 10, on a watch and table that are consistent: the watch after its call.
-#[tactic(auto, using(crate::proofs::Lines::narrowed_clock, crate::proofs::Lines::narrowed_forget, watch::proofs::Steps::event_passed, watch::proofs::Steps::clock_passed, watch::proofs::Steps::forget_passed), unfolding(crate::specs::Runs::call_step))]
-fn call_line(chart: Chart, watch: Watch, table: &mut [i32], s: &[u8]) -> Result<Watch, Refusal>
-    requires { check_number chart watch.state table.old ≡ 0 }
-    ensures { record { answer = answer_of watch.state result; table = table.new } ≡ call_step (record { watch = watch.state; table = table.old; chart = chart }) (call_of s.now) }
-{
-    match log_line::read_call(s) {
-        Some(Call::Event(k)) => watch.event_unchecked(k),
-        Some(Call::Clock(x)) => watch.clock_unchecked(chart, table, narrowed(x)),
-        Some(Call::Forget(f)) => watch.forget_unchecked(chart, table, narrowed(f)),
-        Some(Call::Open(_)) | None => Err(Refusal::MalformedCall),
     }
 }
 

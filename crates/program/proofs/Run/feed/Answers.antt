@@ -1,11 +1,11 @@
 -- `feed` meets its contract: each turn plays one line, and what is left to read gives the whole answer.
-use Rattle.std.proofs.Common.{◌≡◌, ◌+◌, ◌-◌, ◌<◌, ◌≤◌, true, false, Some, None, length, drop, arith, sym, ap, subst, ◌∙◌}
+use Rattle.std.proofs.Common.{◌≡◌, ◌+◌, ◌<◌, ◌≤◌, false, Some, None, length, drop, arith, sym, subst, ◌∙◌}
 use Rattle.interval.proofs.Signed.{never}
 use Rattle.text.specs.Text.{line_size}
 use Rattle.text.proofs.Laws.{part_from}
 use Rattle.program.specs.Runs.{is_refused}
 use Rattle.program.proofs.Reaching.{reached_few}
-use Rattle.program.proofs.Reading.{read_none, next_some, next_inside, next_short, read_next, lines_left, Settled, settled_as}
+use Rattle.program.proofs.Reading.{next_some, next_inside, next_short, read_next, lines_left, Settled, settled_as}
 use Rattle.program.proofs.Run.feed.Goals.{In-Some, in-Some+then-is_refused, in_default}
 use Rattle.program.proofs.Run.feed.Goals as goal
 

@@ -23,7 +23,7 @@ pub struct Refused {
     pub instants: Option<Instants>,
 }
 
-// A log so far: how many lines it has, or the line refused; and its instants, none before its first line, or why it was refused.
+// A log so far: how many lines it has, or the line refused; and its instants, none before its first line, or why it was refused and its instants up to there.
 #[derive(Clone, Copy, PartialEq, Eq)]
 pub struct Check {
     pub line: u64,

@@ -1,4 +1,4 @@
--- Log lines as text, without their byte 10, and the call that each asks for, computed, and what is written of that. What must come out was found by hand from
+-- Log lines as text, without their byte 10: the call that each asks for, and what is written of it, computed. What must come out was found by hand from
 -- document 01 and request N11.
 use Prim.Native.Nat.{ℕ}
 use mathlib.Core.Path.{◌≡◌, refl}

@@ -52,8 +52,8 @@ pub fn read_call(s: &[u8]) -> Option<Call>
 }
 
 // Writes the line of a call, with its byte 10, at the front of the output and returns the number of bytes; None, and nothing is written, where the output has no
-// room for the longest line, of a call whose number is no instant, and of None, which a line that is not of its form asks for. Each byte is written once, with one
-// division by 10 for each digit but the first.
+// room for the longest line, of a call whose number is no instant, and of None, which is what a line that is not of its form reads as. Each byte is written once, with
+// one division by 10 for each digit but the first.
 #[tactic(auto, using(crate::proofs::Writing::event_few))]
 pub fn write_call(call: Option<Call>, out: &mut [u8]) -> Option<usize>
     ensures { (result ≡ asked_length call out.old) × (out.new ≡ asked_output call out.old) }

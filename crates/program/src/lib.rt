@@ -204,7 +204,7 @@ impl Run {
     }
 
     // A line of the log after its opening, without its byte 10, on a watch and table that are consistent. Each kind of call goes on by itself: one way on for all of them
-    // would have the codes of the open instant copied once more for each.
+    // would have the codes of the open instant copied once more for each line.
     #[tactic(auto, using(watch::proofs::Steps::event_passed), unfolding(crate::specs::Runs::call_step))]
     fn call_line(&mut self, table: &mut [i32], s: &[u8])
         requires { (check_number self.old.chart self.old.watch.state table.old ≡ 0) × (self.old.line + 1 < 2 ^ 64) }

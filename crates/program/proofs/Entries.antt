@@ -81,22 +81,22 @@ pub record Made (r : Run) (t : List ℤ) (d : Option Call) (o : Result Watch Ref
   pub goes : record { run = answered_run r (answer_of r.watch.state o); table = u } ≡ stepped r (call_step (state_of r t) d)
 
 module _ (r : Run) (t : List ℤ) where
-  abbrev g : WatchState
-  g = r.watch.state
+  abbrev given : WatchState
+  given = r.watch.state
 
-  made : (d : Option Call) {o : Result Watch Refusal} {u : List ℤ} → record { answer = answer_of g o; table = u } ≡ call_step (state_of r t) d → Made r t d o u
+  made : (d : Option Call) {o : Result Watch Refusal} {u : List ℤ} → record { answer = answer_of given o; table = u } ≡ call_step (state_of r t) d → Made r t d o u
   made d {o} {u} h = record { kept = outcome_entries (state_of r t) d o u h; goes = ap (stepped r) h }
 
   -- on a watch and table that are consistent, a mark and a forget at their number narrowed
-  module _ (z : check_number r.chart g t ≡ 0) where
-    pub event_made : (k : ℕ) {o : Result Watch Refusal} → answer_of g o ≡ event_own g k → Made r t (Some (log.Event k)) o t
+  module _ (z : check_number r.chart given t ≡ 0) where
+    pub event_made : (k : ℕ) {o : Result Watch Refusal} → answer_of given o ≡ event_own given k → Made r t (Some (log.Event k)) o t
     unfolding call_step
-    event_made k h = made (Some (log.Event k)) (ap (λ a. record { answer = a; table = t }) h ∙ sym (event_passed r.chart g t z k))
+    event_made k h = made (Some (log.Event k)) (ap (λ a. record { answer = a; table = t }) h ∙ sym (event_passed r.chart given t z k))
 
-    pub clock_made : (x : ℤ) {n : ℤ} {o : Result Watch Refusal} {u : List ℤ} → n ≡ narrowed x → (answer_of g o ≡ (clock_own r.chart g t n).answer) × (u ≡ (clock_own r.chart g t n).table) → Made r t (Some (log.Clock x)) o u
+    pub clock_made : (x : ℤ) {n : ℤ} {o : Result Watch Refusal} {u : List ℤ} → n ≡ narrowed x → (answer_of given o ≡ (clock_own r.chart given t n).answer) × (u ≡ (clock_own r.chart given t n).table) → Made r t (Some (log.Clock x)) o u
     unfolding call_step
-    clock_made x e h = made (Some (log.Clock x)) (step_is _ _ _ _ h (ap (clock_own r.chart g t) e ∙ narrowed_clock r.chart g t x ∙ sym (clock_passed r.chart g t z x)))
+    clock_made x e h = made (Some (log.Clock x)) (step_is _ _ _ _ h (ap (clock_own r.chart given t) e ∙ narrowed_clock r.chart given t x ∙ sym (clock_passed r.chart given t z x)))
 
-    pub forget_made : (f : ℤ) {n : ℤ} {o : Result Watch Refusal} {u : List ℤ} → n ≡ narrowed f → (answer_of g o ≡ (forget_own r.chart g t n).answer) × (u ≡ (forget_own r.chart g t n).table) → Made r t (Some (log.Forget f)) o u
+    pub forget_made : (f : ℤ) {n : ℤ} {o : Result Watch Refusal} {u : List ℤ} → n ≡ narrowed f → (answer_of given o ≡ (forget_own r.chart given t n).answer) × (u ≡ (forget_own r.chart given t n).table) → Made r t (Some (log.Forget f)) o u
     unfolding call_step
-    forget_made f e h = made (Some (log.Forget f)) (step_is _ _ _ _ h (ap (forget_own r.chart g t) e ∙ narrowed_forget r.chart g t f ∙ sym (forget_passed r.chart g t z f)))
+    forget_made f e h = made (Some (log.Forget f)) (step_is _ _ _ _ h (ap (forget_own r.chart given t) e ∙ narrowed_forget r.chart given t f ∙ sym (forget_passed r.chart given t z f)))

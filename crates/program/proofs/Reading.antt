@@ -183,8 +183,8 @@ finished_run_lem p [] = refl
 finished_run_lem p (b ∷ s) = line_unformed p (broken (b ∷ s)) refl ∙ rw (ne_eqb (suc (length s)) 0 (λ e. omega arith))
 
 -- what a buffer keeps of the bytes it was filled with
-pub rest_few : (p : Progress) (buf : List ℕ) (used end : ℕ) → end ≤ length buf → drop used (take end buf) ≡ kept_of (after_bytes p (take end buf)) (take end buf) → rest_length used end buf < 64
+pub rest_few : (p : Progress) (buf : List ℕ) (used end : ℕ) → drop used (take end buf) ≡ kept_of (after_bytes p (take end buf)) (take end buf) → end ≤ length buf → rest_length used end buf < 64
 unfolding rest_length
-rest_few p buf used end h e =
+rest_few p buf used end e h =
     let n : length (drop used (take end buf)) ≡ length (kept_of (after_bytes p (take end buf)) (take end buf)) = ap length e in
     rw (le-leb end (length buf) h) (omega (arith, n, kept_short p (take end buf), length-drop used (take end buf), length-take-le end buf h))

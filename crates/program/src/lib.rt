@@ -12,7 +12,7 @@ ghost use Rattle.log_line.specs.Log.{call_of};
 ghost use Rattle.watch.specs.Answers.{answer_of};
 ghost use Rattle.watch.specs.Steps.{check_number};
 ghost use Rattle.program.specs.Outcomes.{is_empty};
-ghost use Rattle.program.specs.Runs.{start_run, refused_run, entry_run, chart_end, answered_run, open_step, call_step, stepped, narrowed, unformed_run, after_line, after_bytes, is_refused, kept_of, end_run, finished_run, Reached, HasLines, HasFew, settled_run, Printable, printed_length, printed_output};
+ghost use Rattle.program.specs.Runs.{start_run, refused_run, entry_run, chart_end, answered_run, open_step, state_of, call_step, stepped, narrowed, unformed_run, after_line, after_bytes, is_refused, kept_of, end_run, finished_run, Reached, HasLines, HasFew, settled_run, Printable, printed_length, printed_output};
 ghost use Rattle.program.specs.Statements.{bytes_for, whole_count, whole_table, whole_output};
 
 use chart::Chart;
@@ -208,7 +208,7 @@ impl Run {
     #[tactic(auto, using(watch::proofs::Steps::event_passed), unfolding(crate::specs::Runs::call_step))]
     fn call_line(&mut self, table: &mut [i32], s: &[u8])
         requires { (check_number self.old.chart self.old.watch.state table.old ≡ 0) × (self.old.line + 1 < 2 ^ 64) }
-        ensures { record { run = self.new; table = table.new } ≡ stepped self.old (call_step (record { watch = self.old.watch.state; table = table.old; chart = self.old.chart }) (call_of s.now)) }
+        ensures { record { run = self.new; table = table.new } ≡ stepped self.old (call_step (state_of self.old table.old) (call_of s.now)) }
     {
         match log_line::read_call(s) {
             Some(Call::Event(k)) => {

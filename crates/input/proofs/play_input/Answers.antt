@@ -1,9 +1,8 @@
 -- `play_input` meets its contract: what it has after each reading is what some pieces come to.
-use Rattle.std.proofs.Common.{◌≡◌, false, ◌+◌, ◌*◌, ◌^◌, ◌≤◌, ◌<◌, ℕ, List, [], length, take, drop, refl, sym, ap, ◌∙◌, subst, arith, length-take, length-drop}
+use Rattle.std.proofs.Common.{◌≡◌, false, ◌+◌, ◌*◌, ◌^◌, ◌≤◌, ◌<◌, ℕ, List, [], length, take, refl, sym, ap, ◌∙◌, subst, arith, length-take, length-drop}
 use Rattle.std.proofs.lemmas.Grind.{common_steps}
 use Rattle.std.specs.Prelude.{Ok}
-use Rattle.text.specs.Output.{rest_length}
-use Rattle.program.specs.Runs.{Progress, Reached, HasLines, after_bytes, kept_of, is_refused}
+use Rattle.program.specs.Runs.{Progress, Reached, HasLines, after_bytes, is_refused}
 use Rattle.program.specs.declared.Run.{Run}
 use Rattle.program.proofs.Reaching.{start_reached, start_goes, start_line, reached_few, bytes_on, bytes_counted}
 use Rattle.program.proofs.Reading.{lines_of, rest_few}
@@ -45,10 +44,6 @@ numbered r counter end buf l h e = lines_of r _ (λ z. omega (arith, l, h, e, le
 counted : (p : Progress) (end : ℕ) (buf : List ℕ) → is_refused (after_bytes p (take end buf)).run.stage ≡ false → (after_bytes p (take end buf)).run.line ≤ p.run.line + length buf
 counted p end buf h = omega (arith, bytes_counted p (take end buf) h, length-take end buf)
 
--- fewer than 64 bytes of it are left
-left : (p : Progress) (buf : List ℕ) (used end : ℕ) → drop used (take end buf) ≡ kept_of (after_bytes p (take end buf)) (take end buf) → end ≤ length buf → rest_length used end buf < 64
-left p buf used end e h = rest_few p buf used end h e
-
 pub feed-fed-requires : goal.feed-fed-requires
 feed-fed-requires g c =
     let v = c.loop.invariant in
@@ -74,7 +69,7 @@ loop-preserved g c =
     let k = c.keep_rest-kept.ensures in
     let going : is_refused c.feed-fed.result.run.stage ≡ false = sym c.if-is_refused.ensures in
     let lines = counted _ _ _ (ap (λ x. is_refused x.run.stage) (sym e.0) ∙ going) in
-    let few = left _ into _ _ e.2 (omega (arith, within)) in
+    let few = rest_few _ into _ _ e.2 (omega (arith, within)) in
     let f = fed_piece (fed_same c.loop.kept c.loop.buf into c.read_more.ensures.same v.fed) _ _ came.0 in
     record {
       whole = omega (arith, c.keep_rest-kept.auto.buf, c.read_more.auto.buf, v.whole);
